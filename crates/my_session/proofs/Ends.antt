@@ -28,13 +28,15 @@ use Rattle.my_reading.specs.Facts.{prepared_by}
 use Rattle.my_reading.specs.Statements.{held_in, is_mixed_text, leaving, query_of}
 use Rattle.my_statements.specs.Cache.{Held}
 use Rattle.my_session.specs.Tasks.{fault_in, is_open}
-use Rattle.my_reading.specs.Commands.{closing, command_of, connecting, execution}
+use Rattle.my_reading.specs.Commands.{closing, command_of, connecting, execution, queried, setup_texts}
 use Rattle.my_reading.specs.Errors.{invalid_data, unexpected_eof}
 use Rattle.my_session.specs.LinkErrors.{link_error}
 use Rattle.my_session.specs.Ends.{EachEnd, IsFault, Fails}
-use Rattle.my_reading.specs.Told.{ToldReady, ToldRow, ToldEnd, ToldNone, ToldStatement, ToldError, Dropped}
-use Rattle.my_session.specs.Machine.{Doing, Goes, Passes, Sends, Needs, Tells, Move, Did, Does, FaultIs, failed_by, reply_to, above, unless_above, refused, gave, passed, reacted, read_by, reading, next_terms, queued, unless_exceeds, unless_refused, refusal, is_doubled, looked, with_kept, kept, with_task, asked, arranged, planned, when_owed, next_by, next, advanced, refused_by, batched, ran}
+use Rattle.my_reading.specs.Told.{ToldReady, ToldRow, ToldEnd, ToldNone, ToldStatement, ToldFlag, ToldError, Dropped}
+use Rattle.my_session.specs.Machine.{Doing, Goes, Passes, Sends, Needs, Tells, Move, Did, Does, FaultIs, failed_by, reply_to, above, unless_above, refused, gave, passed, reacted, read_by, reading, next_terms, queued, unless_exceeds, unless_refused, refusal, is_doubled, looked, with_kept, kept, with_task, asked, arranged, offered, set_up, planned, when_owed, next_by, next, advanced, refused_by, batched, ran}
 use Rattle.my_reading.specs.Rows.{row_at}
+use Rattle.my_reading.specs.Versions.{can_reset}
+use Rattle.my_handshake.specs.Version.{version_of}
 use Rattle.my_session.specs.Seen.{Seen}
 use Rattle.my_session.specs.Steps.{goes_on, moved, AllGo, Steps, last_tick, with_end, failing, with_failing}
 use Rattle.my_session.specs.Tables.{react, is_breaking, plan_of}
@@ -130,6 +132,16 @@ unfolding needs
 arranged_needs s n None = refl
 arranged_needs s n (Some talk) = begins_needs s (tasks.Arranging (suc n)) talk _
 
+offered_needs : (s : Seen) (b : Bool) → needs (offered s b).does ≡ false
+unfolding needs
+offered_needs s true = refl
+offered_needs s false = refl
+
+set_up_needs : (s : Seen) (n : ℕ) (x : Option (List ℕ)) → needs (set_up s n x).does ≡ false
+unfolding needs
+set_up_needs s n None = refl
+set_up_needs s n (Some text) = begins_needs s (tasks.Setting (suc n)) (queried (next_terms s) text) _
+
 -- what a session that asks for bytes does once the link reported its end
 record IsAtEnd (s : Seen) : Type 0 where
   pub stays : (next s).seen ≡ s
@@ -163,6 +175,9 @@ planned_rests s plans.Batches e = absurd (no_need _ (batched_needs s (slice_get 
 planned_rests s (plans.Runs n) e = absurd (no_need _ (ran_needs s (suc n) (slice_get (lists_in s.call) n)) e)
 planned_rests s (plans.Notes n) e = cc
 planned_rests s plans.Forgets e = cc
+planned_rests s plans.Resets e = absurd (no_need _ (offered_needs s (can_reset (version_of s.facts.version))) e)
+planned_rests s plans.Clears e = cc
+planned_rests s (plans.Sets n) e = absurd (no_need _ (set_up_needs s n (slice_get (setup_texts s.login) n)) e)
 planned_rests s (plans.Asks c) e = absurd (no_need _ (unless_refused_needs s (refusal c s.call) (asked s (tasks.Own c) (command_of (next_terms s) s.statements (call_of c s.call))) (asked_needs s (tasks.Own c) (command_of (next_terms s) s.statements (call_of c s.call)))) e)
 planned_rests s (plans.Arranges n) e = absurd (no_need _ (arranged_needs s n (connecting s.login (next_terms s) (suc n))) e)
 planned_rests s plans.Readies e = cc
@@ -207,6 +222,7 @@ told_error (Tells (ToldRow row)) = errors.NoMemory
 told_error (Tells ToldEnd) = errors.NoMemory
 told_error (Tells ToldNone) = errors.NoMemory
 told_error (Tells (ToldStatement statement)) = errors.NoMemory
+told_error (Tells (ToldFlag flag)) = errors.NoMemory
 told_error (Tells (ToldError e)) = e
 told_error (Tells (Dropped closing)) = errors.NoMemory
 
@@ -247,6 +263,7 @@ tells_fault s t e (Done (answers.Row row)) d l = let no : Tells (ToldError e) �
 tells_fault s t e (Done answers.SetEnd) d l = let no : Tells (ToldError e) ≡ Tells ToldEnd = sym d ∙ l.does in cc
 tells_fault s t e (Done answers.NoSet) d l = let no : Tells (ToldError e) ≡ Tells ToldNone = sym d ∙ l.does in cc
 tells_fault s t e (Done (answers.Stmt statement)) d l = let no : Tells (ToldError e) ≡ Tells (ToldStatement statement) = sym d ∙ l.does in cc
+tells_fault s t e (Done (answers.Flag flag)) d l = let no : Tells (ToldError e) ≡ Tells (ToldFlag flag) = sym d ∙ l.does in cc
 tells_fault s t e (Fault f) d l = tt
 
 fails_from : (s t : Seen) (e : Error) (step : SessionStep) (n : ℕ) → (next s).does ≡ Tells (ToldError e) → AllGo n s → Does (next (moved n s)) (moved n s) t (last_tick step) → IsFault step
@@ -266,6 +283,8 @@ failing_tells s fault tasks.Giving o = refl
 failing_tells s fault (tasks.Arranging n) o = refl
 failing_tells s fault (tasks.Running n) o = refl
 failing_tells s fault (tasks.Finishing n) o = refl
+failing_tells s fault tasks.Clearing o = refl
+failing_tells s fault (tasks.Setting n) o = refl
 failing_tells s fault tasks.Reading o = refl
 failing_tells s fault tasks.Dropping o = refl
 failing_tells s fault tasks.Taking o = refl

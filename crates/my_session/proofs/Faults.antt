@@ -36,11 +36,11 @@ use Rattle.my_reading.specs.Facts.{prepared_by}
 use Rattle.my_reading.specs.Statements.{held_in, is_mixed_text, known_in, leaving, query_of}
 use Rattle.my_reading.specs.declared.call.Call.{Call}
 use Rattle.my_reading.specs.declared.call.CallKind.{CallKind}
-use Rattle.my_reading.specs.declared.call.CallKind.TheVariants.{Connect, Query, Prepare, Execute, Batch, CloseStmt, NextRow, DropResult, TakeSet, SkipTaken, Ping, Quit}
+use Rattle.my_reading.specs.declared.call.CallKind.TheVariants.{Connect, Query, Prepare, Execute, Batch, CloseStmt, NextRow, DropResult, TakeSet, SkipTaken, Ping, Reset, Quit}
 use Rattle.my_session.specs.declared.task.LinkFault.{LinkFault}
 use Rattle.my_session.specs.declared.task.LinkFault.TheVariants as faults
 use Rattle.my_session.specs.declared.task.Task.{Task}
-use Rattle.my_session.specs.declared.task.Task.TheVariants.{Nothing, Begun, Cleaning, Own, Giving, Arranging, Running, Finishing, Reading, Dropping, Taking, Skipping, Leaving, Failing}
+use Rattle.my_session.specs.declared.task.Task.TheVariants.{Nothing, Begun, Cleaning, Own, Giving, Arranging, Running, Finishing, Clearing, Setting, Reading, Dropping, Taking, Skipping, Leaving, Failing}
 use Rattle.my_reading.specs.declared.error.Error.{Error}
 use Rattle.my_reading.specs.declared.error.Error.TheVariants as errors
 use Rattle.my_reading.specs.declared.facts.Facts.{Facts}
@@ -54,23 +54,25 @@ use Rattle.my_session.specs.declared.answer.Tick.TheVariants as ticks
 use Rattle.my_reading.specs.Calls.{call_of, asks, lists_in, params_in, statement_in, text_in}
 use Rattle.my_session.specs.Tasks.{kind_in, fault_in, is_open}
 use Rattle.my_session.specs.Causes.{Executes, Stops, Cause, SessionBecause, NothingLeft, AnswerCause, EachFault, place_in}
-use Rattle.my_reading.specs.Commands.{closing, command_of, connecting, execution, opening}
+use Rattle.my_reading.specs.Commands.{closing, command_of, connecting, execution, opening, queried, setup_texts}
 use Rattle.my_session.specs.Entries.{Entry, Opens, facts_of, terms_by, connecting_in}
 use Rattle.my_reading.specs.Errors.{invalid_data, unexpected_eof}
 use Rattle.my_session.specs.LinkErrors.{link_error}
-use Rattle.my_reading.specs.Told.{Told, ToldReady, ToldRow, ToldEnd, ToldNone, ToldStatement, ToldError, Dropped}
+use Rattle.my_reading.specs.Told.{Told, ToldReady, ToldRow, ToldEnd, ToldNone, ToldStatement, ToldFlag, ToldError, Dropped}
 use Rattle.my_session.specs.History.{History}
 use Rattle.my_session.specs.Law.{in_order, talks}
 use Rattle.my_session.specs.Machine as machine
-use Rattle.my_session.specs.Machine.{Move, Doing, Goes, Sends, Needs, Tells, Did, FaultIs, advanced, reply_to, above, unless_above, refused, gave, passed, reacted, read_by, reading, next_terms, unless_exceeds, unless_refused, refusal, refused_by, is_doubled, looked, with_kept, kept, asked, batched, ran, arranged, planned, when_owed, next_by, next, is_greeting}
+use Rattle.my_session.specs.Machine.{Move, Doing, Goes, Sends, Needs, Tells, Did, FaultIs, advanced, reply_to, above, unless_above, refused, gave, passed, reacted, read_by, reading, next_terms, unless_exceeds, unless_refused, refusal, refused_by, is_doubled, looked, with_kept, kept, asked, batched, ran, arranged, offered, set_up, planned, when_owed, next_by, next, is_greeting}
 use Rattle.my_reading.specs.Rows.{row_at}
+use Rattle.my_reading.specs.Versions.{can_reset}
+use Rattle.my_handshake.specs.Version.{version_of}
 use Rattle.my_session.specs.Seen.{Seen}
 use Rattle.my_session.specs.Stands.{Stands, Heard, call_with, is_heading, is_reading}
 use Rattle.my_session.specs.Tables.{plan_of, ask_plan, run_plan, first_plan, clean_plan, own_plan, query_plan, execute_plan, prepare_plan, read_plan, drop_plan, take_plan, skip_plan, react, is_breaking}
 use Rattle.my_session.proofs.Faults.Payloads.{failed_reads, row_reads}
 use Rattle.my_reading.proofs.Described.{kind_is, told_columns}
 use Rattle.my_session.proofs.Faults.Places.{place_is}
-use Rattle.my_session.proofs.Faults.Misfits.{Awaits, FitsKind, react_fits, heading_spot, cleaning_awaits, arranging_awaits, reading_awaits, dropping_awaits, connect_awaits, ping_awaits, head_awaits, column_awaits, close_awaits, execution_head_awaits, execution_column_awaits, execution_close_awaits, running_head_awaits, running_column_awaits, running_close_awaits, finishing_awaits, prepare_awaits, further_awaits, next_column_awaits, next_close_awaits, skipping_awaits}
+use Rattle.my_session.proofs.Faults.Misfits.{Awaits, FitsKind, react_fits, heading_spot, cleaning_awaits, arranging_awaits, reading_awaits, dropping_awaits, connect_awaits, ping_awaits, reset_awaits, head_awaits, column_awaits, close_awaits, execution_head_awaits, execution_column_awaits, execution_close_awaits, running_head_awaits, running_column_awaits, running_close_awaits, finishing_awaits, setting_awaits, prepare_awaits, further_awaits, next_column_awaits, next_close_awaits, skipping_awaits}
 use Rattle.my_session.proofs.History.{each_history}
 use Rattle.my_session.proofs.Stands.Spots.{is_known, known, row_spot}
 use Rattle.my_session.proofs.History.Stopping.{talks_found, rest_found, stopped, over_found, failed_found}
@@ -97,6 +99,7 @@ module _ (s : Seen) (h : History) (st : Stands s h) (op : is_open s.task ≡ tru
   ToldBy ToldEnd = Unit {0}
   ToldBy ToldNone = AllRead
   ToldBy (ToldStatement statement) = Unit {0}
+  ToldBy (ToldFlag flag) = Unit {0}
   ToldBy (ToldError e) = Cause s.login (fault_in s.task) s.statements s.unread h st.newest st.older e
   ToldBy (Dropped closing) = Unit {0}
 
@@ -300,6 +303,7 @@ module _ (s : Seen) (h : History) (st : Stands s h) (op : is_open s.task ≡ tru
   opens_some TakeSet e own fit none = cc
   opens_some SkipTaken e own fit none = cc
   opens_some Ping e own fit none = cc
+  opens_some Reset e own fit none = cc
   opens_some Quit e own fit none = cc
 
   -- the own command of a call is the exchange that it begins
@@ -315,6 +319,7 @@ module _ (s : Seen) (h : History) (st : Stands s h) (op : is_open s.task ≡ tru
   opens_own TakeSet e own = cc
   opens_own SkipTaken e own = cc
   opens_own Ping e own = refl
+  opens_own Reset e own = refl
   opens_own Quit e own = refl
 
   asked_told : (c : CallKind) → asks c ≡ true → ask_plan c ≡ plans.Asks c → Some c ≡ kind_in s.task → refusal c s.call ≡ None → (o : Option Talk) → command_of (next_terms s) s.statements (call_of c s.call) ≡ o → Explained (asked s (Own c) o)
@@ -324,6 +329,16 @@ module _ (s : Seen) (h : History) (st : Stands s h) (op : is_open s.task ≡ tru
   arranged_told : (n : ℕ) → connecting_in entries ≡ suc n → Some Connect ≡ kind_in s.task → (o : Option Talk) → connecting s.login (next_terms s) (suc n) ≡ o → Explained (arranged s n o)
   arranged_told n count own None opens = tt
   arranged_told n count own (Some t) opens = command_told Connect (Arranging (suc n)) t own (inl (s.statements, ap (connecting s.login (next_terms s)) count ∙ opens)) (first_above s.facts.settings.limit (commands_in t)) refl
+
+  offered_told : (b : Bool) → Explained (offered s b)
+  offered_told true = tt
+  offered_told false = tt
+
+  set_up_told : (n : ℕ) → Some Reset ≡ kind_in s.task → (o : Option (List ℕ)) → slice_get (setup_texts s.login) n ≡ o → Explained (set_up s n o)
+  set_up_told n own None at = tt
+  set_up_told n own (Some text) at =
+      let t : Talk = queried (next_terms s) text in
+      command_told Reset (Setting (suc n)) t own (inr (inr (inr (record { kind = refl; place = n; text = text; listed = at; queries = refl })))) (first_above s.facts.settings.limit (commands_in t)) refl
 
   -- its parameters may be refused
   refusal_told : (c : CallKind) → Some c ≡ kind_in s.task → (o : Option DriverError) (m : Move) → refusal c s.call ≡ o → (o ≡ None → Explained m) → Explained (unless_refused s o m)
@@ -344,7 +359,7 @@ module _ (s : Seen) (h : History) (st : Stands s h) (op : is_open s.task ≡ tru
   executed_told n number params own at (Fitting values) is fit =
       let id = (statement_in s.call).inner.id in
       let t : Talk = Queried (next_terms s) (body_of id values) (NoSets (ByStatement (ahead_of id values) (known_in s.statements id))) in
-      command_told Batch (Running n) t own (inr (inr (record { kind = refl; place = number; params = params; listed = at; statements = s.statements; executes = ap (execution (next_terms s) s.statements id) is }))) (first_above s.facts.settings.limit (commands_in t)) refl
+      command_told Batch (Running n) t own (inr (inr (inl (record { kind = refl; place = number; params = params; listed = at; statements = s.statements; executes = ap (execution (next_terms s) s.statements id) is })))) (first_above s.facts.settings.limit (commands_in t)) refl
   executed_told n number params own at (Unfitting e) is fit = cc
 
   ran_told : (n number : ℕ) → Some Batch ≡ kind_in s.task → (o : Option Params) → slice_get (lists_in s.call) number ≡ o → Explained (ran s n o)
@@ -378,6 +393,7 @@ module _ (s : Seen) (h : History) (st : Stands s h) (op : is_open s.task ≡ tru
   Suits plans.Batches = Some Batch ≡ kind_in s.task
   Suits (plans.Runs n) = Some Batch ≡ kind_in s.task
   Suits (plans.Arranges n) = (connecting_in entries ≡ suc n) × (Some Connect ≡ kind_in s.task)
+  Suits (plans.Sets n) = Some Reset ≡ kind_in s.task
   Suits plans.Finds = Some Prepare ≡ kind_in s.task
   Suits plans.Checks = Some Execute ≡ kind_in s.task
   Suits plans.Keeps = Some Prepare ≡ kind_in s.task
@@ -391,6 +407,9 @@ module _ (s : Seen) (h : History) (st : Stands s h) (op : is_open s.task ≡ tru
   plan_told plans.Finds own = looked_told own (is_mixed_text (text_in s.call)) refl (held_in s.statements (query_of (text_in s.call)))
   plan_told plans.Checks own = refusal_told Execute own (refusal Execute s.call) (record { seen = machine.with_task s (Cleaning Execute) s.untold; does = Goes }) refl (λ _. tt)
   plan_told plans.Forgets a = tt
+  plan_told plans.Resets a = offered_told (can_reset (version_of s.facts.version))
+  plan_told plans.Clears a = tt
+  plan_told (plans.Sets n) own = set_up_told n own (slice_get (setup_texts s.login) n) refl
   plan_told plans.Batches own = batched_told own (slice_get (lists_in s.call) 0) refl
   plan_told (plans.Runs n) own = ran_told (suc n) n own (slice_get (lists_in s.call) n) refl
   plan_told (plans.Notes n) a = tt
@@ -506,6 +525,7 @@ module _ (s : Seen) (h : History) (st : Stands s h) (op : is_open s.task ≡ tru
   first_suits TakeSet own = tt
   first_suits SkipTaken own = tt
   first_suits Ping own = tt
+  first_suits Reset own = tt
   first_suits Quit own = tt
 
   own_suits : (c : CallKind) → s.task ≡ Own c → HeardAs (Own c) → Suits (own_plan c s.context.spot)
@@ -524,6 +544,7 @@ module _ (s : Seen) (h : History) (st : Stands s h) (op : is_open s.task ≡ tru
   own_suits TakeSet e hd = absurd hd.at
   own_suits SkipTaken e hd = absurd hd.at
   own_suits Ping e hd = awaits_as (Own Ping) e (subst (λ (x : Spot). Awaits (Own Ping) x) (sym hd.at.1) ping_awaits)
+  own_suits Reset e hd = awaits_as (Own Reset) e (subst (λ (x : Spot). Awaits (Own Reset) x) (sym hd.at.1) reset_awaits)
   own_suits Quit e hd = tt
 
   read_suits : s.task ≡ Reading → s.untold ≡ false → (spot : Spot) → s.context.spot ≡ spot → is_reading spot ≡ true → Suits (read_plan spot)
@@ -602,6 +623,7 @@ module _ (s : Seen) (h : History) (st : Stands s h) (op : is_open s.task ≡ tru
   ask_suits TakeSet asking own = (asking, refl, own)
   ask_suits SkipTaken asking own = (asking, refl, own)
   ask_suits Ping asking own = (asking, refl, own)
+  ask_suits Reset asking own = (asking, refl, own)
   ask_suits Quit asking own = (asking, refl, own)
 
   suits : (t : Task) → s.task ≡ t → fault_in t ≡ None → HeardAs t → (untold : Bool) → s.untold ≡ untold → Suits (plan_of t s.context.spot untold)
@@ -613,6 +635,8 @@ module _ (s : Seen) (h : History) (st : Stands s h) (op : is_open s.task ≡ tru
   suits (Arranging n) e sound hd untold told = clean_suits (Arranging n) e (arranging_awaits n) (plans.Arranges n) (hd.at.1, sym (ap kind_in e)) s.context.spot refl hd.at.2 untold
   suits (Running n) e sound hd untold told = run_suits n e s.context.spot refl hd.at.1
   suits (Finishing n) e sound hd untold told = clean_suits (Finishing n) e (finishing_awaits n) (plans.Runs n) (sym (ap kind_in e)) s.context.spot refl hd.at.1 untold
+  suits Clearing e sound hd untold told = tt
+  suits (Setting n) e sound hd untold told = clean_suits (Setting n) e (setting_awaits n) (plans.Sets n) (sym (ap kind_in e)) s.context.spot refl hd.at.1 untold
   suits Reading e sound hd true told = tt
   suits Reading e sound hd false told = read_suits e told s.context.spot refl hd.at.1
   suits Dropping e sound hd true told = tt
@@ -666,6 +690,7 @@ module _ (s : Seen) (h : History) (st : Stands s h) (op : is_open s.task ≡ tru
   answer_cause answers.SetEnd new d = tt
   answer_cause answers.NoSet new d = nothing_left d.does
   answer_cause (answers.Stmt statement) new d = tt
+  answer_cause (answers.Flag flag) new d = tt
 
 pub each_fault : EachFault
 each_fault s h st op e is = because s h st op e is

@@ -9,10 +9,10 @@ use Rattle.my_session.specs.declared.answer.SessionStep.TheVariants as steps
 use Rattle.my_session.specs.declared.answer.Tick.{Tick}
 use Rattle.my_session.specs.declared.answer.Tick.TheVariants as ticks
 use Rattle.my_reading.specs.declared.call.CallKind.{CallKind}
-use Rattle.my_reading.specs.declared.call.CallKind.TheVariants.{Connect, Query, Prepare, Execute, Batch, CloseStmt, NextRow, DropResult, TakeSet, SkipTaken, Ping, Quit}
+use Rattle.my_reading.specs.declared.call.CallKind.TheVariants.{Connect, Query, Prepare, Execute, Batch, CloseStmt, NextRow, DropResult, TakeSet, SkipTaken, Ping, Reset, Quit}
 use Rattle.my_session.specs.declared.task.LinkFault.{LinkFault}
 use Rattle.my_session.specs.declared.task.Task.{Task}
-use Rattle.my_session.specs.declared.task.Task.TheVariants.{Nothing, Begun, Cleaning, Own, Giving, Arranging, Running, Finishing, Reading, Dropping, Taking, Skipping, Leaving, Failing}
+use Rattle.my_session.specs.declared.task.Task.TheVariants.{Nothing, Begun, Cleaning, Own, Giving, Arranging, Running, Finishing, Clearing, Setting, Reading, Dropping, Taking, Skipping, Leaving, Failing}
 use Rattle.my_reading.specs.declared.error.Error.{Error}
 use Rattle.my_reading.specs.declared.error.Error.TheVariants as errors
 use Rattle.my_reading.specs.Calls.{asks, is_connect}
@@ -20,7 +20,7 @@ use Rattle.my_session.specs.Tasks.{kind_in, fault_in}
 use Rattle.my_session.specs.Entries.{Entry}
 use Rattle.my_session.specs.LinkErrors.{link_error}
 use Rattle.my_session.specs.Fits.{may_be_told, AnswerFits, FaultFits, ErrorFits, is_begun, WasStepped, StepFits, EachAnswerFits}
-use Rattle.my_reading.specs.Told.{Told, ToldReady, ToldRow, ToldEnd, ToldNone, ToldStatement, ToldError, Dropped, told}
+use Rattle.my_reading.specs.Told.{Told, ToldReady, ToldRow, ToldEnd, ToldNone, ToldStatement, ToldFlag, ToldError, Dropped, told}
 use Rattle.my_session.specs.Machine.{Doing, Goes, Passes, Sends, Needs, Tells, Did, Does, FaultIs, doing, when_owed, next_by, next}
 use Rattle.my_session.specs.Seen.{Seen}
 use Rattle.my_session.specs.Stands.{TaskIs, OwnAt, owes}
@@ -102,6 +102,7 @@ error_in (Tells (ToldRow row)) = errors.NoMemory
 error_in (Tells ToldEnd) = errors.NoMemory
 error_in (Tells ToldNone) = errors.NoMemory
 error_in (Tells (ToldStatement statement)) = errors.NoMemory
+error_in (Tells (ToldFlag flag)) = errors.NoMemory
 error_in (Tells (ToldError e)) = e
 error_in (Tells (Dropped closing)) = errors.NoMemory
 
@@ -151,6 +152,7 @@ own_proper DropResult spot connected count newest w = absurd w
 own_proper TakeSet spot connected count newest w = absurd w
 own_proper SkipTaken spot connected count newest w = absurd w
 own_proper Ping spot connected count newest w = refl
+own_proper Reset spot connected count newest w = refl
 own_proper Quit spot connected count newest w = refl
 
 task_proper : (t : Task) (spot : Spot) (closed connected : Bool) (count : ℕ) (newest : Entry) → TaskIs t spot closed connected count newest → is_proper t ≡ true
@@ -162,6 +164,8 @@ task_proper Giving spot closed connected count newest w = refl
 task_proper (Arranging n) spot closed connected count newest w = refl
 task_proper (Running n) spot closed connected count newest w = refl
 task_proper (Finishing n) spot closed connected count newest w = refl
+task_proper Clearing spot closed connected count newest w = refl
+task_proper (Setting n) spot closed connected count newest w = refl
 task_proper Reading spot closed connected count newest w = refl
 task_proper Dropping spot closed connected count newest w = refl
 task_proper Taking spot closed connected count newest w = refl
@@ -178,6 +182,8 @@ begun_owes Giving e = cc
 begun_owes (Arranging n) e = cc
 begun_owes (Running n) e = cc
 begun_owes (Finishing n) e = cc
+begun_owes Clearing e = cc
+begun_owes (Setting n) e = cc
 begun_owes Reading e = cc
 begun_owes Dropping e = cc
 begun_owes Taking e = cc

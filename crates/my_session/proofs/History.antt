@@ -15,9 +15,9 @@ use Rattle.my_reading.specs.declared.error.ServerError.{ServerError}
 use Rattle.my_reading.specs.declared.call.Call.{Call}
 use Rattle.my_reading.specs.declared.call.Call.TheVariants as calls
 use Rattle.my_session.specs.declared.task.Task.{Task}
-use Rattle.my_session.specs.declared.task.Task.TheVariants.{Nothing, Begun, Cleaning, Own, Giving, Arranging, Running, Finishing, Reading, Dropping, Taking, Skipping, Leaving, Failing}
+use Rattle.my_session.specs.declared.task.Task.TheVariants.{Nothing, Begun, Cleaning, Own, Giving, Arranging, Running, Finishing, Clearing, Setting, Reading, Dropping, Taking, Skipping, Leaving, Failing}
 use Rattle.my_reading.specs.Calls.{kind_of as call_kind, call_of}
-use Rattle.my_reading.specs.declared.call.CallKind.TheVariants.{Prepare, Batch}
+use Rattle.my_reading.specs.declared.call.CallKind.TheVariants.{Prepare, Batch, Reset}
 use Rattle.my_session.specs.Tasks.{kind_in}
 use Rattle.my_session.specs.Entries.{Entry, AllGiven, IsGiven, calls_in, owns_more, OwnsFirst, IsTied}
 use Rattle.my_session.specs.Groups.{Group}
@@ -77,6 +77,8 @@ calls_are Giving opened spot made call older w = own_open (is_greeting spot) (ca
 calls_are (Arranging n) opened spot made call older w = own_open (is_greeting spot) calls.Connect call made (calls_in older) w
 calls_are (Running n) opened spot made call older w = own_open (is_greeting spot) (call_of Batch opened) call made (calls_in older) w
 calls_are (Finishing n) opened spot made call older w = own_open (is_greeting spot) (call_of Batch opened) call made (calls_in older) w
+calls_are Clearing opened spot made call older w = own_open (is_greeting spot) (call_of Reset opened) call made (calls_in older) w
+calls_are (Setting n) opened spot made call older w = own_open (is_greeting spot) (call_of Reset opened) call made (calls_in older) w
 calls_are Reading opened spot made call older w = inr w
 calls_are Dropping opened spot made call older w = inr w
 calls_are Taking opened spot made call older w = inr w
@@ -98,6 +100,8 @@ rests_owe Giving opened e = cc
 rests_owe (Arranging n) opened e = cc
 rests_owe (Running n) opened e = cc
 rests_owe (Finishing n) opened e = cc
+rests_owe Clearing opened e = cc
+rests_owe (Setting n) opened e = cc
 rests_owe Reading opened e = cc
 rests_owe Dropping opened e = cc
 rests_owe Taking opened e = cc

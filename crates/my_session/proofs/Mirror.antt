@@ -4,6 +4,7 @@ pub mod Payloads
 pub mod Commands
 pub mod Opened
 pub mod Prepared
+pub mod Resets
 pub mod Plans
 pub mod Steps
 use Rattle.std.proofs.Common.{◌≡◌, List, [], ◌∷◌, true, false, inl, inr, refl, sym, subst}
@@ -35,6 +36,7 @@ no_error (answers.Row row) e is = cc
 no_error answers.SetEnd e is = cc
 no_error answers.NoSet e is = cc
 no_error (answers.Stmt statement) e is = cc
+no_error (answers.Flag flag) e is = cc
 
 module _ (s new : Seen) (bytes : AreBytes s.unread) (call : Call) (parts : List Part) (p : Place) (o : OpenAt s call parts p) where
   here : MoveReads s call parts p (next s)

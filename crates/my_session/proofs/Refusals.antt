@@ -7,7 +7,7 @@ use Rattle.my_params.specs.declared.params.ParamsError.{ParamsError}
 use Rattle.my_statements.specs.Prepared.{StatementView}
 use Rattle.my_reading.specs.declared.call.Call.{Call}
 use Rattle.my_reading.specs.declared.call.CallKind.{CallKind}
-use Rattle.my_reading.specs.declared.call.CallKind.TheVariants.{Connect, Query, Prepare, Execute, Batch, CloseStmt, NextRow, DropResult, TakeSet, SkipTaken, Ping, Quit}
+use Rattle.my_reading.specs.declared.call.CallKind.TheVariants.{Connect, Query, Prepare, Execute, Batch, CloseStmt, NextRow, DropResult, TakeSet, SkipTaken, Ping, Reset, Quit}
 use Rattle.my_reading.specs.declared.error.DriverError.{DriverError}
 use Rattle.my_reading.specs.declared.error.DriverError.TheVariants as drivers
 use Rattle.my_reading.specs.declared.executing.TheConstants.{MOST_VALUES}
@@ -72,6 +72,7 @@ refused_run DropResult call e is = cc
 refused_run TakeSet call e is = cc
 refused_run SkipTaken call e is = cc
 refused_run Ping call e is = cc
+refused_run Reset call e is = cc
 refused_run Quit call e is = cc
 
 params_close : (e : DriverError) → is_params e ≡ true → closes_driver e ≡ true

@@ -17,12 +17,12 @@ use Rattle.my_reading.specs.declared.call.CallKind.{CallKind}
 use Rattle.my_reading.specs.declared.call.CallKind.TheVariants as callkinds
 use Rattle.my_reading.specs.declared.facts.Facts.{Facts}
 use Rattle.my_reading.specs.Calls.{kind_of, id_in, is_connect, lists_in, statement_in}
-use Rattle.my_reading.specs.Commands.{closing, execution, opening}
+use Rattle.my_reading.specs.Commands.{closing, execution, opening, queried, setup_texts}
 use Rattle.my_reading.specs.Executions.{values_for}
 use Rattle.my_reading.specs.Statements.{Statements}
 use Rattle.my_reading.specs.Facts.{first_facts, facts_by}
 use Rattle.my_session.specs.Groups.{Group, groups, IsEarlier}
-use Rattle.my_reading.specs.Told.{Told, ToldReady}
+use Rattle.my_reading.specs.Told.{Told, ToldReady, ToldFlag}
 use Rattle.my_session.specs.History.{Made}
 
 -- an exchange, the call that began it, and what this call and later ones were given of it, if it is a query that was answered
@@ -68,12 +68,20 @@ pub record IsRun (terms : Terms) (call : Call) (t : Talk) : Type 0 where
   pub statements : Statements
   pub executes : execution terms statements (id_in call) (values_for (statement_in call) params) ≡ Some t
 
+-- The exchange is one of a reset: a query that sets the server's session up again.
+pub record IsSetup (login : Login) (terms : Terms) (call : Call) (t : Talk) : Type 0 where
+  pub kind : kind_of call ≡ callkinds.Reset
+  pub place : ℕ
+  pub text : List ℕ
+  pub listed : slice_get (setup_texts login) place ≡ Some text
+  pub queries : queried terms text ≡ t
+
 -- The exchange is the one that the table has for the call, and for its place among those of connecting, where some prepared statements are
--- known; or it is the close of a statement, which a call that prepares one may begin, too, or one of a batch. Which statements are known, which of them is
--- closed, and which execution of a batch comes when, says the reading of the connection (`Mirror`).
+-- known; or it is the close of a statement, which a call that prepares one may begin, too, one of a batch, or one of a reset. Which statements are known, which
+-- of them is closed, which execution of a batch comes when, and which query of a reset, says the reading of the connection (`Mirror`).
 abbrev pub Opens : Login → Terms → Call → ℕ → Talk → Type 0
 Opens login terms call n t = ((st : Statements) × (opening login terms st call n ≡ Some t))
-    ⊎ (((id : ℕ) × (kind_of call ≡ callkinds.Prepare) × (closing terms id ≡ t)) ⊎ IsRun terms call t)
+    ⊎ (((id : ℕ) × (kind_of call ≡ callkinds.Prepare) × (closing terms id ≡ t)) ⊎ (IsRun terms call t ⊎ IsSetup login terms call t))
 
 -- so is each exchange
 abbrev pub Follow : Login → List Entry → Type 0
@@ -129,19 +137,23 @@ needs_own calls.Quit = false
 needs_own (calls.Batch statement lists) = is_some (slice_get lists 0)
 needs_own _ = true
 
+-- a server that can't reset its session is sent nothing
 abbrev pub may_lack : Told → Call → Bool
 may_lack ToldReady call = not (needs_own call)
+may_lack (ToldFlag flag) call = not flag
 may_lack _ call = true
 
 abbrev pub calls_in : List Entry → List Call
 calls_in [] = []
 calls_in (e ∷ es) = e.call ∷ calls_in es
 
--- connecting may have more than one exchange, a statement to prepare its own and the close of another one, and a batch one for each execution
+-- connecting may have more than one exchange, a statement to prepare its own and the close of another one, a batch one for each execution, and a reset one for
+-- each query that follows it
 abbrev pub owns_more : CallKind → Bool
 owns_more callkinds.Connect = true
 owns_more callkinds.Prepare = true
 owns_more callkinds.Batch = true
+owns_more callkinds.Reset = true
 owns_more _ = false
 
 -- the first of these exchanges is the call's own
@@ -149,7 +161,7 @@ abbrev pub OwnsFirst : Call → List Call → (List Call → Type 0) → Type 0
 OwnsFirst call [] rest = ⊥
 OwnsFirst call (c ∷ cs) rest = (call ≡ c) × (rest cs ⊎ ((owns_more (kind_of call) ≡ true) × OwnsFirst call cs rest))
 
--- The exchanges are those of the calls, in their order, at most one each but for connecting, preparing and batches; a command that was accepted has one.
+-- The exchanges are those of the calls, in their order, at most one each but for connecting, preparing, batches and resets; a command that was accepted has one.
 abbrev pub IsTied : List Made → List Call → Type 0
 IsTied [] [] = Unit {0}
 IsTied [] (c ∷ cs) = ⊥

@@ -3,7 +3,7 @@ use Rattle.std.specs.Prelude.{◌≡◌, ◌⊎◌, ℕ, Option, Some, None, Boo
 use Rattle.my_session.specs.declared.answer.SessionStep.{SessionStep}
 use Rattle.my_session.specs.declared.answer.SessionStep.TheVariants.{Send, Need, Done, Fault}
 use Rattle.my_reading.specs.declared.call.CallKind.{CallKind}
-use Rattle.my_reading.specs.declared.call.CallKind.TheVariants.{NextRow, Prepare, TakeSet}
+use Rattle.my_reading.specs.declared.call.CallKind.TheVariants.{NextRow, Prepare, TakeSet, Reset}
 use Rattle.my_session.specs.declared.task.Task.{Task}
 use Rattle.my_session.specs.declared.task.Task.TheVariants.{Begun}
 use Rattle.my_session.specs.declared.task.LinkFault.{LinkFault}
@@ -17,7 +17,7 @@ use Rattle.my_reading.specs.declared.error.IoKind.{IoKind}
 use Rattle.my_reading.specs.declared.error.IoKind.TheVariants as kinds
 use Rattle.my_session.specs.Tasks.{kind_in, fault_in}
 use Rattle.my_session.specs.LinkErrors.{link_error}
-use Rattle.my_reading.specs.Told.{Told, ToldReady, ToldNone, ToldStatement, ToldError, Dropped, told}
+use Rattle.my_reading.specs.Told.{Told, ToldReady, ToldNone, ToldStatement, ToldFlag, ToldError, Dropped, told}
 use Rattle.my_session.specs.History.{History}
 use Rattle.my_session.specs.Seen.{Seen}
 use Rattle.my_session.specs.Stands.{Stands}
@@ -39,11 +39,17 @@ abbrev pub prepares : CallKind → Bool
 prepares Prepare = true
 prepares _ = false
 
--- a read returns a row, an end, or that nothing is left, and a statement to prepare itself; each other call returns that it is done, or that
--- nothing is left for a stream; each may fail
+-- the one call that is answered by a flag
+abbrev pub resets : CallKind → Bool
+resets Reset = true
+resets _ = false
+
+-- a read returns a row, an end, or that nothing is left, a statement to prepare itself, and a reset whether the server can; each other call
+-- returns that it is done, or that nothing is left for a stream; each may fail
 abbrev pub may_be : CallKind → Told → Bool
-may_be c ToldReady = not (reads c || prepares c)
+may_be c ToldReady = not (reads c || prepares c || resets c)
 may_be c (ToldStatement statement) = prepares c
+may_be c (ToldFlag flag) = resets c
 may_be c ToldNone = may_lack_sets c
 may_be c (ToldError e) = true
 may_be c (Dropped closing) = true

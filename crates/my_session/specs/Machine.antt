@@ -9,6 +9,7 @@ use Rattle.my_frame.specs.Front.{Front, Waiting, Broken, Whole, front_at}
 use Rattle.my_reply.specs.ErrPacket.{err_at}
 use Rattle.my_reply.specs.declared.replies.PrepareOk.{PrepareOk}
 use Rattle.my_reply.specs.Replies.{prepare_ok_at}
+use Rattle.my_handshake.specs.Version.{version_of}
 use Rattle.my_params.specs.declared.params.Params.{Params}
 use Rattle.my_value.specs.RowParts.{RowParts}
 use Rattle.my_value.specs.declared.value.Value.{Value}
@@ -26,7 +27,7 @@ use Rattle.my_statements.specs.Cache.{Held}
 use Rattle.my_statements.specs.Prepared.{StatementView}
 use Rattle.my_reading.specs.declared.call.Call.{Call}
 use Rattle.my_reading.specs.declared.call.CallKind.{CallKind}
-use Rattle.my_reading.specs.declared.call.CallKind.TheVariants.{Prepare, Execute, Batch, CloseStmt}
+use Rattle.my_reading.specs.declared.call.CallKind.TheVariants.{Prepare, Execute, Batch, CloseStmt, Reset}
 use Rattle.my_reading.specs.declared.error.DriverError.{DriverError}
 use Rattle.my_session.specs.declared.task.LinkFault.{LinkFault}
 use Rattle.my_session.specs.declared.task.Task.{Task}
@@ -42,7 +43,7 @@ use Rattle.my_session.specs.declared.answer.Tick.{Tick}
 use Rattle.my_session.specs.declared.answer.Tick.TheVariants as ticks
 use Rattle.my_reading.specs.Calls.{call_of, id_in, lists_in, params_in, statement_in, text_in}
 use Rattle.my_session.specs.Tasks.{fault_in}
-use Rattle.my_reading.specs.Commands.{closing, command_of, connecting, execution}
+use Rattle.my_reading.specs.Commands.{closing, command_of, connecting, execution, queried, setup_texts}
 use Rattle.my_reading.specs.Course.{first_above}
 pub use Rattle.my_reading.specs.Course.{is_greeting}
 use Rattle.my_reading.specs.Place.{is_rows}
@@ -51,8 +52,9 @@ use Rattle.my_reading.specs.Executions.{Values, Fitting, Unfitting, values_for}
 use Rattle.my_session.specs.LinkErrors.{link_error}
 use Rattle.my_session.specs.Found.{IsPlaced, payload_in}
 use Rattle.my_reading.specs.Facts.{facts_after, prepared_by}
-use Rattle.my_reading.specs.Statements.{Statements, emptied, held_in, is_cached, is_mixed_text, leaving, names_of, query_of, statement_with, with_columns, with_fetched, with_prepared, without_statement}
-use Rattle.my_reading.specs.Told.{Told, ToldReady, ToldRow, ToldEnd, ToldNone, ToldStatement, ToldError, told}
+use Rattle.my_reading.specs.Statements.{Statements, cleared, emptied, held_in, is_cached, is_mixed_text, leaving, names_of, query_of, statement_with, with_columns, with_fetched, with_prepared, without_statement}
+use Rattle.my_reading.specs.Told.{Told, ToldReady, ToldRow, ToldEnd, ToldNone, ToldStatement, ToldFlag, ToldError, told}
+use Rattle.my_reading.specs.Versions.{can_reset}
 use Rattle.my_session.specs.History.{History, answered, noted}
 use Rattle.my_reading.specs.Rows.{row_at}
 use Rattle.my_session.specs.Seen.{Seen}
@@ -279,6 +281,16 @@ abbrev pub arranged : Seen → ℕ → Option Talk → Move
 arranged s n None = record { seen = with_task s tasks.Nothing s.untold; does = Tells ToldReady }
 arranged s n (Some talk) = begins s (tasks.Arranging (suc n)) talk
 
+-- a server that can't reset its session is sent nothing
+abbrev pub offered : Seen → Bool → Move
+offered s true = record { seen = with_task s (tasks.Cleaning Reset) s.untold; does = Goes }
+offered s false = record { seen = with_task s tasks.Nothing s.untold; does = Tells (ToldFlag false) }
+
+-- the next query that sets the server's session up after a reset, after n others; where none is left, the reset is done
+abbrev pub set_up : Seen → ℕ → Option (List ℕ) → Move
+set_up s n None = record { seen = with_task s tasks.Nothing s.untold; does = Tells (ToldFlag true) }
+set_up s n (Some text) = begins s (tasks.Setting (suc n)) (queried (next_terms s) text)
+
 abbrev pub planned : Seen → Plan → Move
 planned s plans.Reads = reading s (front_at s.number s.context.terms.limit s.unread)
 planned s (plans.Starts t) = record { seen = with_task s t s.untold; does = Goes }
@@ -293,6 +305,9 @@ planned s plans.Batches = batched s (slice_get (lists_in s.call) 0)
 planned s (plans.Asks c) = unless_refused s (refusal c s.call) (asked s (tasks.Own c) (command_of (next_terms s) s.statements (call_of c s.call)))
 planned s (plans.Runs n) = ran s (suc n) (slice_get (lists_in s.call) n)
 planned s (plans.Arranges n) = arranged s n (connecting s.login (next_terms s) (suc n))
+planned s plans.Resets = offered s (can_reset (version_of s.facts.version))
+planned s plans.Clears = record { seen = with_statements (with_task s (tasks.Setting 0) s.untold) (cleared s.statements); does = Goes }
+planned s (plans.Sets n) = set_up s n (slice_get (setup_texts s.login) n)
 planned s plans.Readies = record { seen = with_task s tasks.Nothing s.untold; does = Tells ToldReady }
 planned s plans.Learns = record {
   seen = with_statements (with_task s tasks.Nothing s.untold) (with_columns (id_in (call_of Execute s.call)) s.facts.columns s.statements);

@@ -9,7 +9,7 @@ use Rattle.my_grammar.specs.Talk.{turns, number_of, context_of, Fits, login_in}
 use Rattle.my_reading.specs.declared.call.Call.{Call}
 use Rattle.my_reading.specs.declared.call.Call.TheVariants as calls
 use Rattle.my_reading.specs.declared.call.CallKind.{CallKind}
-use Rattle.my_reading.specs.declared.call.CallKind.TheVariants.{Connect, Query, Prepare, Execute, Batch, CloseStmt, NextRow, DropResult, TakeSet, SkipTaken, Ping, Quit}
+use Rattle.my_reading.specs.declared.call.CallKind.TheVariants.{Connect, Query, Prepare, Execute, Batch, CloseStmt, NextRow, DropResult, TakeSet, SkipTaken, Ping, Reset, Quit}
 use Rattle.my_params.specs.declared.params.Params.{Params}
 use Rattle.my_statements.specs.Prepared.{StatementView}
 use Rattle.my_reading.specs.declared.error.DriverError.{DriverError}
@@ -18,8 +18,8 @@ use Rattle.my_reading.specs.declared.error.Error.TheVariants as errors
 use Rattle.my_reading.specs.declared.facts.Facts.{Facts}
 use Rattle.my_reading.specs.Calls.{kind_of, call_of, asks, lists_in, statement_in}
 use Rattle.my_reading.specs.Executions.{values_for}
-use Rattle.my_reading.specs.Commands.{arranging_texts}
-use Rattle.my_reading.specs.Course.{Part, All, Head, Item, Set, Rest, Command, Run, Reply, Keep, Give, Learn, Owes, Awaits, Returns, Stops, step, parts_of, parts_of_lists, parts_of_texts, is_greeting}
+use Rattle.my_reading.specs.Commands.{arranging_texts, setup_texts}
+use Rattle.my_reading.specs.Course.{Part, All, Head, Item, Set, Rest, Command, Run, Reply, Keep, Give, Learn, Clear, Flag, Owes, Awaits, Returns, Stops, step, parts_of, parts_of_lists, parts_of_queries, parts_of_texts, is_greeting}
 use Rattle.my_reading.specs.Errors.{unexpected_eof}
 use Rattle.my_reading.specs.Leads.{Leads}
 use Rattle.my_reading.specs.Place.{Place, exchanges, facts_at, client_side, connects_in}
@@ -35,6 +35,10 @@ use Rattle.my_session.specs.Seen.{Seen}
 use Rattle.my_session.specs.Stands.{is_shaking, owes, call_with}
 use Rattle.my_session.specs.Tasks.{kind_in, fault_in}
 
+-- what is left of a reset after some of the queries that set the server's session up, of which these come next
+abbrev pub parts_of_setup : List (List ℕ) → List Part
+parts_of_setup texts = parts_of_queries texts (Flag true ∷ [])
+
 -- what is left of a call after its own command
 abbrev pub own_parts : Login → CallKind → List Part
 own_parts login Connect = All ∷ parts_of_texts (arranging_texts login)
@@ -48,6 +52,7 @@ own_parts login DropResult = All ∷ []
 own_parts login TakeSet = Set ∷ []
 own_parts login SkipTaken = Rest ∷ []
 own_parts login Ping = All ∷ []
+own_parts login Reset = All ∷ Clear ∷ parts_of_setup (setup_texts login)
 own_parts login Quit = []
 
 -- what is left of a batch after the parameters of its next execution were looked at
@@ -70,6 +75,8 @@ parts_left login call tasks.Giving = Give ∷ []
 parts_left login call (tasks.Arranging n) = All ∷ parts_of_texts (drop n (arranging_texts login))
 parts_left login call (tasks.Running n) = Head ∷ Learn ∷ All ∷ parts_of_lists (drop n (lists_in call))
 parts_left login call (tasks.Finishing n) = All ∷ parts_of_lists (drop n (lists_in call))
+parts_left login call tasks.Clearing = Clear ∷ parts_of_setup (setup_texts login)
+parts_left login call (tasks.Setting n) = parts_of_setup (drop n (setup_texts login))
 parts_left login call tasks.Reading = Item ∷ []
 parts_left login call tasks.Dropping = All ∷ []
 parts_left login call tasks.Taking = Set ∷ []
@@ -82,6 +89,7 @@ abbrev pub passes_end : Task → Bool
 passes_end (tasks.Cleaning c) = true
 passes_end (tasks.Arranging n) = true
 passes_end (tasks.Finishing n) = true
+passes_end (tasks.Setting n) = true
 passes_end t = false
 
 -- a call's own exchange, or what follows it
@@ -89,6 +97,7 @@ abbrev pub is_own : Task → Bool
 is_own (tasks.Own c) = true
 is_own tasks.Giving = true
 is_own (tasks.Running n) = true
+is_own tasks.Clearing = true
 is_own t = false
 
 -- where a task is, while `count` exchanges are those of connecting
@@ -104,6 +113,7 @@ OwnStandsAt DropResult spot count = ⊥
 OwnStandsAt TakeSet spot count = ⊥
 OwnStandsAt SkipTaken spot count = ⊥
 OwnStandsAt Ping spot count = spot ≡ spots.Single
+OwnStandsAt Reset spot count = spot ≡ spots.Single
 OwnStandsAt Quit spot count = is_greeting spot ≡ false
 
 abbrev pub BegunStandsAt : CallKind → Spot → ℕ → Type 0
@@ -119,6 +129,8 @@ TaskStandsAt tasks.Giving spot count = is_greeting spot ≡ false
 TaskStandsAt (tasks.Arranging n) spot count = (is_greeting spot ≡ false) × (count ≡ suc n)
 TaskStandsAt (tasks.Running n) spot count = is_greeting spot ≡ false
 TaskStandsAt (tasks.Finishing n) spot count = is_greeting spot ≡ false
+TaskStandsAt tasks.Clearing spot count = is_greeting spot ≡ false
+TaskStandsAt (tasks.Setting n) spot count = is_greeting spot ≡ false
 TaskStandsAt tasks.Reading spot count = is_greeting spot ≡ false
 TaskStandsAt tasks.Dropping spot count = is_greeting spot ≡ false
 TaskStandsAt tasks.Taking spot count = is_greeting spot ≡ false

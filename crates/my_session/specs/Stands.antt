@@ -10,7 +10,7 @@ use Rattle.my_grammar.specs.Talk.{Talk, turns, number_of, server_bytes, client_b
 use Rattle.my_reading.specs.declared.call.Call.{Call}
 use Rattle.my_reading.specs.declared.call.Call.TheVariants as calls
 use Rattle.my_reading.specs.declared.call.CallKind.{CallKind}
-use Rattle.my_reading.specs.declared.call.CallKind.TheVariants.{Connect, Query, Prepare, Execute, Batch, CloseStmt, NextRow, DropResult, TakeSet, SkipTaken, Ping, Quit}
+use Rattle.my_reading.specs.declared.call.CallKind.TheVariants.{Connect, Query, Prepare, Execute, Batch, CloseStmt, NextRow, DropResult, TakeSet, SkipTaken, Ping, Reset, Quit}
 use Rattle.my_session.specs.declared.task.Task.{Task}
 use Rattle.my_session.specs.declared.task.Task.TheVariants as tasks
 use Rattle.my_reading.specs.declared.facts.Facts.{Facts}
@@ -99,6 +99,7 @@ owes (tasks.Own c) = true
 owes tasks.Giving = true
 owes (tasks.Arranging n) = true
 owes (tasks.Running n) = true
+owes (tasks.Setting n) = true
 owes (tasks.Failing c fault) = true
 owes _ = false
 
@@ -147,6 +148,7 @@ OwnAt DropResult spot connected count newest = ⊥
 OwnAt TakeSet spot connected count newest = ⊥
 OwnAt SkipTaken spot connected count newest = ⊥
 OwnAt Ping spot connected count newest = (connected ≡ true) × (spot ≡ spots.Single)
+OwnAt Reset spot connected count newest = (connected ≡ true) × (spot ≡ spots.Single)
 OwnAt Quit spot connected count newest = connected ≡ true
 
 -- Connect begins before the greeting, and each other call once the connection was made
@@ -164,6 +166,8 @@ TaskIs tasks.Giving spot closed connected count newest = (connected ≡ true) ×
 TaskIs (tasks.Arranging n) spot closed connected count newest = (connected ≡ false) × (count ≡ suc n) × (is_greeting spot ≡ false) × (is_idle spot ≡ true → is_answered newest.talk ≡ true)
 TaskIs (tasks.Running n) spot closed connected count newest = (connected ≡ true) × (is_heading spot ≡ true)
 TaskIs (tasks.Finishing n) spot closed connected count newest = (connected ≡ true) × (is_greeting spot ≡ false)
+TaskIs tasks.Clearing spot closed connected count newest = (connected ≡ true) × (spot ≡ spots.Idle)
+TaskIs (tasks.Setting n) spot closed connected count newest = (connected ≡ true) × (is_greeting spot ≡ false)
 TaskIs tasks.Reading spot closed connected count newest = (connected ≡ true) × (is_reading spot ≡ true)
 TaskIs tasks.Dropping spot closed connected count newest = (connected ≡ true) × (is_reading spot ≡ true)
 TaskIs tasks.Taking spot closed connected count newest = (connected ≡ true) × (is_reading spot ≡ true)
@@ -176,13 +180,15 @@ abbrev pub begun_of : Spot → Call → List Entry → List Call
 begun_of spot call older = if is_greeting spot then calls_in older else call ∷ calls_in older
 
 -- The newest exchange is the open call's own, or an earlier call's. While it connects, all are its own that began since; and so are those of a
--- statement that was prepared, and those of a batch.
+-- statement that was prepared, those of a batch, and those of a reset.
 abbrev pub TieIs : Task → Call → Spot → List Made → Call → List Entry → Type 0
 TieIs (tasks.Own c) opened spot made call older = (call ≡ call_of c opened) × IsTied made (calls_in older)
 TieIs tasks.Giving opened spot made call older = OwnsFirst (call_of Prepare opened) (call ∷ calls_in older) (IsTied made)
 TieIs (tasks.Arranging n) opened spot made call older = OwnsFirst calls.Connect (call ∷ calls_in older) (IsTied made)
 TieIs (tasks.Running n) opened spot made call older = OwnsFirst (call_of Batch opened) (call ∷ calls_in older) (IsTied made)
 TieIs (tasks.Finishing n) opened spot made call older = OwnsFirst (call_of Batch opened) (call ∷ calls_in older) (IsTied made)
+TieIs tasks.Clearing opened spot made call older = OwnsFirst (call_of Reset opened) (call ∷ calls_in older) (IsTied made)
+TieIs (tasks.Setting n) opened spot made call older = OwnsFirst (call_of Reset opened) (call ∷ calls_in older) (IsTied made)
 TieIs (tasks.Failing c fault) opened spot made call older = OwnsFirst (call_of c opened) (call ∷ calls_in older) (IsTied made) ⊎ IsTied made (begun_of spot call older)
 TieIs _ opened spot made call older = IsTied made (begun_of spot call older)
 

@@ -12,11 +12,11 @@ use Rattle.my_session.specs.declared.answer.Tick.TheVariants as ticks
 use Rattle.my_reading.specs.declared.call.Call.{Call}
 use Rattle.my_reading.specs.declared.call.Call.TheVariants as calls
 use Rattle.my_reading.specs.declared.call.CallKind.{CallKind}
-use Rattle.my_reading.specs.declared.call.CallKind.TheVariants.{Connect, Batch, Prepare, NextRow, DropResult, TakeSet, SkipTaken, Quit}
+use Rattle.my_reading.specs.declared.call.CallKind.TheVariants.{Connect, Batch, Prepare, Reset, NextRow, DropResult, TakeSet, SkipTaken, Quit}
 use Rattle.my_session.specs.declared.task.LinkFault.{LinkFault}
 use Rattle.my_session.specs.declared.task.LinkFault.TheVariants.{NoMemory}
 use Rattle.my_session.specs.declared.task.Task.{Task}
-use Rattle.my_session.specs.declared.task.Task.TheVariants.{Nothing, Begun, Cleaning, Own, Giving, Arranging, Running, Finishing, Reading, Dropping, Taking, Skipping, Leaving, Failing}
+use Rattle.my_session.specs.declared.task.Task.TheVariants.{Nothing, Begun, Cleaning, Own, Giving, Arranging, Running, Finishing, Clearing, Setting, Reading, Dropping, Taking, Skipping, Leaving, Failing}
 use Rattle.my_reading.specs.Calls.{kind_of, is_quit}
 use Rattle.my_session.specs.Tasks.{is_open}
 use Rattle.my_reading.specs.Facts.{first_facts}
@@ -84,6 +84,8 @@ failing Giving fault = Failing Prepare fault
 failing (Arranging n) fault = Failing Connect fault
 failing (Running n) fault = Failing Batch fault
 failing (Finishing n) fault = Failing Batch fault
+failing Clearing fault = Failing Reset fault
+failing (Setting n) fault = Failing Reset fault
 failing Reading fault = Failing NextRow fault
 failing Dropping fault = Failing DropResult fault
 failing Taking fault = Failing TakeSet fault
@@ -111,6 +113,9 @@ rank (Arranging n) false = 0
 rank (Running n) untold = 2
 rank (Finishing n) true = 1
 rank (Finishing n) false = 0
+rank Clearing untold = 2
+rank (Setting n) true = 1
+rank (Setting n) false = 0
 rank Reading untold = 0
 rank Dropping true = 1
 rank Dropping false = 0

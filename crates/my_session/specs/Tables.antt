@@ -6,10 +6,10 @@ use Rattle.my_grammar.specs.declared.spot.Spot.TheVariants as spots
 use Rattle.my_grammar.specs.declared.spot.Kind.{Kind}
 use Rattle.my_grammar.specs.declared.spot.Kind.TheVariants as kinds
 use Rattle.my_reading.specs.declared.call.CallKind.{CallKind}
-use Rattle.my_reading.specs.declared.call.CallKind.TheVariants.{Connect, Query, Prepare, Execute, Batch, CloseStmt, NextRow, DropResult, TakeSet, SkipTaken, Ping, Quit}
+use Rattle.my_reading.specs.declared.call.CallKind.TheVariants.{Connect, Query, Prepare, Execute, Batch, CloseStmt, NextRow, DropResult, TakeSet, SkipTaken, Ping, Reset, Quit}
 pub use Rattle.my_reading.specs.Endings.{awaits_head}
 use Rattle.my_session.specs.declared.task.Task.{Task}
-use Rattle.my_session.specs.declared.task.Task.TheVariants.{Nothing, Begun, Cleaning, Own, Giving, Arranging, Running, Finishing, Reading, Dropping, Taking, Skipping, Leaving, Failing}
+use Rattle.my_session.specs.declared.task.Task.TheVariants.{Nothing, Begun, Cleaning, Own, Giving, Arranging, Running, Finishing, Clearing, Setting, Reading, Dropping, Taking, Skipping, Leaving, Failing}
 use Rattle.my_session.specs.declared.tables.Plan.{Plan}
 use Rattle.my_session.specs.declared.tables.Plan.TheVariants as plans
 use Rattle.my_session.specs.declared.reactions.Reaction.{Reaction}
@@ -28,15 +28,17 @@ first_task DropResult = Dropping
 first_task TakeSet = Taking
 first_task SkipTaken = Skipping
 first_task Ping = Cleaning Ping
+first_task Reset = Cleaning Reset
 first_task Quit = Cleaning Quit
 
 -- what a call does first: a statement to prepare is looked for in the cache, parameters are looked at, those of a batch's first execution
--- among them, and a statement to close isn't kept any more
+-- among them, a statement to close isn't kept any more, and before a reset the server's version is looked at
 abbrev pub first_plan : CallKind → Plan
 first_plan Prepare = plans.Finds
 first_plan Execute = plans.Checks
 first_plan Batch = plans.Batches
 first_plan CloseStmt = plans.Forgets
+first_plan Reset = plans.Resets
 first_plan c = plans.Starts (first_task c)
 
 -- the rest of the earlier response is read, the end of a lone OK that is still to be returned is dropped, and then p is done
@@ -106,6 +108,8 @@ plan_of Giving s untold = plans.Gives
 plan_of (Arranging n) s untold = clean_plan (plans.Arranges n) s untold
 plan_of (Running n) s untold = run_plan n s
 plan_of (Finishing n) s untold = clean_plan (plans.Runs n) s untold
+plan_of Clearing s untold = plans.Clears
+plan_of (Setting n) s untold = clean_plan (plans.Sets n) s untold
 plan_of Reading s untold = if untold then plans.Ends else read_plan s
 plan_of Dropping s untold = if untold then plans.Passes else drop_plan s
 plan_of Taking s untold = if untold then plans.Takes else take_plan s
@@ -156,10 +160,18 @@ react_query c k = react_head (reactions.Readies true) (Own c) k
 abbrev pub react_running : ℕ → Kind → Reaction
 react_running n k = react_head (reactions.Goes (Finishing n)) (Running n) k
 
+-- a response of one payload, and what becomes of an OK
+abbrev pub react_single : Reaction → Kind → Reaction
+react_single good (kinds.Good status) = good
+react_single good kinds.Failed = reactions.Refuses
+react_single good k = reactions.Breaks
+
 abbrev pub react_ping : Kind → Reaction
-react_ping (kinds.Good status) = reactions.Readies false
-react_ping kinds.Failed = reactions.Refuses
-react_ping k = reactions.Breaks
+react_ping k = react_single (reactions.Readies false) k
+
+-- a reset that was accepted is followed by the queries that set the server's session up
+abbrev pub react_reset : Kind → Reaction
+react_reset k = react_single (reactions.Goes Clearing) k
 
 abbrev pub react_own : CallKind → Kind → Reaction
 react_own Connect k = react_connect k
@@ -167,6 +179,7 @@ react_own Query k = react_query Query k
 react_own Prepare k = react_whole (Own Prepare) k
 react_own Execute k = react_query Execute k
 react_own Ping k = react_ping k
+react_own Reset k = react_reset k
 react_own _ k = reactions.Breaks
 
 abbrev pub react_reading : Kind → Reaction
@@ -214,6 +227,7 @@ react (Own c) k = react_own c k
 react (Arranging n) k = react_whole (Arranging n) k
 react (Running n) k = react_running n k
 react (Finishing n) k = react_whole (Finishing n) k
+react (Setting n) k = react_whole (Setting n) k
 react Reading k = react_reading k
 react Dropping k = react_dropping k
 react Taking k = react_taking k
@@ -240,6 +254,8 @@ closes_when_cancelled Giving s = true
 closes_when_cancelled (Arranging n) s = true
 closes_when_cancelled (Running n) s = true
 closes_when_cancelled (Finishing n) s = true
+closes_when_cancelled Clearing s = true
+closes_when_cancelled (Setting n) s = true
 closes_when_cancelled Reading s = awaits_head s
 closes_when_cancelled Dropping s = awaits_head s
 closes_when_cancelled Taking s = awaits_head s

@@ -19,7 +19,7 @@ pub use login::login_for;
 pub use reactions::Reaction;
 pub use routine::{
     ExecBulkRoutine, ExecRoutine, NextSetRoutine, PingRoutine, PrepareRoutine, QueryRoutine,
-    Routine,
+    ResetRoutine, Routine,
 };
 pub use session::Session;
 pub use tables::Plan;

@@ -1,7 +1,7 @@
 //! What a task makes of a payload.
 
 ghost use Rattle.std.specs.Prelude.{◌≡◌, true, false};
-ghost use Rattle.my_session.specs.Tables.{react, react_head, react_whole, is_breaking};
+ghost use Rattle.my_session.specs.Tables.{react, react_head, react_single, react_whole, is_breaking};
 
 use crate::task::Task;
 use my_grammar::Kind;
@@ -77,11 +77,12 @@ fn react_head(good: Reaction, task: Task, kind: Kind) -> Reaction
     }
 }
 
-fn react_ping(kind: Kind) -> Reaction
-    ensures { result ≡ react (Task.Own CallKind.Ping) kind }
+// What becomes of one payload that is an OK or an ERR.
+fn react_single(good: Reaction, kind: Kind) -> Reaction
+    ensures { result ≡ react_single good kind }
 {
     match kind {
-        Kind::Good(_) => Reaction::Readies(false),
+        Kind::Good(_) => good,
         Kind::Failed => Reaction::Refuses,
         _ => Reaction::Breaks,
     }
@@ -96,7 +97,8 @@ fn react_own(call: CallKind, kind: Kind) -> Reaction
             react_head(Reaction::Readies(true), Task::Own(call), kind)
         }
         CallKind::Prepare => react_whole(Task::Own(call), kind),
-        CallKind::Ping => react_ping(kind),
+        CallKind::Ping => react_single(Reaction::Readies(false), kind),
+        CallKind::Reset => react_single(Reaction::Goes(Task::Clearing), kind),
         CallKind::Batch
         | CallKind::CloseStmt
         | CallKind::NextRow
@@ -157,10 +159,15 @@ pub fn react_to(task: Task, kind: Kind) -> Reaction
     ensures { result ≡ react task kind }
 {
     match task {
-        Task::Nothing | Task::Begun(_) | Task::Giving | Task::Leaving | Task::Failing(_, _) => {
-            Reaction::Breaks
+        Task::Nothing
+        | Task::Begun(_)
+        | Task::Giving
+        | Task::Clearing
+        | Task::Leaving
+        | Task::Failing(_, _) => Reaction::Breaks,
+        Task::Cleaning(_) | Task::Arranging(_) | Task::Finishing(_) | Task::Setting(_) => {
+            react_whole(task, kind)
         }
-        Task::Cleaning(_) | Task::Arranging(_) | Task::Finishing(_) => react_whole(task, kind),
         Task::Running(sent) => react_head(Reaction::Goes(Task::Finishing(sent)), task, kind),
         Task::Own(call) => react_own(call, kind),
         Task::Reading => react_reading(kind),

@@ -146,3 +146,21 @@ impl Routine for PingRoutine {
         Ok(Call::Ping)
     }
 }
+
+/// Resets the server's session, where the server can.
+#[derive(Clone, Copy, Debug, Drop)]
+pub struct ResetRoutine;
+
+impl ResetRoutine {
+    pub fn new() -> ResetRoutine {
+        ResetRoutine
+    }
+}
+
+impl Routine for ResetRoutine {
+    ghost call_of = { λ routine. calls.Reset };
+
+    fn into_call(self) -> Result<Call, NoMemory> {
+        Ok(Call::Reset)
+    }
+}

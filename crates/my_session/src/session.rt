@@ -9,6 +9,7 @@ mod facts;
 mod payload;
 mod preparing;
 mod receiving;
+mod resetting;
 mod sending;
 mod stepping;
 
@@ -89,6 +90,7 @@ fn failing(task: Task, fault: LinkFault) -> Task
         Task::Giving => Task::Failing(CallKind::Prepare, fault),
         Task::Arranging(_) => Task::Failing(CallKind::Connect, fault),
         Task::Running(_) | Task::Finishing(_) => Task::Failing(CallKind::Batch, fault),
+        Task::Clearing | Task::Setting(_) => Task::Failing(CallKind::Reset, fault),
         Task::Reading => Task::Failing(CallKind::NextRow, fault),
         Task::Dropping => Task::Failing(CallKind::DropResult, fault),
         Task::Taking => Task::Failing(CallKind::TakeSet, fault),

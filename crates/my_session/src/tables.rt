@@ -22,6 +22,8 @@ pub enum Plan {
     Batches,
     /// A statement isn't kept any more.
     Forgets,
+    /// A reset begins: the server's version is looked at.
+    Resets,
     /// The end of a lone OK that no read returned is dropped.
     Hears,
     /// The call's own command is owed.
@@ -32,6 +34,11 @@ pub enum Plan {
     /// The next query that sets the connection up is owed, after this many others; where none is left, the
     /// connection is made.
     Arranges(usize),
+    /// No statement is kept any more: the reset was accepted.
+    Clears,
+    /// The next query that sets the server's session up after a reset is owed, after this many others; where none is left,
+    /// the call is answered.
+    Sets(usize),
     /// The call is answered: its command was accepted.
     Readies,
     /// The call is answered: its rows follow, and their columns are known from now on.
@@ -68,6 +75,7 @@ fn first_task(call: CallKind) -> Task
         | CallKind::Batch
         | CallKind::CloseStmt
         | CallKind::Ping
+        | CallKind::Reset
         | CallKind::Quit => Task::Cleaning(call),
         CallKind::NextRow => Task::Reading,
         CallKind::DropResult => Task::Dropping,
@@ -84,6 +92,7 @@ fn first_plan(call: CallKind) -> Plan
         CallKind::Execute => Plan::Checks,
         CallKind::Batch => Plan::Batches,
         CallKind::CloseStmt => Plan::Forgets,
+        CallKind::Reset => Plan::Resets,
         CallKind::Connect
         | CallKind::Query
         | CallKind::NextRow
@@ -147,7 +156,8 @@ fn own_plan(call: CallKind, spot: Spot) -> Plan
         | CallKind::DropResult
         | CallKind::TakeSet
         | CallKind::SkipTaken
-        | CallKind::Ping => Plan::Reads,
+        | CallKind::Ping
+        | CallKind::Reset => Plan::Reads,
     }
 }
 
@@ -167,6 +177,7 @@ fn ask_plan(call: CallKind) -> Plan
         | CallKind::TakeSet
         | CallKind::SkipTaken
         | CallKind::Ping
+        | CallKind::Reset
         | CallKind::Quit => Plan::Asks(call),
     }
 }
@@ -241,6 +252,8 @@ pub fn plan_for(task: Task, spot: Spot, untold: bool) -> Plan
         Task::Arranging(sent) => clean_plan(Plan::Arranges(sent), spot, untold),
         Task::Running(sent) => run_plan(sent, spot),
         Task::Finishing(sent) => clean_plan(Plan::Runs(sent), spot, untold),
+        Task::Clearing => Plan::Clears,
+        Task::Setting(sent) => clean_plan(Plan::Sets(sent), spot, untold),
         Task::Reading => read_plan(spot, untold),
         Task::Dropping => drop_plan(spot, untold),
         Task::Taking => take_plan(spot, untold),
@@ -280,6 +293,8 @@ pub fn closes_when_cancelled(task: Task, spot: Spot) -> bool
         | Task::Arranging(_)
         | Task::Running(_)
         | Task::Finishing(_)
+        | Task::Clearing
+        | Task::Setting(_)
         | Task::Failing(_, _) => true,
         Task::Reading | Task::Dropping | Task::Taking | Task::Skipping => awaits_head(spot),
     }

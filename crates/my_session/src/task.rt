@@ -31,6 +31,10 @@ pub enum Task {
     Running(usize),
     /// This many executions of a batch were sent. The rest of the last response is read whole.
     Finishing(usize),
+    /// A reset was accepted.
+    Clearing,
+    /// After a reset this many queries that set the server's session up were sent. Their answers are read whole.
+    Setting(usize),
     /// The next row is awaited.
     Reading,
     /// What is left is passed over.

@@ -19,6 +19,8 @@ mod play;
 #[cfg(test)]
 mod prepares;
 #[cfg(test)]
+mod resets;
+#[cfg(test)]
 mod routines;
 #[cfg(test)]
 mod statements;

@@ -4,7 +4,7 @@ ghost use Rattle.std.specs.Prelude.{◌≡◌, true};
 ghost use Rattle.my_session.specs.Tasks.{is_open};
 
 use crate::hex::bytes_of;
-use crate::play::{LOGIN, options};
+use crate::play::{VERSION, login, options};
 use my_frame::{MemSink, MemSource, NoMemory, Sink, SinkStep, Source, SourceStep};
 use my_reading::{Answer, Call, CallKind, Error};
 use my_session::{LinkFault, Session, SessionStep};
@@ -57,7 +57,8 @@ fn call<S: Source, K: Sink>(
 }
 
 fn server(alloc: Global) -> Result<MemSource, NoMemory> {
-    Ok(MemSource::new(bytes_of(alloc, &[LOGIN])?))
+    let login = login(alloc, VERSION)?;
+    Ok(MemSource::new(bytes_of(alloc, &[login.as_str()])?))
 }
 
 // Whether the session connects and sends its response.

@@ -14,11 +14,25 @@ use my_value::{Row, Value};
 use std::alloc::{AllocError, Global};
 use std::fmt::Write;
 
-/// The greeting, and the OK after the client's response.
-pub const LOGIN: &str =
-    "4a000000 0a 382e302e333600 07000000 6162636465666768 00 8ba2 2d 0200 1f01 15 \
+/// The version of the usual server.
+pub const VERSION: &str = "8.0.36";
+
+// What follows the version in the greeting, and the OK after the client's response.
+const LOGIN_TAIL: &str = "00 07000000 6162636465666768 00 8ba2 2d 0200 1f01 15 \
     00000000000000000000 696a6b6c6d6e6f707172737400 \
     6d7973716c5f6e61746976655f70617373776f726400 07000002 00000002000000";
+
+/// The greeting of a server of this version, and the OK after the client's response. Its greeting is 68 bytes longer than the
+/// version.
+pub fn login(alloc: Global, version: &str) -> Result<String, AllocError> {
+    let mut text = String::new(alloc);
+    write!(text, "{:02x}000000 0a ", version.len().saturating_add(68))?;
+    for &byte in version.as_bytes() {
+        write!(text, "{byte:02x}")?;
+    }
+    text.push_str(LOGIN_TAIL)?;
+    Ok(text)
+}
 
 /// The response to that greeting: its header and capabilities.
 pub const RESPONSE_HEAD: &str = "3c00000181a20f01";
@@ -87,6 +101,8 @@ pub fn call_of(alloc: Global, text: &str) -> Result<Call, NoMemory> {
         "take" => Ok(Call::TakeSet),
         "skip" => Ok(Call::SkipTaken),
         "ping" => Ok(Call::Ping),
+        "reset" => Ok(Call::Reset),
+        "prepare" => Ok(Call::Prepare(Blob::from_slice(alloc, b"DO ?")?)),
         "quit" => Ok(Call::Quit),
         _ => Ok(Call::Query(Blob::from_slice(alloc, text.as_bytes())?)),
     }
@@ -122,6 +138,7 @@ fn show_answer(text: &mut String, answer: &Answer) -> Result<(), AllocError> {
         Answer::Row(row) => show_row(text, row),
         Answer::SetEnd => text.push_str("end"),
         Answer::NoSet => text.push_str("none"),
+        Answer::Flag(flag) => write!(text, "flag {flag}"),
         Answer::Stmt(statement) => write!(
             text,
             "statement {} {} {} {}",

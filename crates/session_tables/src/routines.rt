@@ -7,7 +7,7 @@ use my_params::Params;
 use my_reading::Call;
 use my_session::{
     ExecBulkRoutine, ExecRoutine, NextSetRoutine, PingRoutine, PrepareRoutine, QueryRoutine,
-    Routine, Session,
+    ResetRoutine, Routine, Session,
 };
 use my_statements::Statement;
 use std::alloc::Global;
@@ -51,7 +51,8 @@ fn all_give(alloc: Global, session: &mut Session) -> Result<bool, NoMemory> {
         executions?
             && texts_give(alloc)?
             && gives(NextSetRoutine::new(), Call::NextRow)?
-            && gives(PingRoutine::new(), Call::Ping)?,
+            && gives(PingRoutine::new(), Call::Ping)?
+            && gives(ResetRoutine::new(), Call::Reset)?,
     )
 }
 

@@ -1,7 +1,7 @@
 //! Prepared statements of a session: many through a small cache, a long value, and the columns that are known.
 
 use crate::hex::bytes_of;
-use crate::play::{LOGIN, Then, play};
+use crate::play::{Then, VERSION, login, play};
 use my_frame::limits::DEFAULT_MAX_ALLOWED_PACKET;
 use my_frame::{Blob, Listed, NoMemory};
 use my_opts::{Opts, OptsBuilder};
@@ -36,7 +36,8 @@ pub fn options(alloc: Global, cached: u64, limit: u64) -> Result<Opts, NoMemory>
 }
 
 fn connects(alloc: Global, session: &mut Session) -> Result<(), NoMemory> {
-    let bytes = bytes_of(alloc, &[LOGIN])?;
+    let login = login(alloc, VERSION)?;
+    let bytes = bytes_of(alloc, &[login.as_str()])?;
     let mut text = String::new(alloc);
     let statement = play(
         alloc,
@@ -189,7 +190,8 @@ fn a_long_value_is_sent_ahead(rt: HostRuntime) -> Result<(), Fail> {
     Ok(())
 }
 
-const ONE_COLUMN: &str = "0c000001 00 01000000 0100 0000 00 0000 \
+/// The reply to a statement without parameters, with one column.
+pub const ONE_COLUMN: &str = "0c000001 00 01000000 0100 0000 00 0000 \
     17000002 0364656600000001 31 000c3f0001000000088100000000";
 
 /// The head of a set of two columns.

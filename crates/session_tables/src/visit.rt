@@ -1,6 +1,6 @@
 //! A session that connects and then makes calls.
 
-use crate::play::{LOGIN, RESPONSE_HEAD, RESPONSE_TAIL, Then, options, turn};
+use crate::play::{RESPONSE_HEAD, RESPONSE_TAIL, Then, VERSION, login, options, turn};
 use my_frame::NoMemory;
 use my_frame::limits::DEFAULT_MAX_ALLOWED_PACKET;
 use my_session::Session;
@@ -10,6 +10,8 @@ use std::fmt::Write;
 /// A connection and its calls.
 #[derive(Clone, Copy)]
 pub struct Visit<'a> {
+    /// The server's version.
+    pub version: &'a str,
     /// The options of both settings, and the texts of the two lists, each of one byte.
     pub limit: Option<u64>,
     pub wait: Option<u64>,
@@ -29,6 +31,7 @@ pub struct Visit<'a> {
 
 /// A connection of which nothing is asked, without calls.
 pub const PLAIN: Visit<'static> = Visit {
+    version: VERSION,
     limit: Some(DEFAULT_MAX_ALLOWED_PACKET),
     wait: Some(28_800),
     init: "",
@@ -63,7 +66,8 @@ fn connecting(alloc: Global, visit: &Visit) -> Result<String, AllocError> {
 // Whether this is sent.
 fn connects_so(alloc: Global, session: &mut Session, visit: &Visit) -> Result<bool, NoMemory> {
     let mut text = String::new(alloc);
-    let bytes = [LOGIN, visit.head, visit.rest];
+    let login = login(alloc, visit.version)?;
+    let bytes = [login.as_str(), visit.head, visit.rest];
     turn(alloc, session, "connect", &bytes, visit.then, &mut text)?;
     show_settings(&mut text, session.limit(), session.wait_timeout())?;
     let want = connecting(alloc, visit)?;

@@ -12,15 +12,15 @@ use Rattle.my_grammar.specs.Sets.{Sets, NoSets, Lone, Failed, Heading, Headed, B
 use Rattle.my_grammar.specs.Talk.{Talk, Start, Unwelcome, Greeted, Settled, Asked, Replied, Queried, Preparing, Silent, context_of}
 use Rattle.my_grammar.proofs.Growth.Known.{is_greeting_kind, is_single_kind, is_head_kind, is_column_kind, is_close_kind, is_row_kind}
 use Rattle.my_reading.specs.declared.call.CallKind.{CallKind}
-use Rattle.my_reading.specs.declared.call.CallKind.TheVariants.{Connect, Query, Prepare, Execute, Batch, CloseStmt, NextRow, DropResult, TakeSet, SkipTaken, Ping, Quit}
+use Rattle.my_reading.specs.declared.call.CallKind.TheVariants.{Connect, Query, Prepare, Execute, Batch, CloseStmt, NextRow, DropResult, TakeSet, SkipTaken, Ping, Reset, Quit}
 use Rattle.my_session.specs.declared.task.Task.{Task}
-use Rattle.my_session.specs.declared.task.Task.TheVariants.{Nothing, Begun, Cleaning, Own, Giving, Arranging, Running, Finishing, Reading, Dropping, Taking, Skipping, Leaving, Failing}
+use Rattle.my_session.specs.declared.task.Task.TheVariants.{Nothing, Begun, Cleaning, Own, Giving, Arranging, Running, Finishing, Clearing, Setting, Reading, Dropping, Taking, Skipping, Leaving, Failing}
 use Rattle.my_session.specs.declared.reactions.Reaction.{Reaction}
 use Rattle.my_session.specs.declared.reactions.Reaction.TheVariants as reactions
 use Rattle.my_session.specs.Entries.{sets_of}
 use Rattle.my_session.specs.Machine.{is_greeting}
 use Rattle.my_session.specs.Stands.{is_first, is_heading, is_shaking}
-use Rattle.my_session.specs.Tables.{react, react_head, react_whole, react_connect, react_query, react_ping, react_own, is_breaking}
+use Rattle.my_session.specs.Tables.{react, react_head, react_whole, react_connect, react_query, react_single, react_own, is_breaking}
 use Rattle.my_session.proofs.Stands.Spots.{is_known}
 use Rattle.my_session.proofs.Stands.Firsts.{is_queried}
 
@@ -59,19 +59,19 @@ head_fits good t kinds.Parameter g = tt
 head_fits good t kinds.Field g = tt
 head_fits good t kinds.Bad g = tt
 
-ping_fits : (k : Kind) → FitsKind (react_ping k) k
-ping_fits (kinds.Greets n) = tt
-ping_fits (kinds.Good status) = tt
-ping_fits kinds.Failed = refl
-ping_fits (kinds.Count n) = tt
-ping_fits kinds.Column = tt
-ping_fits kinds.ColumnsDone = tt
-ping_fits kinds.Row = tt
-ping_fits (kinds.End status) = tt
-ping_fits (kinds.Prepared params columns) = tt
-ping_fits kinds.Parameter = tt
-ping_fits kinds.Field = tt
-ping_fits kinds.Bad = tt
+single_fits : (good : Reaction) (k : Kind) → ((status : StatusFlags) → FitsKind good (kinds.Good status)) → FitsKind (react_single good k) k
+single_fits good (kinds.Greets n) g = tt
+single_fits good (kinds.Good status) g = g status
+single_fits good kinds.Failed g = refl
+single_fits good (kinds.Count n) g = tt
+single_fits good kinds.Column g = tt
+single_fits good kinds.ColumnsDone g = tt
+single_fits good kinds.Row g = tt
+single_fits good (kinds.End status) g = tt
+single_fits good (kinds.Prepared params columns) g = tt
+single_fits good kinds.Parameter g = tt
+single_fits good kinds.Field g = tt
+single_fits good kinds.Bad g = tt
 
 whole_fits : (t : Task) (k : Kind) → FitsKind (react_whole t k) k
 whole_fits t (kinds.Greets n) = tt
@@ -98,7 +98,8 @@ own_fits NextRow k = tt
 own_fits DropResult k = tt
 own_fits TakeSet k = tt
 own_fits SkipTaken k = tt
-own_fits Ping k = ping_fits k
+own_fits Ping k = single_fits (reactions.Readies false) k (λ _. tt)
+own_fits Reset k = single_fits (reactions.Goes Clearing) k (λ _. tt)
 own_fits Quit k = tt
 
 pub react_fits : (t : Task) (k : Kind) → FitsKind (react t k) k
@@ -110,6 +111,8 @@ react_fits Giving k = tt
 react_fits (Arranging n) k = whole_fits (Arranging n) k
 react_fits (Running n) k = head_fits (reactions.Goes (Finishing n)) (Running n) k (λ _. tt)
 react_fits (Finishing n) k = whole_fits (Finishing n) k
+react_fits Clearing k = tt
+react_fits (Setting n) k = whole_fits (Setting n) k
 react_fits Reading (kinds.Greets n) = tt
 react_fits Reading (kinds.Good status) = tt
 react_fits Reading kinds.Failed = refl
@@ -246,19 +249,19 @@ single_breaks kinds.Parameter e b = cc
 single_breaks kinds.Field e b = cc
 single_breaks kinds.Bad e b = refl
 
-ping_breaks : (k : Kind) → is_single_kind k ≡ true → is_breaking (react_ping k) ≡ true → is_bad k ≡ true
-ping_breaks (kinds.Greets n) e b = cc
-ping_breaks (kinds.Good status) e b = cc
-ping_breaks kinds.Failed e b = cc
-ping_breaks (kinds.Count n) e b = cc
-ping_breaks kinds.Column e b = cc
-ping_breaks kinds.ColumnsDone e b = cc
-ping_breaks kinds.Row e b = cc
-ping_breaks (kinds.End status) e b = cc
-ping_breaks (kinds.Prepared params columns) e b = cc
-ping_breaks kinds.Parameter e b = cc
-ping_breaks kinds.Field e b = cc
-ping_breaks kinds.Bad e b = refl
+answer_breaks : (good : Reaction) → is_breaking good ≡ false → (k : Kind) → is_single_kind k ≡ true → is_breaking (react_single good k) ≡ true → is_bad k ≡ true
+answer_breaks good goes (kinds.Greets n) e b = cc
+answer_breaks good goes (kinds.Good status) e b = let no : true ≡ false = sym b ∙ goes in cc
+answer_breaks good goes kinds.Failed e b = cc
+answer_breaks good goes (kinds.Count n) e b = cc
+answer_breaks good goes kinds.Column e b = cc
+answer_breaks good goes kinds.ColumnsDone e b = cc
+answer_breaks good goes kinds.Row e b = cc
+answer_breaks good goes (kinds.End status) e b = cc
+answer_breaks good goes (kinds.Prepared params columns) e b = cc
+answer_breaks good goes kinds.Parameter e b = cc
+answer_breaks good goes kinds.Field e b = cc
+answer_breaks good goes kinds.Bad e b = refl
 
 -- a set's head is awaited, or a part of it
 head_breaks : (c : CallKind) (k : Kind) → is_head_kind k ≡ true → is_breaking (react_query c k) ≡ true → is_bad k ≡ true
@@ -342,6 +345,9 @@ arranging_awaits n spot waits past = record { waits = waits; breaks = whole_brea
 pub finishing_awaits : (n : ℕ) (spot : Spot) → is_idle spot ≡ false → is_greeting spot ≡ false → Awaits (Finishing n) spot
 finishing_awaits n spot waits past = record { waits = waits; breaks = whole_breaks (Finishing n) spot past }
 
+pub setting_awaits : (n : ℕ) (spot : Spot) → is_idle spot ≡ false → is_greeting spot ≡ false → Awaits (Setting n) spot
+setting_awaits n spot waits past = record { waits = waits; breaks = whole_breaks (Setting n) spot past }
+
 pub reading_awaits : (spot : Spot) → is_idle spot ≡ false → is_greeting spot ≡ false → Awaits Reading spot
 reading_awaits spot waits past = record { waits = waits; breaks = reading_breaks spot past }
 
@@ -349,7 +355,10 @@ pub dropping_awaits : (spot : Spot) → is_idle spot ≡ false → is_greeting s
 dropping_awaits spot waits past = record { waits = waits; breaks = dropping_breaks spot past }
 
 pub ping_awaits : Awaits (Own Ping) spots.Single
-ping_awaits = record { waits = refl; breaks = ping_breaks }
+ping_awaits = record { waits = refl; breaks = answer_breaks (reactions.Readies false) refl }
+
+pub reset_awaits : Awaits (Own Reset) spots.Single
+reset_awaits = record { waits = refl; breaks = answer_breaks (reactions.Goes Clearing) refl }
 
 pub connect_awaits : (spot : Spot) → is_shaking spot ≡ true → Awaits (Own Connect) spot
 connect_awaits spots.Idle e = cc

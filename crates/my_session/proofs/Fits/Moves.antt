@@ -2,12 +2,12 @@
 use Rattle.std.proofs.Common.{◌≡◌, ◌||◌, Bool, true, false, Option, Some, None, refl, ◌∙◌}
 use Rattle.my_reading.specs.declared.call.CallKind.{CallKind}
 use Rattle.my_session.specs.declared.task.Task.{Task}
-use Rattle.my_session.specs.declared.task.Task.TheVariants.{Nothing, Begun, Cleaning, Own, Giving, Arranging, Running, Finishing, Reading, Dropping, Taking, Skipping, Leaving, Failing}
+use Rattle.my_session.specs.declared.task.Task.TheVariants.{Nothing, Begun, Cleaning, Own, Giving, Arranging, Running, Finishing, Clearing, Setting, Reading, Dropping, Taking, Skipping, Leaving, Failing}
 use Rattle.my_reading.specs.declared.error.Error.{Error}
 use Rattle.my_reading.specs.Calls.{asks, is_connect}
 use Rattle.my_session.specs.Tasks.{kind_in, fault_in}
 use Rattle.my_session.specs.Fits.{may_be_told, OwnError, is_begun}
-use Rattle.my_reading.specs.Told.{Told, ToldReady, ToldRow, ToldEnd, ToldNone, ToldStatement, ToldError, Dropped}
+use Rattle.my_reading.specs.Told.{Told, ToldReady, ToldRow, ToldEnd, ToldNone, ToldStatement, ToldFlag, ToldError, Dropped}
 use Rattle.my_session.specs.Machine.{Doing, Goes, Passes, Sends, Needs, Tells, Move, fell, with_task, with_taken, with_statements, failed_by}
 use Rattle.my_reading.specs.Statements.{Statements}
 use Rattle.my_session.specs.Seen.{Seen}
@@ -22,6 +22,8 @@ is_proper Giving = true
 is_proper (Arranging n) = true
 is_proper (Running n) = true
 is_proper (Finishing n) = true
+is_proper Clearing = true
+is_proper (Setting n) = true
 is_proper Reading = true
 is_proper Dropping = true
 is_proper Taking = true
@@ -78,6 +80,7 @@ OwnTold ended (ToldRow row) = Unit {0}
 OwnTold ended ToldEnd = Unit {0}
 OwnTold ended ToldNone = Unit {0}
 OwnTold ended (ToldStatement statement) = Unit {0}
+OwnTold ended (ToldFlag flag) = Unit {0}
 OwnTold ended (ToldError e) = OwnError ended e
 OwnTold ended (Dropped closing) = Unit {0}
 

@@ -1,5 +1,5 @@
 -- What a task plans fits its call.
-use Rattle.std.proofs.Common.{◌≡◌, ℕ, suc, Bool, true, false, Option, Some, None, refl, subst}
+use Rattle.std.proofs.Common.{◌≡◌, ℕ, suc, List, Bool, true, false, Option, Some, None, refl, subst}
 use Rattle.my_frame.specs.Front.{front_at}
 use Rattle.my_command.specs.declared.client.ClientPacket.TheVariants as packets
 use Rattle.my_command.specs.Client.Packet.{client_bytes as packet_bytes}
@@ -17,17 +17,19 @@ use Rattle.my_reading.specs.Executions.{Values, Fitting, Unfitting, values_for}
 use Rattle.my_reading.specs.Facts.{prepared_by}
 use Rattle.my_reading.specs.Statements.{held_in, is_mixed_text, known_in, leaving, names_of, query_of, statement_with}
 use Rattle.my_reading.specs.declared.call.CallKind.{CallKind}
-use Rattle.my_reading.specs.declared.call.CallKind.TheVariants.{Connect, Query, Prepare, Execute, Batch, CloseStmt, NextRow, DropResult, TakeSet, SkipTaken, Ping, Quit}
+use Rattle.my_reading.specs.declared.call.CallKind.TheVariants.{Connect, Query, Prepare, Execute, Batch, CloseStmt, NextRow, DropResult, TakeSet, SkipTaken, Ping, Reset, Quit}
 use Rattle.my_session.specs.declared.task.Task.{Task}
-use Rattle.my_session.specs.declared.task.Task.TheVariants.{Nothing, Begun, Cleaning, Own, Giving, Arranging, Running, Finishing, Reading, Dropping, Taking, Skipping, Leaving, Failing}
+use Rattle.my_session.specs.declared.task.Task.TheVariants.{Nothing, Begun, Cleaning, Own, Giving, Arranging, Running, Finishing, Clearing, Setting, Reading, Dropping, Taking, Skipping, Leaving, Failing}
 use Rattle.my_session.specs.declared.tables.Plan.{Plan}
 use Rattle.my_session.specs.declared.tables.Plan.TheVariants as plans
 use Rattle.my_reading.specs.Calls.{asks, call_of, id_in, params_in, statement_in, text_in, lists_in}
 use Rattle.my_session.specs.Tasks.{kind_in, fault_in}
-use Rattle.my_reading.specs.Commands.{closing, command_of, connecting, execution}
+use Rattle.my_reading.specs.Commands.{closing, command_of, connecting, execution, queried, setup_texts}
 use Rattle.my_session.specs.Fits.{may_be_told, is_begun}
 use Rattle.my_reading.specs.Told.{ToldReady, ToldEnd, ToldNone, ToldStatement}
-use Rattle.my_session.specs.Machine.{Goes, Sends, Move, next_terms, unless_exceeds, unless_refused, refusal, refused_by, looked, with_kept, kept, asked, batched, ran, arranged, queued, planned, with_task}
+use Rattle.my_reading.specs.Versions.{can_reset}
+use Rattle.my_handshake.specs.Version.{version_of}
+use Rattle.my_session.specs.Machine.{Goes, Sends, Move, next_terms, unless_exceeds, unless_refused, refusal, refused_by, looked, with_kept, kept, asked, batched, ran, arranged, offered, set_up, queued, planned, with_task}
 use Rattle.my_session.specs.Seen.{Seen}
 use Rattle.my_session.specs.Tables.{plan_of, clean_plan, ask_plan, run_plan, own_plan, query_plan, execute_plan, prepare_plan, read_plan, drop_plan, take_plan, skip_plan, first_plan}
 use Rattle.my_session.proofs.Fits.Moves.{is_proper, GoesOn, going, IsOn, on_here, on_task, on_taken, on_statements, on_fell, MoveFits, any_error, failed_fits}
@@ -65,6 +67,7 @@ asked_fits s DropResult a o r = cc
 asked_fits s TakeSet a o r = cc
 asked_fits s SkipTaken a o r = cc
 asked_fits s Ping a o r = begins_if s s (Some Ping) (Own Ping) (Asked (next_terms s) (packet_bytes packets.Ping)) _ (on_here s) refl refl
+asked_fits s Reset a o r = begins_if s s (Some Reset) (Own Reset) (Asked (next_terms s) (packet_bytes packets.ResetConnection)) _ (on_here s) refl refl
 asked_fits s Quit a o r = begins_if s s (Some Quit) (Own Quit) (Silent (next_terms s) (packet_bytes packets.Quit)) _ (on_here s) refl refl
 
 arranged_fits : (s : Seen) (c : Option CallKind) (n : ℕ) (o : Option Talk) → may_be_told c ToldReady ≡ true → MoveFits c s (arranged s n o)
@@ -90,6 +93,15 @@ kept_fits : (s : Seen) (o : Option ℕ) → MoveFits (Some Prepare) s (kept (wit
 kept_fits s None = record { fits = going (Some Prepare) Giving refl refl refl refl; is_on = on_task s (with_kept s) Giving false (on_statements s s _ (on_here s)); own = λ _. tt }
 kept_fits s (Some id) = begins_if s (with_kept s) (Some Prepare) Giving (closing (next_terms s) id) _ (on_statements s s _ (on_here s)) refl refl
 
+-- a reset
+offered_fits : (s : Seen) (b : Bool) → MoveFits (Some Reset) s (offered s b)
+offered_fits s true = record { fits = going (Some Reset) (Cleaning Reset) refl refl refl refl; is_on = on_task s s (Cleaning Reset) s.untold (on_here s); own = λ _. tt }
+offered_fits s false = record { fits = refl; is_on = on_task s s Nothing s.untold (on_here s); own = λ _. tt }
+
+set_up_fits : (s : Seen) (n : ℕ) (o : Option (List ℕ)) → MoveFits (Some Reset) s (set_up s n o)
+set_up_fits s n None = record { fits = refl; is_on = on_task s s Nothing s.untold (on_here s); own = λ _. tt }
+set_up_fits s n (Some text) = begins_if s s (Some Reset) (Setting (suc n)) (queried (next_terms s) text) _ (on_here s) refl refl
+
 -- what a task may plan
 abbrev PlanFits : Task → Option CallKind → Plan → Type 0
 PlanFits t c plans.Reads = is_begun t ≡ false
@@ -100,6 +112,9 @@ PlanFits t c (plans.Runs n) = Some Batch ≡ c
 PlanFits t c plans.Batches = Some Batch ≡ c
 PlanFits t c (plans.Notes n) = Some Batch ≡ c
 PlanFits t c (plans.Arranges n) = may_be_told c ToldReady ≡ true
+PlanFits t c plans.Resets = Some Reset ≡ c
+PlanFits t c plans.Clears = Some Reset ≡ c
+PlanFits t c (plans.Sets n) = Some Reset ≡ c
 PlanFits t c plans.Readies = may_be_told c ToldReady ≡ true
 PlanFits t c plans.Finds = Some Prepare ≡ c
 PlanFits t c plans.Checks = Some Execute ≡ c
@@ -126,6 +141,9 @@ planned_fits s plans.Batches a e f = subst (λ (k : Option CallKind). MoveFits k
 planned_fits s (plans.Runs n) a e f = subst (λ (k : Option CallKind). MoveFits k s (ran s (suc n) (slice_get (lists_in s.call) n))) f (ran_fits s (suc n) (slice_get (lists_in s.call) n))
 planned_fits s (plans.Notes n) a e f = record { fits = going (kind_in s.task) (Finishing n) refl f refl refl; is_on = on_statements s (with_task s (Finishing n) s.untold) _ (on_task s s (Finishing n) s.untold (on_here s)); own = λ _. tt }
 planned_fits s (plans.Arranges n) a e f = arranged_fits s (kind_in s.task) n (connecting s.login (next_terms s) (suc n)) f
+planned_fits s plans.Resets a e f = subst (λ (k : Option CallKind). MoveFits k s (offered s (can_reset (version_of s.facts.version)))) f (offered_fits s (can_reset (version_of s.facts.version)))
+planned_fits s plans.Clears a e f = record { fits = going (kind_in s.task) (Setting 0) refl f refl refl; is_on = on_statements s (with_task s (Setting 0) s.untold) _ (on_task s s (Setting 0) s.untold (on_here s)); own = λ _. tt }
+planned_fits s (plans.Sets n) a e f = subst (λ (k : Option CallKind). MoveFits k s (set_up s n (slice_get (setup_texts s.login) n))) f (set_up_fits s n (slice_get (setup_texts s.login) n))
 planned_fits s plans.Readies a e f = record { fits = f; is_on = on_task s s Nothing s.untold (on_here s); own = λ _. tt }
 planned_fits s plans.Learns a e f = record { fits = f; is_on = on_statements s (with_task s Nothing s.untold) _ (on_task s s Nothing s.untold (on_here s)); own = λ _. tt }
 planned_fits s plans.Keeps a e f = subst (λ (k : Option CallKind). MoveFits k s (kept (with_kept s) (leaving (query_of (text_in s.call)) (prepared_by s.facts) s.statements))) f (kept_fits s (leaving (query_of (text_in s.call)) (prepared_by s.facts) s.statements))
@@ -149,6 +167,7 @@ first_plan_fits t DropResult = going (Some DropResult) Dropping refl refl refl r
 first_plan_fits t TakeSet = going (Some TakeSet) Taking refl refl refl refl
 first_plan_fits t SkipTaken = going (Some SkipTaken) Skipping refl refl refl refl
 first_plan_fits t Ping = going (Some Ping) (Cleaning Ping) refl refl refl refl
+first_plan_fits t Reset = refl
 first_plan_fits t Quit = going (Some Quit) (Cleaning Quit) refl refl refl refl
 
 clean_plan_fits : (t : Task) (c : Option CallKind) (p : Plan) → is_begun t ≡ false → PlanFits t c p → (spot : Spot) (untold : Bool) → PlanFits t c (clean_plan p spot untold)
@@ -228,6 +247,7 @@ own_plan_fits DropResult spot = refl
 own_plan_fits TakeSet spot = refl
 own_plan_fits SkipTaken spot = refl
 own_plan_fits Ping spot = refl
+own_plan_fits Reset spot = refl
 own_plan_fits Quit spot = refl
 
 read_plan_fits : (spot : Spot) → PlanFits Reading (Some NextRow) (read_plan spot)
@@ -306,6 +326,7 @@ ask_plan_fits t DropResult a = (a, refl, refl)
 ask_plan_fits t TakeSet a = (a, refl, refl)
 ask_plan_fits t SkipTaken a = (a, refl, refl)
 ask_plan_fits t Ping a = (a, refl, refl)
+ask_plan_fits t Reset a = (a, refl, refl)
 ask_plan_fits t Quit a = (a, refl, refl)
 
 run_plan_fits : (n : ℕ) (spot : Spot) → PlanFits (Running n) (Some Batch) (run_plan n spot)
@@ -333,6 +354,8 @@ plan_fits Giving spot untold a e = refl
 plan_fits (Arranging n) spot untold a e = clean_plan_fits (Arranging n) (Some Connect) (plans.Arranges n) refl refl spot untold
 plan_fits (Running n) spot untold a e = run_plan_fits n spot
 plan_fits (Finishing n) spot untold a e = clean_plan_fits (Finishing n) (Some Batch) (plans.Runs n) refl refl spot untold
+plan_fits Clearing spot untold a e = refl
+plan_fits (Setting n) spot untold a e = clean_plan_fits (Setting n) (Some Reset) (plans.Sets n) refl refl spot untold
 plan_fits Reading spot true a e = refl
 plan_fits Reading spot false a e = read_plan_fits spot
 plan_fits Dropping spot true a e = refl

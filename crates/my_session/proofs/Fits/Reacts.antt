@@ -8,9 +8,9 @@ use Rattle.my_grammar.specs.declared.spot.Kind.{Kind}
 use Rattle.my_grammar.specs.declared.spot.Kind.TheVariants as kinds
 use Rattle.my_grammar.specs.Kinds.{kind_there}
 use Rattle.my_reading.specs.declared.call.CallKind.{CallKind}
-use Rattle.my_reading.specs.declared.call.CallKind.TheVariants.{Connect, Query, Prepare, Execute, Batch, CloseStmt, NextRow, DropResult, TakeSet, SkipTaken, Ping, Quit}
+use Rattle.my_reading.specs.declared.call.CallKind.TheVariants.{Connect, Query, Prepare, Execute, Batch, CloseStmt, NextRow, DropResult, TakeSet, SkipTaken, Ping, Reset, Quit}
 use Rattle.my_session.specs.declared.task.Task.{Task}
-use Rattle.my_session.specs.declared.task.Task.TheVariants.{Nothing, Begun, Cleaning, Own, Giving, Arranging, Running, Finishing, Reading, Dropping, Taking, Skipping, Leaving, Failing}
+use Rattle.my_session.specs.declared.task.Task.TheVariants.{Nothing, Begun, Cleaning, Own, Giving, Arranging, Running, Finishing, Clearing, Setting, Reading, Dropping, Taking, Skipping, Leaving, Failing}
 use Rattle.my_session.specs.declared.reactions.Reaction.{Reaction}
 use Rattle.my_session.specs.declared.reactions.Reaction.TheVariants as reactions
 use Rattle.my_session.specs.Tasks.{kind_in, fault_in}
@@ -20,7 +20,7 @@ use Rattle.my_reading.specs.Told.{ToldReady, ToldRow, ToldEnd}
 use Rattle.my_session.specs.Machine.{Needs, Move, fell, advanced, with_task, failed_by, reply_to, above, unless_above, refused, gave, passed, reacted, read_by, is_doubled, reading}
 use Rattle.my_reading.specs.Rows.{row_at}
 use Rattle.my_session.specs.Seen.{Seen}
-use Rattle.my_session.specs.Tables.{react, react_whole, is_breaking, is_connecting, react_head}
+use Rattle.my_session.specs.Tables.{react, react_whole, is_breaking, is_connecting, react_head, react_single}
 use Rattle.my_session.proofs.Fits.Moves.{is_proper, GoesOn, going, IsOn, on_here, on_task, on_taken, on_fell, MoveFits, any_error, failed_fits}
 
 -- what a reaction may be to a payload
@@ -77,19 +77,19 @@ head_react t good kinds.Parameter on ready = on
 head_react t good kinds.Field on ready = on
 head_react t good kinds.Bad on ready = tt
 
-ping_react : (k : Kind) → ReactionFits (Own Ping) (Some Ping) (react (Own Ping) k)
-ping_react (kinds.Greets n) = tt
-ping_react (kinds.Good status) = refl
-ping_react kinds.Failed = tt
-ping_react (kinds.Count n) = tt
-ping_react kinds.Column = tt
-ping_react kinds.ColumnsDone = tt
-ping_react kinds.Row = tt
-ping_react (kinds.End status) = tt
-ping_react (kinds.Prepared params columns) = tt
-ping_react kinds.Parameter = tt
-ping_react kinds.Field = tt
-ping_react kinds.Bad = tt
+single_react : (t : Task) (good : Reaction) (k : Kind) → ReactionFits t (kind_in t) good → ReactionFits t (kind_in t) (react_single good k)
+single_react t good (kinds.Greets n) ready = tt
+single_react t good (kinds.Good status) ready = ready
+single_react t good kinds.Failed ready = tt
+single_react t good (kinds.Count n) ready = tt
+single_react t good kinds.Column ready = tt
+single_react t good kinds.ColumnsDone ready = tt
+single_react t good kinds.Row ready = tt
+single_react t good (kinds.End status) ready = tt
+single_react t good (kinds.Prepared params columns) ready = tt
+single_react t good kinds.Parameter ready = tt
+single_react t good kinds.Field ready = tt
+single_react t good kinds.Bad ready = tt
 
 reading_react : (k : Kind) → ReactionFits Reading (Some NextRow) (react Reading k)
 reading_react (kinds.Greets n) = tt
@@ -144,7 +144,8 @@ own_react NextRow k = tt
 own_react DropResult k = tt
 own_react TakeSet k = tt
 own_react SkipTaken k = tt
-own_react Ping k = ping_react k
+own_react Ping k = single_react (Own Ping) (reactions.Readies false) k refl
+own_react Reset k = single_react (Own Reset) (reactions.Goes Clearing) k (going (Some Reset) Clearing refl refl refl refl)
 own_react Quit k = tt
 
 react_fits : (t : Task) (k : Kind) → is_proper t ≡ true → ReactionFits t (kind_in t) (react t k)
@@ -156,6 +157,8 @@ react_fits Giving k a = tt
 react_fits (Arranging n) k a = whole_react (Arranging n) k a refl refl
 react_fits (Running n) k a = head_react (Running n) (reactions.Goes (Finishing n)) k (going (Some Batch) (Running n) refl refl refl refl) (going (Some Batch) (Finishing n) refl refl refl refl)
 react_fits (Finishing n) k a = whole_react (Finishing n) k a refl refl
+react_fits Clearing k a = tt
+react_fits (Setting n) k a = whole_react (Setting n) k a refl refl
 react_fits Reading k a = reading_react k
 react_fits Dropping k a = dropping_react k
 react_fits Taking k a = head_react Taking reactions.Takes k (going (Some TakeSet) Taking refl refl refl refl) refl

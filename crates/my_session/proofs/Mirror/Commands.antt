@@ -18,10 +18,10 @@ use Rattle.my_grammar.specs.Talk.{Talk, Asked, Preparing, Queried, Silent, comma
 use Rattle.my_reading.specs.declared.call.Call.{Call}
 use Rattle.my_reading.specs.declared.call.Call.TheVariants as calls
 use Rattle.my_reading.specs.declared.call.CallKind.{CallKind}
-use Rattle.my_reading.specs.declared.call.CallKind.TheVariants.{Connect, Query, Prepare, Execute, Batch, CloseStmt, NextRow, DropResult, TakeSet, SkipTaken, Ping, Quit}
+use Rattle.my_reading.specs.declared.call.CallKind.TheVariants.{Connect, Query, Prepare, Execute, Batch, CloseStmt, NextRow, DropResult, TakeSet, SkipTaken, Ping, Reset, Quit}
 use Rattle.my_reading.specs.Calls.{kind_of, call_of, asks, id_in, lists_in, params_in, statement_in, text_in}
-use Rattle.my_reading.specs.Commands.{arranging, arranging_texts, closing, command_of, connecting, execution, opening}
-use Rattle.my_reading.specs.Course.{Part, All, Head, Command, Check, Run, Reply, Keep, Give, Learn, Goes, step, return, first_above, unless_long, with_command, checked, reads, parts_of_lists, parts_of_texts, is_greeting}
+use Rattle.my_reading.specs.Commands.{arranging, arranging_texts, closing, command_of, connecting, execution, opening, setup_texts}
+use Rattle.my_reading.specs.Course.{Part, All, Head, Command, Check, Run, Reply, Keep, Give, Learn, Clear, Goes, step, return, first_above, unless_long, with_command, checked, reads, parts_of_lists, parts_of_texts, is_greeting}
 use Rattle.my_reading.specs.Leads.{Here, Then}
 use Rattle.my_reading.specs.Place.{Place, exchanges, connects_in, next_exchange, terms_of, with_exchange, without_end}
 use Rattle.my_reading.specs.Told.{ToldReady, closes}
@@ -29,7 +29,7 @@ use Rattle.my_session.specs.declared.tables.Plan.TheVariants as plans
 use Rattle.my_session.specs.declared.task.Task.{Task}
 use Rattle.my_session.specs.declared.task.Task.TheVariants as tasks
 use Rattle.my_session.specs.Machine.{Sends, Tells, queued, begins, unless_exceeds, unless_refused, refused_by, asked, executed, ran, arranged, planned, with_task, next_terms}
-use Rattle.my_session.specs.Mirror.{Mirrors, MoveReads, TaskStandsAt, ask_parts, parts_left, parts_of_runs, refusal_at, refused_at}
+use Rattle.my_session.specs.Mirror.{Mirrors, MoveReads, StandsAt, TaskStandsAt, ask_parts, parts_left, parts_of_runs, parts_of_setup, refusal_at, refused_at}
 use Rattle.my_session.specs.Seen.{Seen}
 use Rattle.my_session.specs.Stands.{owes, call_with}
 use Rattle.my_session.specs.Tables.{ask_plan}
@@ -212,6 +212,10 @@ module _ (s : Seen) (call : Call) (p : Place) (m : Mirrors s.context s.number s.
       comes = inl (record { place = p; stops = checks_it (Unfitting x) e; at = fallen_at s p s m marked; closed_is = sym (values_close (statement_in s.call) params x (ap refused_by e)) });
     }
 
+  -- the call ends, and the session rests
+  pub rests_here : StandsAt (with_task s tasks.Nothing s.untold) p
+  rests_here = record { mirrors = m; end_is = λ _ _. none_left ∙ sym (ap (λ b. b && true) told); taken_is = marked; own_end = λ no. cc; task_at = tt; settled = λ _. nothing; statements_are = λ _. known_are; checked = refl }
+
   -- the call is done once the rest is read
   ends_after : closes ToldReady (kind_of call) ≡ false → MoveReads s call (All ∷ []) p (record { seen = with_task s tasks.Nothing s.untold; does = Tells ToldReady })
   ends_after stays_open = record {
@@ -221,7 +225,7 @@ module _ (s : Seen) (call : Call) (p : Place) (m : Mirrors s.context s.number s.
     comes = inl (record {
       place = p;
       stops = done;
-      at = record { mirrors = m; end_is = λ _ _. none_left ∙ sym (ap (λ b. b && true) told); taken_is = marked; own_end = λ no. cc; task_at = tt; settled = λ _. nothing; statements_are = λ _. known_are; checked = refl };
+      at = rests_here;
       closed_is = alive ∙ sym stays_open;
     });
   }
@@ -265,6 +269,10 @@ module _ (s : Seen) (call : Call) (p : Place) (m : Mirrors s.context s.number s.
       let talk : Talk = Asked (next_terms s) (packet_bytes packets.Ping) in
       begun (tasks.Own Ping) (All ∷ []) talk (opens_own Ping talk is (λ _ _ _. refl) refl) (ap kind_in (sym task)) refl refl refl refl refl (record { kinds = tt; within = tt }) refl refl refl
       (some_bytes (packet_bytes packets.Ping) 0) refl
+  asks_reads Reset task sends is fit =
+      let talk : Talk = Asked (next_terms s) (packet_bytes packets.ResetConnection) in
+      begun (tasks.Own Reset) (All ∷ Clear ∷ parts_of_setup (setup_texts s.login)) talk (opens_own Reset talk is (λ _ _ _. refl) refl) (ap kind_in (sym task)) refl refl refl refl refl (record { kinds = tt; within = tt }) refl refl refl
+      (some_bytes (packet_bytes packets.ResetConnection) 0) refl
   asks_reads Quit task sends is fit =
       let talk : Talk = Silent (next_terms s) (packet_bytes packets.Quit) in
       begun (tasks.Own Quit) [] talk (opens_own Quit talk is (λ _ _ _. refl) refl) (ap kind_in (sym task)) refl refl refl refl refl (record { kinds = tt; within = tt }) refl refl refl

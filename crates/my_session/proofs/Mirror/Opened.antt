@@ -9,7 +9,7 @@ use Rattle.my_grammar.specs.Cut.{is_over, is_idle}
 use Rattle.my_grammar.specs.Kinds.{kind_there}
 use Rattle.my_reading.specs.declared.call.Call.{Call}
 use Rattle.my_reading.specs.declared.call.CallKind.{CallKind}
-use Rattle.my_reading.specs.declared.call.CallKind.TheVariants.{Connect, Query, Prepare, Execute, Batch, CloseStmt, NextRow, DropResult, TakeSet, SkipTaken, Ping, Quit}
+use Rattle.my_reading.specs.declared.call.CallKind.TheVariants.{Connect, Query, Prepare, Execute, Batch, CloseStmt, NextRow, DropResult, TakeSet, SkipTaken, Ping, Reset, Quit}
 use Rattle.my_reply.specs.declared.replies.PrepareOk.{PrepareOk}
 use Rattle.my_reply.specs.Replies.{prepare_ok_at}
 use Rattle.my_grammar.specs.Growth.{grow}
@@ -55,6 +55,7 @@ kind_of_call DropResult opened = refl
 kind_of_call TakeSet opened = refl
 kind_of_call SkipTaken opened = refl
 kind_of_call Ping opened = refl
+kind_of_call Reset opened = refl
 kind_of_call Quit opened = refl
 
 pub asks_not : (c : CallKind) → asks c ≡ true → is_connect c ≡ false
@@ -69,6 +70,7 @@ asks_not DropResult e = refl
 asks_not TakeSet e = refl
 asks_not SkipTaken e = refl
 asks_not Ping e = refl
+asks_not Reset e = refl
 asks_not Quit e = refl
 
 or_true_is : (b : Bool) → b || true ≡ true

@@ -23,12 +23,12 @@ use Rattle.my_grammar.specs.Response.{response}
 use Rattle.my_grammar.specs.Talk.{context_of}
 use Rattle.my_reading.specs.declared.call.Call.{Call}
 use Rattle.my_reading.specs.declared.call.CallKind.{CallKind}
-use Rattle.my_reading.specs.declared.call.CallKind.TheVariants.{Connect, Prepare, NextRow, TakeSet, SkipTaken, Ping}
+use Rattle.my_reading.specs.declared.call.CallKind.TheVariants.{Connect, Prepare, NextRow, TakeSet, SkipTaken, Ping, Reset}
 use Rattle.my_reading.specs.declared.error.Error.TheVariants as errors
 use Rattle.my_reading.specs.declared.facts.Facts.{Facts}
 use Rattle.my_reading.specs.Calls.{kind_of as call_kind, id_in, is_connect}
-use Rattle.my_reading.specs.Commands.{arranging_texts}
-use Rattle.my_reading.specs.Course.{Part, All, Head, Item, Set, Rest, Reply, Keep, Give, Learn, Step, Goes, step, step_of, unless_cached, failure, unfit, return, with_front, reads, after_payload, parts_of_texts, is_rows, is_greeting}
+use Rattle.my_reading.specs.Commands.{arranging_texts, setup_texts}
+use Rattle.my_reading.specs.Course.{Part, All, Head, Item, Set, Rest, Reply, Keep, Give, Learn, Clear, Step, Goes, step, step_of, unless_cached, failure, unfit, return, with_front, reads, after_payload, parts_of_texts, is_rows, is_greeting}
 use Rattle.my_reading.specs.Errors.{codec_error, invalid_data, server_error}
 use Rattle.my_reading.specs.Leads.{Leads, Here, Then}
 use Rattle.my_reading.specs.Place.{Place, exchanges, facts_at, facts_of, connects_in, with_end, with_statements as place_with, with_taken, with_talk}
@@ -36,13 +36,14 @@ use Rattle.my_reading.specs.Rows.{row_at, row_or}
 use Rattle.my_reading.specs.Statements.{with_columns}
 use Rattle.my_reading.specs.Told.{Told, ToldReady, ToldRow, ToldEnd, ToldError, closes}
 use Rattle.my_session.specs.declared.reactions.Reaction.{Reaction}
+use Rattle.my_session.specs.declared.reactions.Reaction.TheVariants as reactions
 use Rattle.my_session.specs.declared.task.Task.{Task}
 use Rattle.my_session.specs.declared.task.Task.TheVariants as tasks
 use Rattle.my_session.specs.Machine.{Goes as MachineGoes, Passes, Tells, Move, advanced, fell, failed_by, with_task, with_taken as with_mark, refused, gave, passed, reacted, above, unless_above, reply_to, reply_bytes}
-use Rattle.my_session.specs.Mirror.{Mirrors, StandsAt, OpenAt, MoveReads, TaskStandsAt, own_parts, parts_left, refusal_at}
+use Rattle.my_session.specs.Mirror.{Mirrors, StandsAt, OpenAt, MoveReads, TaskStandsAt, own_parts, parts_left, parts_of_setup, refusal_at}
 use Rattle.my_session.specs.Seen.{Seen}
 use Rattle.my_session.specs.Stands.{owes, call_with, is_shaking}
-use Rattle.my_session.specs.Tables.{react, react_head, react_whole, is_breaking, is_connecting}
+use Rattle.my_session.specs.Tables.{react, react_head, react_single, react_whole, is_breaking, is_connecting}
 use Rattle.my_session.specs.Tasks.{kind_in, fault_in}
 use Rattle.my_session.proofs.Faults.Payloads.{row_reads}
 use Rattle.my_reading.proofs.Described.{told_columns}
@@ -415,41 +416,81 @@ module _ (s : Seen) (call : Call) (p : Place) (m : Mirrors s.context s.number s.
     connect_reads kinds.Field e = absurd (simple_shaking s.context.spot kinds.Field shaking refl (knows kinds.Field e))
     connect_reads kinds.Bad e = unfits (own_parts s.login Connect) (all_is setting_up reading kinds.Bad e)
 
-  -- the answer to a ping
-  module _ (reading : step s.login call (All ∷ []) p ≡ reads s.login All [] p) (task : s.task ≡ tasks.Own Ping) (single : s.context.spot ≡ spots.Single) (ping : call_kind call ≡ Ping) where
-    pongs : (status : StatusFlags) → kind_there s.context s.facts.columns payload ≡ kinds.Good status → MoveReads s call (All ∷ []) p (move_at (tasks.Own Ping) (kinds.Good status))
-    pongs status e =
+  -- a response of one payload
+  module _ (parts : List Part) (reading : step s.login call (All ∷ parts) p ≡ reads s.login All parts p) (single : s.context.spot ≡ spots.Single) where
+    -- after an OK nothing of it is left
+    answered : (status : StatusFlags) → kind_there s.context s.facts.columns payload ≡ kinds.Good status → Leads s.login call (All ∷ parts) p parts (new (kinds.Good status))
+    answered status e =
         let k : Kind = kinds.Good status in
         let w = mirrors_new k e refl in
-        let owed_none = none_owed k refl in
         let n = following k in
         let over : is_over (grow k p.talk payload) ≡ true =
         ap (λ (c : Context). is_idle c.spot) (sym w.context_is) ∙ ap (λ (x : Spot). is_idle (spot_after (deprecates_eof s.context.terms.kept) x k)) single in
-        let second : step s.login call (All ∷ []) (new k) ≡ Goes [] (new k) =
-        step_here n.context n.number rest n.owed s.closed n.facts s.login (new k) call (All ∷ []) alive w owed_none
-        ∙ ap (λ b. cond b (Goes [] (new k)) (reads s.login All [] (new k))) over in
-        let third : step s.login call [] (new k) ≡ return (new k) ToldReady = step_here n.context n.number rest n.owed s.closed n.facts s.login (new k) call [] alive w owed_none in
-        record {
-          rest = [];
-          place = new k;
-          leads = Then (All ∷ []) p (All ∷ []) (new k) [] (new k) (all_is [] reading k e) (Then (All ∷ []) (new k) [] (new k) [] (new k) second (Here [] (new k)));
-          comes = inl (record { place = new k; stops = third; at = rests_at k e refl refl; closed_is = alive ∙ ap (closes ToldReady) (sym ping) });
-        }
+        let second : step s.login call (All ∷ parts) (new k) ≡ Goes parts (new k) =
+        step_here n.context n.number rest n.owed s.closed n.facts s.login (new k) call (All ∷ parts) alive w (none_owed k refl)
+        ∙ ap (λ b. cond b (Goes parts (new k)) (reads s.login All parts (new k))) over in
+        Then (All ∷ parts) p (All ∷ parts) (new k) parts (new k) (all_is parts reading k e) (Then (All ∷ parts) (new k) parts (new k) parts (new k) second (Here parts (new k)))
 
-    pub ping_reads : (k : Kind) → kind_there s.context s.facts.columns payload ≡ k → MoveReads s call (All ∷ []) p (move_at (tasks.Own Ping) k)
-    unfolding is_simple
-    ping_reads (kinds.Greets n) e = absurd (no_greeting [] n (ap is_greeting single) e)
-    ping_reads (kinds.Good status) e = pongs status e
-    ping_reads kinds.Failed e = errs (All ∷ []) (err_at (is_greeting s.context.spot) payload) refl e false (ap is_connecting task) (ap is_connect ping) (all_is [] reading kinds.Failed e)
-    ping_reads (kinds.Count n) e = absurd (simple_single (kinds.Count n) refl (subst (λ x. is_known x (kinds.Count n) ≡ true) single (knows (kinds.Count n) e)))
-    ping_reads kinds.Column e = absurd (simple_single kinds.Column refl (subst (λ x. is_known x kinds.Column ≡ true) single (knows kinds.Column e)))
-    ping_reads kinds.ColumnsDone e = absurd (simple_single kinds.ColumnsDone refl (subst (λ x. is_known x kinds.ColumnsDone ≡ true) single (knows kinds.ColumnsDone e)))
-    ping_reads kinds.Row e = absurd (simple_single kinds.Row refl (subst (λ x. is_known x kinds.Row ≡ true) single (knows kinds.Row e)))
-    ping_reads (kinds.End status) e = absurd (simple_single (kinds.End status) refl (subst (λ x. is_known x (kinds.End status) ≡ true) single (knows (kinds.End status) e)))
-    ping_reads (kinds.Prepared params columns) e = absurd (simple_single (kinds.Prepared params columns) refl (subst (λ x. is_known x (kinds.Prepared params columns) ≡ true) single (knows (kinds.Prepared params columns) e)))
-    ping_reads kinds.Parameter e = absurd (simple_single kinds.Parameter refl (subst (λ x. is_known x kinds.Parameter ≡ true) single (knows kinds.Parameter e)))
-    ping_reads kinds.Field e = absurd (simple_single kinds.Field refl (subst (λ x. is_known x kinds.Field ≡ true) single (knows kinds.Field e)))
-    ping_reads kinds.Bad e = unfits (All ∷ []) (all_is [] reading kinds.Bad e)
+    simple : (k : Kind) → kind_there s.context s.facts.columns payload ≡ k → is_simple k ≡ false → ⊥
+    simple k e f = simple_single k f (subst (λ x. is_known x k ≡ true) single (knows k e))
+
+    module _ (good : Reaction) (off : is_connecting s.task ≡ false) (other : is_connect (call_kind call) ≡ false)
+        (on_good : (status : StatusFlags) → kind_there s.context s.facts.columns payload ≡ kinds.Good status
+        → MoveReads s call (All ∷ parts) p (cond (is_breaking good) (failed_by s (invalid_data s.facts.place)) (reacted s (following (kinds.Good status)) payload good))) where
+      single_reads : (k : Kind) → kind_there s.context s.facts.columns payload ≡ k → MoveReads s call (All ∷ parts) p (cond (is_breaking (react_single good k)) (failed_by s (invalid_data s.facts.place))
+          (unless_above s (above s.context.terms.limit (reply_to s.login k payload)) (reacted s (following k) payload (react_single good k))))
+      unfolding is_simple
+      single_reads (kinds.Greets n) e = absurd (no_greeting parts n (ap is_greeting single) e)
+      single_reads (kinds.Good status) e = on_good status e
+      single_reads kinds.Failed e = errs (All ∷ parts) (err_at (is_greeting s.context.spot) payload) refl e false off other (all_is parts reading kinds.Failed e)
+      single_reads (kinds.Count n) e = absurd (simple (kinds.Count n) e refl)
+      single_reads kinds.Column e = absurd (simple kinds.Column e refl)
+      single_reads kinds.ColumnsDone e = absurd (simple kinds.ColumnsDone e refl)
+      single_reads kinds.Row e = absurd (simple kinds.Row e refl)
+      single_reads (kinds.End status) e = absurd (simple (kinds.End status) e refl)
+      single_reads (kinds.Prepared params columns) e = absurd (simple (kinds.Prepared params columns) e refl)
+      single_reads kinds.Parameter e = absurd (simple kinds.Parameter e refl)
+      single_reads kinds.Field e = absurd (simple kinds.Field e refl)
+      single_reads kinds.Bad e = unfits (All ∷ parts) (all_is parts reading kinds.Bad e)
+
+  -- the answer to a ping
+  pub ping_reads : step s.login call (All ∷ []) p ≡ reads s.login All [] p → s.task ≡ tasks.Own Ping → s.context.spot ≡ spots.Single → call_kind call ≡ Ping
+      → (k : Kind) → kind_there s.context s.facts.columns payload ≡ k → MoveReads s call (All ∷ []) p (move_at (tasks.Own Ping) k)
+  ping_reads reading task single ping = single_reads [] reading single (reactions.Readies false) (ap is_connecting task) (ap is_connect ping) pongs
+    where
+      pongs : (status : StatusFlags) → kind_there s.context s.facts.columns payload ≡ kinds.Good status → MoveReads s call (All ∷ []) p (record { seen = with_task (following (kinds.Good status)) tasks.Nothing false; does = Tells ToldReady })
+      pongs status e =
+          let k : Kind = kinds.Good status in
+          let n = following k in
+          record {
+            rest = [];
+            place = new k;
+            leads = answered [] reading single status e;
+            comes = inl (record {
+              place = new k;
+              stops = step_here n.context n.number rest n.owed s.closed n.facts s.login (new k) call [] alive (mirrors_new k e refl) (none_owed k refl);
+              at = rests_at k e refl refl;
+              closed_is = alive ∙ ap (closes ToldReady) (sym ping);
+            });
+          }
+
+  -- the answer to a reset
+  abbrev resetting : List Part
+  resetting = Clear ∷ parts_of_setup (setup_texts s.login)
+
+  pub reset_reads : step s.login call (All ∷ resetting) p ≡ reads s.login All resetting p → s.task ≡ tasks.Own Reset → s.context.spot ≡ spots.Single → call_kind call ≡ Reset
+      → (k : Kind) → kind_there s.context s.facts.columns payload ≡ k → MoveReads s call (All ∷ resetting) p (move_at (tasks.Own Reset) k)
+  reset_reads reading task single reset = single_reads resetting reading single (reactions.Goes tasks.Clearing) (ap is_connecting task) (ap is_connect reset) accepted
+    where
+      accepted : (status : StatusFlags) → kind_there s.context s.facts.columns payload ≡ kinds.Good status → MoveReads s call (All ∷ resetting) p (record { seen = with_task (following (kinds.Good status)) tasks.Clearing false; does = MachineGoes })
+      accepted status e =
+          let k : Kind = kinds.Good status in
+          record {
+            rest = resetting;
+            place = new k;
+            leads = answered resetting reading single status e;
+            comes = goes_to tasks.Clearing k refl e refl (ap kind_in (sym task)) refl (not_greeting s.context.spot (deprecates_eof s.context.terms.kept) k) (λ _. refl);
+          }
 
   -- the head of a first set, after which the session goes on with the same task, or does what it does after a lone OK
   module _ (t : Task) (good : Reaction) (after : List Part) (left : Head ∷ after ≡ parts_left s.login s.call t) (checks : refusal_at t s.call ≡ None) (sound : fault_in t ≡ None)

@@ -12,32 +12,35 @@ use Rattle.my_grammar.specs.Talk.{context_of}
 use Rattle.my_flags.specs.Sets.{deprecates_eof}
 use Rattle.my_reading.specs.declared.call.Call.{Call}
 use Rattle.my_reading.specs.declared.call.CallKind.{CallKind}
-use Rattle.my_reading.specs.declared.call.CallKind.TheVariants.{Connect, Query, Prepare, Execute, Batch, CloseStmt, NextRow, DropResult, TakeSet, SkipTaken, Ping, Quit}
+use Rattle.my_reading.specs.declared.call.CallKind.TheVariants.{Connect, Query, Prepare, Execute, Batch, CloseStmt, NextRow, DropResult, TakeSet, SkipTaken, Ping, Reset, Quit}
 use Rattle.my_reading.specs.Calls.{kind_of, call_of, is_connect, lists_in, params_in, statement_in, text_in}
-use Rattle.my_reading.specs.Commands.{arranging_texts}
+use Rattle.my_reading.specs.Commands.{arranging_texts, setup_texts}
 use Rattle.my_reading.specs.Executions.{values_for}
 use Rattle.my_reading.specs.Statements.{held_in, is_mixed_text, query_of}
-use Rattle.my_reading.specs.Course.{Part, All, Head, Item, Set, Rest, Goes, step, return, reads, parts_of, parts_of_lists, parts_of_texts, is_rows, is_greeting}
+use Rattle.my_reading.specs.Course.{Part, All, Head, Item, Set, Rest, Clear, Goes, step, return, reads, parts_of, parts_of_lists, parts_of_texts, is_rows, is_greeting}
 use Rattle.my_reading.specs.Errors.{invalid_data}
 use Rattle.my_reading.specs.Leads.{Here, Then}
 use Rattle.my_reading.specs.Place.{Place, exchanges, connects_in, without_end, with_taken}
 use Rattle.my_reading.specs.Told.{ToldReady, ToldEnd, ToldNone, closes}
+use Rattle.my_reading.specs.Versions.{can_reset}
+use Rattle.my_handshake.specs.Version.{version_of}
 use Rattle.my_session.specs.declared.tables.Plan.{Plan}
 use Rattle.my_session.specs.declared.tables.Plan.TheVariants as plans
 use Rattle.my_session.specs.declared.reactions.Reaction.TheVariants as reactions
 use Rattle.my_session.specs.declared.task.Task.{Task}
 use Rattle.my_session.specs.declared.task.Task.TheVariants as tasks
 use Rattle.my_session.specs.Machine.{failed_by, with_task, reacted, above, unless_above, reply_to, advanced, planned, when_owed, next_by, next}
-use Rattle.my_session.specs.Mirror.{OpenAt, MoveReads, EachMoveReads, TaskStandsAt, OwnStandsAt, BegunStandsAt, ask_parts, is_own, own_parts, parts_left, passes_end, refusal_at}
+use Rattle.my_session.specs.Mirror.{OpenAt, MoveReads, EachMoveReads, TaskStandsAt, OwnStandsAt, BegunStandsAt, ask_parts, is_own, own_parts, parts_left, parts_of_setup, passes_end, refusal_at}
 use Rattle.my_session.specs.Seen.{Seen}
 use Rattle.my_session.specs.Stands.{call_with, is_shaking}
 use Rattle.my_session.specs.Tables.{plan_of, ask_plan, clean_plan, read_plan, drop_plan, take_plan, skip_plan, query_plan, own_plan, first_plan, react, react_whole, is_breaking, is_connecting}
 use Rattle.my_session.specs.Tasks.{kind_in, fault_in}
 use Rattle.my_session.proofs.Mirror.Fields.{mirrors_with_taken, owes_here}
-use Rattle.my_session.proofs.Mirror.Payloads.{fallen_at, connect_reads, head_reads, ping_reads, readies, reading_reads, dropping_reads, taking_reads, skipping_reads, whole_reads_all}
+use Rattle.my_session.proofs.Mirror.Payloads.{fallen_at, connect_reads, head_reads, ping_reads, reset_reads, readies, reading_reads, dropping_reads, taking_reads, skipping_reads, whole_reads_all}
 use Rattle.my_session.proofs.Mirror.Commands.{asks_reads, runs_on, arranges_reads, passed}
 use Rattle.my_session.proofs.Stands.Spots.{not_greeting}
 use Rattle.my_session.proofs.Mirror.Opened.{and_false, and_true, asks_not, call_here, kind_here_is, end_at, known_here, goes_at, rests_at, quiet_mirrors, here, all_here, item_here, head_here, reads_front, starts, cleans_now}
+use Rattle.my_session.proofs.Mirror.Resets.{after_rest, rest_first, sets_reads, offered_reads, clears_reads}
 use Rattle.my_session.proofs.Mirror.Prepared.{looked_reads, checked_reads, batched_reads, forgets, running_by, execution_by, prepare_by, gives_reads}
 
 module _ (s : Seen) (call : Call) (p : Place) (o : OpenAt s call (parts_left s.login s.call s.task) p) (nothing : s.owed ≡ []) (bytes : AreBytes s.unread) where
@@ -61,6 +64,7 @@ module _ (s : Seen) (call : Call) (p : Place) (o : OpenAt s call (parts_left s.l
   begun_reads TakeSet task at = starts s call p o nothing bytes tasks.Taking (Set ∷ []) refl refl (ap kind_in (sym task)) refl refl (ap passes_end task) (λ no. cc) at
   begun_reads SkipTaken task at = starts s call p o nothing bytes tasks.Skipping (Rest ∷ []) refl refl (ap kind_in (sym task)) refl refl (ap passes_end task) (λ no. cc) at
   begun_reads Ping task at = cleans_now s call p o nothing bytes Ping task refl refl at
+  begun_reads Reset task at = offered_reads s call p o nothing bytes task at (can_reset (version_of s.facts.version)) refl
   begun_reads Quit task at = cleans_now s call p o nothing bytes Quit task refl refl at
 
   -- a task that reads the rest of an older response, and then does what the plan says
@@ -382,7 +386,7 @@ module _ (s : Seen) (call : Call) (p : Place) (o : OpenAt s call (parts_left s.l
   shaking_on (spots.Fields left) e = cc
   shaking_on spots.FieldsEnd e = cc
 
-  -- nothing is left to be passed over where the own exchange of connecting, or of a ping, is read
+  -- nothing is left to be passed over where the own exchange of connecting, of a ping, or of a reset, is read
   own_reads : (c : CallKind) → s.task ≡ tasks.Own c → OwnStandsAt c s.context.spot (connects_in (exchanges p)) → p.end_left ≡ false → MoveReads s call (own_parts s.login c) p (planned s (own_plan c s.context.spot))
   own_reads Connect task at none =
       let on = shaking_on s.context.spot at.0 in
@@ -412,6 +416,12 @@ module _ (s : Seen) (call : Call) (p : Place) (o : OpenAt s call (parts_left s.l
       let on : is_idle s.context.spot ≡ false = ap is_idle at in
       reads_front s call p o nothing bytes All [] (tasks.Own Ping) task (all_here s call p o nothing bytes [] none on)
       (λ payload rest next e whole single k kind. ping_reads s call p o.at.mirrors o.at.taken_is (known_here s call p o nothing bytes) o.alive nothing o.call_is payload rest next e whole single (all_here s call p o nothing bytes [] none on) task at (kind_here_is s call p o nothing bytes Ping (ap kind_in task)) k kind)
+      (ap (parts_left s.login s.call) (sym task))
+  own_reads Reset task at none =
+      let on : is_idle s.context.spot ≡ false = ap is_idle at in
+      let parts = Clear ∷ parts_of_setup (setup_texts s.login) in
+      reads_front s call p o nothing bytes All parts (tasks.Own Reset) task (all_here s call p o nothing bytes parts none on)
+      (λ payload rest next e whole single k kind. reset_reads s call p o.at.mirrors o.at.taken_is (known_here s call p o nothing bytes) o.alive nothing o.call_is payload rest next e whole single (all_here s call p o nothing bytes parts none on) task at (kind_here_is s call p o nothing bytes Reset (ap kind_in task)) k kind)
       (ap (parts_left s.login s.call) (sym task))
   own_reads Quit task at none = record {
     rest = [];
@@ -445,6 +455,14 @@ module _ (s : Seen) (call : Call) (p : Place) (o : OpenAt s call (parts_left s.l
       (λ k. not_greeting s.context.spot (deprecates_eof s.context.terms.kept) k) at (λ _. refl) false (ap is_connecting task)
       (ap is_connect (kind_here_is s call p o nothing bytes Batch (ap kind_in task))) (plans.Runs n)
       (λ told none idle. runs_on s call p o.at.mirrors o.at.taken_is (known_here s call p o nothing bytes) o.alive nothing o.call_is told none idle n (ap kind_in task) (call_here s call p o nothing bytes Batch (ap kind_in task)) (slice_get (lists_in s.call) n) refl) s.context.spot refl
+  plan_reads tasks.Clearing task at = clears_reads s call p o nothing bytes task at
+  plan_reads (tasks.Setting n) task at =
+      let texts = drop n (setup_texts s.login) in
+      subst (λ xs. MoveReads s call xs p (planned s (plan_of (tasks.Setting n) s.context.spot s.untold))) (rest_first texts)
+      (cleans (tasks.Setting n) task refl (after_rest texts) (rest_first texts) refl refl at
+      (λ k. not_greeting s.context.spot (deprecates_eof s.context.terms.kept) k) at (λ _. refl) false (ap is_connecting task)
+      (ap is_connect (kind_here_is s call p o nothing bytes Reset (ap kind_in task))) (plans.Sets n)
+      (λ told none idle. sets_reads s call p o.at.mirrors o.at.taken_is (known_here s call p o nothing bytes) o.alive nothing o.call_is told none idle n (ap kind_in task) (slice_get (setup_texts s.login) n) refl) s.context.spot refl)
   plan_reads tasks.Reading task at = items task at s.untold refl
   plan_reads tasks.Dropping task at = drops task at s.untold refl
   plan_reads tasks.Taking task at = takes task at s.untold refl

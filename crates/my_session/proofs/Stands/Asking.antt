@@ -21,21 +21,22 @@ use Rattle.my_grammar.specs.Talk.{Talk, Asked, Preparing, Queried, Silent, turns
 use Rattle.my_reading.specs.declared.call.Call.{Call}
 use Rattle.my_reading.specs.declared.call.Call.TheVariants as calls
 use Rattle.my_reading.specs.declared.call.CallKind.{CallKind}
-use Rattle.my_reading.specs.declared.call.CallKind.TheVariants.{Connect, Query, Prepare, Execute, Batch, CloseStmt, NextRow, DropResult, TakeSet, SkipTaken, Ping, Quit}
+use Rattle.my_reading.specs.declared.call.CallKind.TheVariants.{Connect, Query, Prepare, Execute, Batch, CloseStmt, NextRow, DropResult, TakeSet, SkipTaken, Ping, Reset, Quit}
 use Rattle.my_session.specs.declared.task.Task.{Task}
-use Rattle.my_session.specs.declared.task.Task.TheVariants.{Nothing, Cleaning, Own, Giving, Arranging, Running, Finishing}
+use Rattle.my_session.specs.declared.task.Task.TheVariants.{Nothing, Cleaning, Own, Giving, Arranging, Running, Finishing, Setting}
 use Rattle.my_reading.specs.declared.error.Error.{Error}
 use Rattle.my_session.specs.declared.tables.Plan.TheVariants as plans
 use Rattle.my_reading.specs.Calls.{kind_of, call_of, asks, id_in, is_connect, lists_in, params_in, statement_in, text_in}
 use Rattle.my_session.specs.Tasks.{kind_in, is_open}
-use Rattle.my_reading.specs.Commands.{arranging, arranging_texts, closing, command_of, connecting, execution, opening}
-use Rattle.my_session.specs.Entries.{Opens, OwnsFirst, IsTied, terms_by, calls_in, has_connected, connecting_in}
+use Rattle.my_reading.specs.Commands.{arranging, arranging_texts, closing, command_of, connecting, execution, opening, queried, setup_texts}
+use Rattle.my_session.specs.Entries.{Opens, OwnsFirst, IsTied, terms_by, calls_in, connects, has_connected, connecting_in}
 use Rattle.my_reading.specs.Errors.{codec_error}
-use Rattle.my_reading.specs.Told.{ToldReady, closes_by}
-use Rattle.my_session.specs.History.{History}
-use Rattle.my_session.specs.Machine.{Move, Sends, with_task, failed_by, queued, unless_exceeds, unless_refused, refusal, refused_by, next_terms, begins, asked, ran, arranged, planned, is_greeting}
+use Rattle.my_reading.specs.Told.{Told, ToldReady, ToldFlag, closes, closes_by}
+use Rattle.my_session.specs.Groups.{given, given_after}
+use Rattle.my_session.specs.History.{History, answered, has_closed}
+use Rattle.my_session.specs.Machine.{Move, Sends, with_task, failed_by, queued, unless_exceeds, unless_refused, refusal, refused_by, next_terms, begins, asked, ran, arranged, set_up, planned, is_greeting}
 use Rattle.my_session.specs.Seen.{Seen}
-use Rattle.my_session.specs.ServerErrors.{errors_in, errors_of}
+use Rattle.my_session.specs.ServerErrors.{errors_in, errors_of, errors_told, with_told}
 use Rattle.my_session.specs.Stands.{Stands, Heard, TaskIs, TieIs, IsArranged, call_with, is_left, keeps, owes}
 use Rattle.my_session.specs.Steps.{is_settled}
 use Rattle.my_session.specs.Tables.{ask_plan}
@@ -50,7 +51,8 @@ use Rattle.my_session.proofs.Stands.Wired.{wire_queued}
 connect_opens : (login : Login) (terms : Terms) (c : Call) (n : ℕ) (t : Talk) → c ≡ calls.Connect → Opens login terms c n t → connecting login terms n ≡ Some t
 connect_opens login terms c n t e (inl w) = subst (λ (x : Call). opening login terms w.0 x n ≡ Some t) e w.1
 connect_opens login terms c n t e (inr (inl w)) = let no : Connect ≡ Prepare = ap kind_of (sym e) ∙ w.1 in cc
-connect_opens login terms c n t e (inr (inr w)) = let no : Connect ≡ Batch = ap kind_of (sym e) ∙ w.kind in cc
+connect_opens login terms c n t e (inr (inr (inl w))) = let no : Connect ≡ Batch = ap kind_of (sym e) ∙ w.kind in cc
+connect_opens login terms c n t e (inr (inr (inr w))) = let no : Connect ≡ Reset = ap kind_of (sym e) ∙ w.kind in cc
 
 module _ (s : Seen) (h : History) (st : Stands s h) (open_still : s.closed ≡ false) (nothing : s.owed ≡ []) (op : is_open s.task ≡ true) where
   abbrev HeardAs : Task → Type 0
@@ -119,6 +121,7 @@ module _ (s : Seen) (h : History) (st : Stands s h) (open_still : s.closed ≡ f
   asked_keep TakeSet hd idle own fit = let no : asks TakeSet ≡ true = hd.at.0 in cc
   asked_keep SkipTaken hd idle own fit = let no : asks SkipTaken ≡ true = hd.at.0 in cc
   asked_keep Ping hd idle own fit = commands Ping (Asked (next_terms s) (packet_bytes packets.Ping)) hd idle refl (inl (s.statements, refl)) refl (record { kinds = tt; within = tt }) refl refl refl refl refl (hd.at.1, refl)
+  asked_keep Reset hd idle own fit = commands Reset (Asked (next_terms s) (packet_bytes packets.ResetConnection)) hd idle refl (inl (s.statements, refl)) refl (record { kinds = tt; within = tt }) refl refl refl refl refl (hd.at.1, refl)
   asked_keep Quit hd idle own fit = commands Quit (Silent (next_terms s) (packet_bytes packets.Quit)) hd idle refl (inl (s.statements, refl)) refl (record { kinds = tt; within = tt }) refl refl refl refl refl hd.at.1
 
   asks_own : (c : CallKind) → HeardAs (Cleaning c) → s.context.spot ≡ spots.Idle → ask_plan c ≡ plans.Asks c → Keeps (planned s (plans.Asks c)) h
@@ -128,6 +131,30 @@ module _ (s : Seen) (h : History) (st : Stands s h) (open_still : s.closed ≡ f
   pub values_or : (params : Params) (o : Option DriverError) (m : Move) → refused_by (values_for (statement_in s.call) params) ≡ o → (o ≡ None → Keeps m h) → Keeps (unless_refused s o m) h
   values_or params None m is keep = keep refl
   values_or params (Some e) m is keep = fails (errors.Driver e) (λ _. values_close (statement_in s.call) params e is)
+
+  -- a call is answered whose responses were read whole
+  ends : (t : Task) (c : CallKind) (w : Told) → HeardAs t → kind_in t ≡ Some c → has_connected h.calls ≡ true → s.untold ≡ false → s.context.spot ≡ spots.Idle → closes w (kind_of (call_of c s.call)) ≡ false → connects w (kind_of (call_of c s.call)) ≡ false → given_after w (kind_of (call_of c s.call)) (given h.calls) ≡ given h.calls → with_told w (errors_told h.calls) ≡ errors_told h.calls → IsTied (record { call = call_of c s.call; what = w } ∷ h.calls) (st.newest.call ∷ calls_in st.older) → Stands (with_task s Nothing s.untold) (answered h w)
+  ends t c w hd call made told idle still quiet_one none silent tie = answered_stands (with_task s Nothing s.untold) h (call_of c s.call) w (hd.pending_is ∙ ap (λ k. call_with k s.call) call) (record {
+    newest = st.newest;
+    older = st.older;
+    wire = st.wire;
+    heard = record {
+      pending_is = refl;
+      closed_is = hd.closed_is ∙ ap (λ b. (b || has_closed h.calls) || h.lost) (sym still);
+      alive = λ no. cc;
+      given_is = none ∙ hd.given_is;
+      errors = silent ∙ hd.errors;
+      each = hd.each;
+      lone = hd.lone;
+      fresh = λ _ _ left. let no : false ≡ true = sym (ap (λ b. b || is_left s.context.spot) told ∙ ap is_left idle) ∙ left in cc;
+      at = λ _. subst (λ b. cond (b || has_connected h.calls) (is_settled s.context.spot) (is_greeting s.context.spot) ≡ true) (sym quiet_one) (subst (λ b. cond b (is_settled s.context.spot) (is_greeting s.context.spot) ≡ true) (sym made) (ap is_settled idle));
+      first = hd.first;
+      tie = none_waits s.context.spot (record { call = call_of c s.call; what = w } ∷ h.calls) st.newest.call st.older (ap is_greeting idle) tie;
+    };
+    arranged = arranged_more s.login (record { call = call_of c s.call; what = w }) h.calls st.newest st.older quiet_one st.arranged;
+    ended_is = st.ended_is;
+    settled = λ _. nothing;
+  })
 
   -- a batch, whose newest exchange is one of its own or an earlier call's
   module _ (n : ℕ) (t : Task) (hd : HeardAs t) (is_batch : kind_in t ≡ Some Batch) (made : has_connected h.calls ≡ true) (told : s.untold ≡ false) (idle : s.context.spot ≡ spots.Idle)
@@ -144,34 +171,14 @@ module _ (s : Seen) (h : History) (st : Stands s h) (open_still : s.closed ≡ f
         let known = known_in s.statements id in
         let talk : Talk = Queried (next_terms s) (body_of id values) (NoSets (ByStatement (ahead_of id values) known)) in
         unless_long (Running (suc n)) talk _ (queues t (Running (suc n)) (call_of Batch s.call) talk hd (sym is_batch) refl refl idle
-        (inr (inr (record { kind = refl; place = n; params = params; listed = at; statements = s.statements; executes = ap (execution (next_terms s) s.statements id) is })))
+        (inr (inr (inl (record { kind = refl; place = n; params = params; listed = at; statements = s.statements; executes = ap (execution (next_terms s) s.statements id) is }))))
         refl (record { kinds = tt; within = tt }) (commands_silent (body_of id values) (ByStatement (ahead_of id values) known)) refl refl refl refl (made, refl)
         (more_tie tie) (λ all. ((st.arranged all).0, λ own. cc)))
     runs_with params at (Unfitting e) is fit = cc
 
     -- no list is left: the batch is done
     ran_all : slice_get (lists_in s.call) n ≡ None → Keeps (ran s (suc n) None) h
-    ran_all none = answered_stands (with_task s Nothing s.untold) h (call_of Batch s.call) ToldReady (hd.pending_is ∙ ap (λ k. call_with k s.call) is_batch) (record {
-      newest = st.newest;
-      older = st.older;
-      wire = st.wire;
-      heard = record {
-        pending_is = refl;
-        closed_is = hd.closed_is;
-        alive = λ no. cc;
-        given_is = hd.given_is;
-        errors = hd.errors;
-        each = hd.each;
-        lone = hd.lone;
-        fresh = λ _ _ left. let no : false ≡ true = sym (ap (λ b. b || is_left s.context.spot) told ∙ ap is_left idle) ∙ left in cc;
-        at = λ _. subst (λ b. cond b (is_settled s.context.spot) (is_greeting s.context.spot) ≡ true) (sym made) (ap is_settled idle);
-        first = hd.first;
-        tie = none_waits s.context.spot (record { call = call_of Batch s.call; what = ToldReady } ∷ h.calls) st.newest.call st.older (ap is_greeting idle) (answer_tie none);
-      };
-      arranged = arranged_more s.login (record { call = call_of Batch s.call; what = ToldReady }) h.calls st.newest st.older refl st.arranged;
-      ended_is = st.ended_is;
-      settled = λ _. nothing;
-    })
+    ran_all none = ends t Batch ToldReady hd is_batch made told idle refl refl refl refl (answer_tie none)
 
     runs_by : (o : Option Params) → slice_get (lists_in s.call) n ≡ o → Keeps (ran s (suc n) o) h
     runs_by None at = ran_all at
@@ -190,6 +197,19 @@ module _ (s : Seen) (h : History) (st : Stands s h) (open_still : s.closed ≡ f
   pub runs_keep : (n : ℕ) → HeardAs (Finishing n) → s.untold ≡ false → s.context.spot ≡ spots.Idle → Keeps (planned s (plans.Runs n)) h
   runs_keep n hd told idle = runs_by n (Finishing n) hd refl hd.at.0 told idle (inl hd.tie) (λ _. inr hd.tie) (slice_get (lists_in s.call) n) refl
 
+  -- the next query that sets the server's session up after a reset, or none
+  sets_by : (n : ℕ) → HeardAs (Setting n) → s.untold ≡ false → s.context.spot ≡ spots.Idle → (o : Option (List ℕ)) → slice_get (setup_texts s.login) n ≡ o → Keeps (set_up s n o) h
+  sets_by n hd told idle None is = ends (Setting n) Reset (ToldFlag true) hd refl hd.at.0 told idle refl refl refl refl (inr hd.tie)
+  sets_by n hd told idle (Some text) is =
+      let talk : Talk = queried (next_terms s) text in
+      unless_long (Setting (suc n)) talk _ (queues (Setting n) (Setting (suc n)) (call_of Reset s.call) talk hd refl refl refl idle
+      (inr (inr (inr (record { kind = refl; place = n; text = text; listed = is; queries = refl }))))
+      refl (record { kinds = tt; within = tt }) refl refl refl refl refl (hd.at.0, refl)
+      (refl, inr (refl, hd.tie)) (λ made. ((st.arranged made).0, λ own. cc)))
+
+  pub sets_keep : (n : ℕ) → HeardAs (Setting n) → s.untold ≡ false → s.context.spot ≡ spots.Idle → Keeps (planned s (plans.Sets n)) h
+  sets_keep n hd told idle = sets_by n hd told idle (slice_get (setup_texts s.login) n) refl
+
   pub asks_keep : (c : CallKind) → HeardAs (Cleaning c) → s.untold ≡ false → s.context.spot ≡ spots.Idle → Keeps (planned s (ask_plan c)) h
   asks_keep Connect hd told idle = asks_own Connect hd idle refl
   asks_keep Query hd told idle = asks_own Query hd idle refl
@@ -202,6 +222,7 @@ module _ (s : Seen) (h : History) (st : Stands s h) (open_still : s.closed ≡ f
   asks_keep TakeSet hd told idle = asks_own TakeSet hd idle refl
   asks_keep SkipTaken hd told idle = asks_own SkipTaken hd idle refl
   asks_keep Ping hd told idle = asks_own Ping hd idle refl
+  asks_keep Reset hd told idle = asks_own Reset hd idle refl
   asks_keep Quit hd told idle = asks_own Quit hd idle refl
 
   -- the close of the statement that has to go for one that was prepared

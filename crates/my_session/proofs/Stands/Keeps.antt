@@ -17,11 +17,11 @@ use Rattle.my_reading.proofs.Described.{kind_is}
 use Rattle.my_grammar.specs.Kinds.{kind_there}
 use Rattle.my_reading.specs.declared.call.Call.TheVariants as calls
 use Rattle.my_reading.specs.declared.call.CallKind.{CallKind}
-use Rattle.my_reading.specs.declared.call.CallKind.TheVariants.{Connect, Query, Prepare, Execute, Batch, CloseStmt, NextRow, DropResult, TakeSet, SkipTaken, Ping, Quit}
+use Rattle.my_reading.specs.declared.call.CallKind.TheVariants.{Connect, Query, Prepare, Execute, Batch, CloseStmt, NextRow, DropResult, TakeSet, SkipTaken, Ping, Reset, Quit}
 use Rattle.my_session.specs.declared.reactions.Reaction.{Reaction}
 use Rattle.my_session.specs.declared.reactions.Reaction.TheVariants as reactions
 use Rattle.my_session.specs.declared.task.Task.{Task}
-use Rattle.my_session.specs.declared.task.Task.TheVariants.{Nothing, Begun, Cleaning, Own, Giving, Arranging, Running, Finishing, Reading, Dropping, Taking, Skipping, Leaving, Failing}
+use Rattle.my_session.specs.declared.task.Task.TheVariants.{Nothing, Begun, Cleaning, Own, Giving, Arranging, Running, Finishing, Clearing, Setting, Reading, Dropping, Taking, Skipping, Leaving, Failing}
 use Rattle.my_reading.specs.declared.error.Error.TheVariants as errors
 use Rattle.my_reading.specs.Calls.{kind_of, call_of, is_connect}
 use Rattle.my_session.specs.Tasks.{kind_in, is_open}
@@ -35,7 +35,7 @@ use Rattle.my_session.specs.Seen.{Seen}
 use Rattle.my_session.specs.ServerErrors.{error_onto, errors_in}
 use Rattle.my_session.specs.Stands.{Stands, Heard, TaskIs, TieIs, begun_of, is_reading, is_shaking, keeps}
 use Rattle.my_session.specs.Steps.{is_settled}
-use Rattle.my_session.specs.Tables.{react, react_whole, react_connect, react_head, react_query, react_running, react_ping, react_own, react_reading, react_dropping, react_taking, react_skipping, is_breaking, is_connecting}
+use Rattle.my_session.specs.Tables.{react, react_whole, react_connect, react_head, react_query, react_running, react_single, react_ping, react_reset, react_own, react_reading, react_dropping, react_taking, react_skipping, is_breaking, is_connecting}
 use Rattle.my_session.proofs.Stands.Blames.{is_failed, failed_blames}
 use Rattle.my_session.proofs.Stands.Reacts.{fell_stands, goes, refuses, refuses_connect, newest_by, answers, is_query, is_execution, pongs, part_calm, readies, first_parts, shows, heads, row_gives, end_gives, good_gives, left_lone, knows, tied_on, tied_now}
 use Rattle.my_session.proofs.Stands.Spots.{row_spot, end_spot, good_spot, not_greeting, settled_more, greets_on, settled_not_greeting, settled_reads, reading_after, heading_after}
@@ -56,6 +56,8 @@ is_reader Giving = false
 is_reader (Arranging n) = false
 is_reader (Running n) = false
 is_reader (Finishing n) = false
+is_reader Clearing = false
+is_reader (Setting n) = false
 is_reader Reading = true
 is_reader Dropping = true
 is_reader Taking = true
@@ -193,25 +195,44 @@ module _ (s : Seen) (h : History) (st : Stands s h) (open_still : s.closed ≡ f
       whole_keeps (Finishing n) refl hd (λ x _ _ _. (hd.at.0, not_greeting s.context.spot (deprecates_eof s.context.terms.kept) x)) (λ x. hd.tie)
       (λ f. refuse (Finishing n) Batch (err_at (is_greeting s.context.spot) p) refl hd f refl off refl hd.at.0 (tied_own kinds.Failed (Finishing n) Batch refl hd.tie)) k e b
 
+  -- the response to a query that sets the server's session up after a reset
+  setting_keeps : (n : ℕ) (k : Kind) → HeardAs (Setting n) → is_connecting s.task ≡ false → kind_there s.context s.facts.columns p ≡ k → is_breaking (react_whole (Setting n) k) ≡ false → Keeps (reacted s (after k) p (react_whole (Setting n) k)) h
+  setting_keeps n k hd off e b =
+      whole_keeps (Setting n) refl hd (λ x _ _ _. (hd.at.0, not_greeting s.context.spot (deprecates_eof s.context.terms.kept) x)) (λ x. hd.tie)
+      (λ f. refuse (Setting n) Reset (err_at (is_greeting s.context.spot) p) refl hd f refl off refl hd.at.0 (tied_own kinds.Failed (Setting n) Reset refl hd.tie)) k e b
+
   -- the reply to a statement to prepare
   prepare_keeps : (k : Kind) → HeardAs (Own Prepare) → is_connecting s.task ≡ false → kind_there s.context s.facts.columns p ≡ k → is_breaking (react_whole (Own Prepare) k) ≡ false → Keeps (reacted s (after k) p (react_whole (Own Prepare) k)) h
   prepare_keeps k hd off e b =
       whole_keeps (Own Prepare) refl hd (λ x _ _ _. (hd.at.0, not_greeting s.context.spot (deprecates_eof s.context.terms.kept) x)) (λ x. hd.tie)
       (λ f. refuse (Own Prepare) Prepare (err_at (is_greeting s.context.spot) p) refl hd f refl off refl hd.at.0 (tied_own kinds.Failed (Own Prepare) Prepare refl hd.tie)) k e b
 
+  -- a response of one payload
+  single_keeps : (good : Reaction) → ((status : StatusFlags) → kind_there s.context s.facts.columns p ≡ kinds.Good status → Keeps (reacted s (after (kinds.Good status)) p good) h) → (kind_there s.context s.facts.columns p ≡ kinds.Failed → Keeps (refused s (after kinds.Failed) (err_at (is_greeting s.context.spot) p)) h) → (k : Kind) → kind_there s.context s.facts.columns p ≡ k → is_breaking (react_single good k) ≡ false → Keeps (reacted s (after k) p (react_single good k)) h
+  single_keeps good ready fails (kinds.Greets n) e b = cc
+  single_keeps good ready fails (kinds.Good status) e b = ready status e
+  single_keeps good ready fails kinds.Failed e b = fails e
+  single_keeps good ready fails (kinds.Count n) e b = cc
+  single_keeps good ready fails kinds.Column e b = cc
+  single_keeps good ready fails kinds.ColumnsDone e b = cc
+  single_keeps good ready fails kinds.Row e b = cc
+  single_keeps good ready fails (kinds.End status) e b = cc
+  single_keeps good ready fails (kinds.Prepared params columns) e b = cc
+  single_keeps good ready fails kinds.Parameter e b = cc
+  single_keeps good ready fails kinds.Field e b = cc
+  single_keeps good ready fails kinds.Bad e b = cc
+
   ping_keeps : (k : Kind) → HeardAs (Own Ping) → is_connecting s.task ≡ false → kind_there s.context s.facts.columns p ≡ k → is_breaking (react_ping k) ≡ false → Keeps (reacted s (after k) p (react_ping k)) h
-  ping_keeps (kinds.Greets n) hd off e b = cc
-  ping_keeps (kinds.Good status) hd off e b = pongs s h st open_still nothing p rest next whole status e hd
-  ping_keeps kinds.Failed hd off e b = refuse (Own Ping) Ping (err_at (is_greeting s.context.spot) p) refl hd e refl off refl hd.at.0 (tied_own kinds.Failed (Own Ping) Ping refl hd.tie)
-  ping_keeps (kinds.Count n) hd off e b = cc
-  ping_keeps kinds.Column hd off e b = cc
-  ping_keeps kinds.ColumnsDone hd off e b = cc
-  ping_keeps kinds.Row hd off e b = cc
-  ping_keeps (kinds.End status) hd off e b = cc
-  ping_keeps (kinds.Prepared params columns) hd off e b = cc
-  ping_keeps kinds.Parameter hd off e b = cc
-  ping_keeps kinds.Field hd off e b = cc
-  ping_keeps kinds.Bad hd off e b = cc
+  ping_keeps k hd off e b =
+      single_keeps (reactions.Readies false) (λ status f. pongs s h st open_still nothing p rest next whole status f hd)
+      (λ f. refuse (Own Ping) Ping (err_at (is_greeting s.context.spot) p) refl hd f refl off refl hd.at.0 (tied_own kinds.Failed (Own Ping) Ping refl hd.tie)) k e b
+
+  reset_keeps : (k : Kind) → HeardAs (Own Reset) → is_connecting s.task ≡ false → kind_there s.context s.facts.columns p ≡ k → is_breaking (react_reset k) ≡ false → Keeps (reacted s (after k) p (react_reset k)) h
+  reset_keeps k hd off e b =
+      single_keeps (reactions.Goes Clearing)
+      (λ status f. goes s h st open_still nothing p rest next whole (Own Reset) Clearing (kinds.Good status) f refl refl refl refl hd
+      (hd.at.0, ap (λ (x : Spot). spot_after (deprecates_eof s.context.terms.kept) x (kinds.Good status)) hd.at.1) (sym hd.tie.0, inl hd.tie.1) (λ _. refl) (λ _. refl))
+      (λ f. refuse (Own Reset) Reset (err_at (is_greeting s.context.spot) p) refl hd f refl off refl hd.at.0 (tied_own kinds.Failed (Own Reset) Reset refl hd.tie)) k e b
 
   own_keeps : (c : CallKind) (k : Kind) → s.task ≡ Own c → HeardAs (Own c) → kind_there s.context s.facts.columns p ≡ k → is_breaking (react_own c k) ≡ false → Keeps (reacted s (after k) p (react_own c k)) h
   own_keeps Connect k task hd e b = connect_keeps k hd (ap is_connecting task) e b
@@ -225,6 +246,7 @@ module _ (s : Seen) (h : History) (st : Stands s h) (open_still : s.closed ≡ f
   own_keeps TakeSet k task hd e b = cc
   own_keeps SkipTaken k task hd e b = cc
   own_keeps Ping k task hd e b = ping_keeps k hd (ap is_connecting task) e b
+  own_keeps Reset k task hd e b = reset_keeps k hd (ap is_connecting task) e b
   own_keeps Quit k task hd e b = cc
 
   rests : (k : Kind) (m : List Made) → has_connected m ≡ true → is_settled (spot_after (deprecates_eof s.context.terms.kept) s.context.spot k) ≡ true → s.closed ≡ false → cond (has_connected m) (is_settled (spot_after (deprecates_eof s.context.terms.kept) s.context.spot k)) (is_greeting (spot_after (deprecates_eof s.context.terms.kept) s.context.spot k)) ≡ true
@@ -367,6 +389,8 @@ module _ (s : Seen) (h : History) (st : Stands s h) (open_still : s.closed ≡ f
   react_keeps (Arranging n) task hd told k e b = arranging_keeps n k hd (ap is_connecting task) e b
   react_keeps (Running n) task hd told k e b = running_keeps n k hd (ap is_connecting task) e b
   react_keeps (Finishing n) task hd told k e b = finishing_keeps n k hd (ap is_connecting task) e b
+  react_keeps Clearing task hd told k e b = cc
+  react_keeps (Setting n) task hd told k e b = setting_keeps n k hd (ap is_connecting task) e b
   react_keeps Reading task hd told k e b = reading_keeps (told refl) task hd k e b
   react_keeps Dropping task hd told k e b = dropping_keeps (told refl) task hd k e b
   react_keeps Taking task hd told k e b = taking_keeps (told refl) task hd k e b

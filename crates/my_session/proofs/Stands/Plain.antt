@@ -8,11 +8,11 @@ use Rattle.my_grammar.specs.Talk.{Start}
 use Rattle.my_reading.specs.declared.call.Call.{Call}
 use Rattle.my_reading.specs.declared.call.Call.TheVariants as calls
 use Rattle.my_reading.specs.declared.call.CallKind.{CallKind}
-use Rattle.my_reading.specs.declared.call.CallKind.TheVariants.{Connect, Query, Prepare, Execute, Batch, CloseStmt, NextRow, DropResult, TakeSet, SkipTaken, Ping, Quit}
+use Rattle.my_reading.specs.declared.call.CallKind.TheVariants.{Connect, Query, Prepare, Execute, Batch, CloseStmt, NextRow, DropResult, TakeSet, SkipTaken, Ping, Reset, Quit}
 use Rattle.my_session.specs.declared.task.LinkFault.{LinkFault}
 use Rattle.my_session.specs.declared.task.LinkFault.TheVariants.{NoMemory}
 use Rattle.my_session.specs.declared.task.Task.{Task}
-use Rattle.my_session.specs.declared.task.Task.TheVariants.{Nothing, Begun, Cleaning, Own, Giving, Arranging, Running, Finishing, Reading, Dropping, Taking, Skipping, Leaving, Failing}
+use Rattle.my_session.specs.declared.task.Task.TheVariants.{Nothing, Begun, Cleaning, Own, Giving, Arranging, Running, Finishing, Clearing, Setting, Reading, Dropping, Taking, Skipping, Leaving, Failing}
 use Rattle.my_reading.specs.Calls.{kind_of, call_of, is_quit}
 use Rattle.my_reading.specs.Statements.{first_statements}
 use Rattle.my_session.specs.Tasks.{kind_in, is_open}
@@ -82,6 +82,7 @@ call_is calls.DropResult = refl
 call_is calls.TakeSet = refl
 call_is calls.SkipTaken = refl
 call_is calls.Ping = refl
+call_is calls.Reset = refl
 call_is calls.Quit = refl
 
 later_at : (spot : Spot) (connected : Bool) → is_settled spot ≡ true → cond connected (is_settled spot) (is_greeting spot) ≡ true → (connected ≡ true) × (is_settled spot ≡ true)
@@ -104,6 +105,7 @@ begun_at DropResult spot connected e at = later_at spot connected e at
 begun_at TakeSet spot connected e at = later_at spot connected e at
 begun_at SkipTaken spot connected e at = later_at spot connected e at
 begun_at Ping spot connected e at = later_at spot connected e at
+begun_at Reset spot connected e at = later_at spot connected e at
 begun_at Quit spot connected e at = later_at spot connected e at
 
 quits : (call opened : Call) → not (is_quit (kind_of call)) ≡ false → Some call ≡ call_with (Some Quit) opened
@@ -118,6 +120,7 @@ quits calls.DropResult opened e = cc
 quits calls.TakeSet opened e = cc
 quits calls.SkipTaken opened e = cc
 quits calls.Ping opened e = cc
+quits calls.Reset opened e = cc
 quits calls.Quit opened e = refl
 
 -- the session at rest
@@ -216,6 +219,8 @@ fails_as Giving c fault e = let same : Prepare ≡ c = cc in ap (λ (x : CallKin
 fails_as (Arranging n) c fault e = let same : Connect ≡ c = cc in ap (λ (x : CallKind). Failing x fault) same
 fails_as (Running n) c fault e = let same : Batch ≡ c = cc in ap (λ (x : CallKind). Failing x fault) same
 fails_as (Finishing n) c fault e = let same : Batch ≡ c = cc in ap (λ (x : CallKind). Failing x fault) same
+fails_as Clearing c fault e = let same : Reset ≡ c = cc in ap (λ (x : CallKind). Failing x fault) same
+fails_as (Setting n) c fault e = let same : Reset ≡ c = cc in ap (λ (x : CallKind). Failing x fault) same
 fails_as Reading c fault e = let same : NextRow ≡ c = cc in ap (λ (x : CallKind). Failing x fault) same
 fails_as Dropping c fault e = let same : DropResult ≡ c = cc in ap (λ (x : CallKind). Failing x fault) same
 fails_as Taking c fault e = let same : TakeSet ≡ c = cc in ap (λ (x : CallKind). Failing x fault) same
@@ -232,6 +237,8 @@ fail_tie Giving c fault opened spot made call older e t = let same : Prepare ≡
 fail_tie (Arranging n) c fault opened spot made call older e t = let same : Connect ≡ c = cc in inl (subst (λ (x : CallKind). OwnsFirst (call_of x opened) (call ∷ calls_in older) (IsTied made)) same t)
 fail_tie (Running n) c fault opened spot made call older e t = let same : Batch ≡ c = cc in inl (subst (λ (x : CallKind). OwnsFirst (call_of x opened) (call ∷ calls_in older) (IsTied made)) same t)
 fail_tie (Finishing n) c fault opened spot made call older e t = let same : Batch ≡ c = cc in inl (subst (λ (x : CallKind). OwnsFirst (call_of x opened) (call ∷ calls_in older) (IsTied made)) same t)
+fail_tie Clearing c fault opened spot made call older e t = let same : Reset ≡ c = cc in inl (subst (λ (x : CallKind). OwnsFirst (call_of x opened) (call ∷ calls_in older) (IsTied made)) same t)
+fail_tie (Setting n) c fault opened spot made call older e t = let same : Reset ≡ c = cc in inl (subst (λ (x : CallKind). OwnsFirst (call_of x opened) (call ∷ calls_in older) (IsTied made)) same t)
 fail_tie Reading c fault opened spot made call older e t = inr t
 fail_tie Dropping c fault opened spot made call older e t = inr t
 fail_tie Taking c fault opened spot made call older e t = inr t
@@ -304,6 +311,8 @@ no_task Giving e = cc
 no_task (Arranging n) e = cc
 no_task (Running n) e = cc
 no_task (Finishing n) e = cc
+no_task Clearing e = cc
+no_task (Setting n) e = cc
 no_task Reading e = cc
 no_task Dropping e = cc
 no_task Taking e = cc
@@ -350,6 +359,7 @@ begun_rests DropResult spot connected at = rest_as spot connected at.0 at.1
 begun_rests TakeSet spot connected at = rest_as spot connected at.0 at.1
 begun_rests SkipTaken spot connected at = rest_as spot connected at.0 at.1
 begun_rests Ping spot connected at = rest_as spot connected at.0 at.1
+begun_rests Reset spot connected at = rest_as spot connected at.0 at.1
 begun_rests Quit spot connected at = rest_as spot connected at.0 at.1
 
 task_rests : (t : Task) (spot : Spot) (closed connected : Bool) (count : ℕ) (newest : Entry) → closes_when_cancelled t spot ≡ false → TaskIs t spot closed connected count newest → closed ≡ false → cond connected (is_settled spot) (is_greeting spot) ≡ true
@@ -361,6 +371,8 @@ task_rests Giving spot closed connected count newest off at e = cc
 task_rests (Arranging n) spot closed connected count newest off at e = cc
 task_rests (Running n) spot closed connected count newest off at e = cc
 task_rests (Finishing n) spot closed connected count newest off at e = cc
+task_rests Clearing spot closed connected count newest off at e = cc
+task_rests (Setting n) spot closed connected count newest off at e = cc
 task_rests Reading spot closed connected count newest off at e = rest_as spot connected at.0 (settled_by spot at.1 off)
 task_rests Dropping spot closed connected count newest off at e = rest_as spot connected at.0 (settled_by spot at.1 off)
 task_rests Taking spot closed connected count newest off at e = rest_as spot connected at.0 (settled_by spot at.1 off)
@@ -377,6 +389,8 @@ task_keeps Giving spot closed connected count newest off at e op = cc
 task_keeps (Arranging n) spot closed connected count newest off at e op = cc
 task_keeps (Running n) spot closed connected count newest off at e op = cc
 task_keeps (Finishing n) spot closed connected count newest off at e op = cc
+task_keeps Clearing spot closed connected count newest off at e op = cc
+task_keeps (Setting n) spot closed connected count newest off at e op = cc
 task_keeps Reading spot closed connected count newest off at e op = refl
 task_keeps Dropping spot closed connected count newest off at e op = refl
 task_keeps Taking spot closed connected count newest off at e op = refl
@@ -393,6 +407,8 @@ task_owes Giving spot off = cc
 task_owes (Arranging n) spot off = cc
 task_owes (Running n) spot off = cc
 task_owes (Finishing n) spot off = cc
+task_owes Clearing spot off = refl
+task_owes (Setting n) spot off = cc
 task_owes Reading spot off = refl
 task_owes Dropping spot off = refl
 task_owes Taking spot off = refl

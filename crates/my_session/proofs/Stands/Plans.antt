@@ -16,33 +16,35 @@ use Rattle.my_grammar.specs.Talk.{Talk, Start, Unwelcome, Greeted, Settled, Aske
 use Rattle.my_params.specs.declared.params.Params.{Params}
 use Rattle.my_reading.specs.declared.call.Call.TheVariants as calls
 use Rattle.my_reading.specs.declared.call.CallKind.{CallKind}
-use Rattle.my_reading.specs.declared.call.CallKind.TheVariants.{Connect, Query, Prepare, Execute, Batch, CloseStmt, NextRow, DropResult, TakeSet, SkipTaken, Ping, Quit}
+use Rattle.my_reading.specs.declared.call.CallKind.TheVariants.{Connect, Query, Prepare, Execute, Batch, CloseStmt, NextRow, DropResult, TakeSet, SkipTaken, Ping, Reset, Quit}
 use Rattle.my_session.specs.declared.task.LinkFault.{LinkFault}
 use Rattle.my_session.specs.declared.task.LinkFault.TheVariants as faults
 use Rattle.my_session.specs.declared.task.Task.{Task}
-use Rattle.my_session.specs.declared.task.Task.TheVariants.{Nothing, Begun, Cleaning, Own, Giving, Arranging, Running, Finishing, Reading, Dropping, Taking, Skipping, Leaving, Failing}
+use Rattle.my_session.specs.declared.task.Task.TheVariants.{Nothing, Begun, Cleaning, Own, Giving, Arranging, Running, Finishing, Clearing, Setting, Reading, Dropping, Taking, Skipping, Leaving, Failing}
 use Rattle.my_reading.specs.declared.error.Error.{Error}
 use Rattle.my_session.specs.declared.tables.Plan.{Plan}
 use Rattle.my_session.specs.declared.tables.Plan.TheVariants as plans
 use Rattle.my_reading.specs.Calls.{kind_of, call_of, id_in, lists_in, statement_in, text_in}
 use Rattle.my_reading.specs.Executions.{values_for}
 use Rattle.my_reading.specs.Facts.{prepared_by}
-use Rattle.my_reading.specs.Statements.{held_in, is_mixed_text, leaving, names_of, query_of, statement_with, with_columns, with_fetched, without_statement}
+use Rattle.my_reading.specs.Statements.{cleared, held_in, is_mixed_text, leaving, names_of, query_of, statement_with, with_columns, with_fetched, without_statement}
 use Rattle.my_statements.specs.Cache.{Held}
 use Rattle.my_session.specs.Tasks.{kind_in, fault_in, is_open}
 use Rattle.my_session.specs.Entries.{givens, onto, sets_of, may_lack, connects, has_connected, connecting_in, IsTied}
 use Rattle.my_reading.specs.Errors.{invalid_data, mixed_params, unexpected_eof, codec_error}
 use Rattle.my_session.specs.LinkErrors.{link_error}
 use Rattle.my_session.specs.Groups.{Group, groups, with_stop, stop_given, given, given_after}
-use Rattle.my_reading.specs.Told.{Told, ToldReady, ToldEnd, ToldNone, ToldStatement, ToldError, closes, closes_by}
+use Rattle.my_reading.specs.Told.{Told, ToldReady, ToldEnd, ToldNone, ToldStatement, ToldFlag, ToldError, closes, closes_by}
 use Rattle.my_session.specs.History.{History, Made, answered, noted, has_closed}
-use Rattle.my_session.specs.Machine.{Move, Goes, Needs, is_doubled, looked, with_kept, kept, batched, refusal, refused_by, advanced, with_task, failed_by, reply_to, above, unless_above, reacted, read_by, reading, planned, when_owed, next_by, next, is_greeting}
+use Rattle.my_session.specs.Machine.{Move, Goes, Needs, is_doubled, looked, with_kept, kept, batched, offered, refusal, refused_by, advanced, with_task, failed_by, reply_to, above, unless_above, reacted, read_by, reading, planned, when_owed, next_by, next, is_greeting}
+use Rattle.my_reading.specs.Versions.{can_reset}
+use Rattle.my_handshake.specs.Version.{version_of}
 use Rattle.my_session.specs.Seen.{Seen}
 use Rattle.my_session.specs.ServerErrors.{errors_told, with_told}
 use Rattle.my_session.specs.Stands.{Stands, Heard, TaskIs, TieIs, call_with, begun_of, is_first, is_left, is_shaking, is_lone, keeps, known_part, is_alive, owes}
 use Rattle.my_session.specs.Steps.{is_settled}
 use Rattle.my_session.specs.Tables.{react, is_breaking, plan_of, ask_plan, run_plan, clean_plan, own_plan, query_plan, execute_plan, prepare_plan, read_plan, drop_plan, take_plan, skip_plan, first_plan}
-use Rattle.my_session.proofs.Stands.Asking.{asks_keep, runs_keep, arranges_keep, refused_or, values_or, closes_keep}
+use Rattle.my_session.proofs.Stands.Asking.{asks_keep, runs_keep, sets_keep, arranges_keep, refused_or, values_or, closes_keep}
 use Rattle.my_session.proofs.Stands.Keeps.{Keeps, is_reader, react_keeps}
 use Rattle.my_session.proofs.Stands.Reacts.{falls, fell_stands}
 use Rattle.my_session.proofs.Stands.Spots.{settled_reads, settled_not_greeting, heading_not_greeting}
@@ -196,6 +198,11 @@ module _ (s : Seen) (h : History) (st : Stands s h) (open_still : s.closed ≡ f
   batched_keeps hd (Some params) at = values_or s h st open_still nothing op params (refused_by (values_for (statement_in s.call) params)) (record { seen = with_task s (Cleaning Batch) s.untold; does = Goes }) refl
       (λ _. starts Batch (Cleaning Batch) hd refl refl (refl, hd.at.0, settled_not_greeting s.context.spot (settled_reads s.context.spot hd.at.1)) hd.tie)
 
+  -- a reset begins, where the server can
+  offered_keeps : HeardAs (Begun Reset) → (b : Bool) → Keeps (offered s b) h
+  offered_keeps hd true = starts Reset (Cleaning Reset) hd refl refl (refl, hd.at.0, settled_not_greeting s.context.spot (settled_reads s.context.spot hd.at.1)) hd.tie
+  offered_keeps hd false = quiet (Begun Reset) Reset (ToldFlag false) hd refl refl refl refl refl refl refl hd.at.0 hd.at.1 hd.tie
+
   first_keeps : (c : CallKind) → HeardAs (Begun c) → Keeps (planned s (first_plan c)) h
   first_keeps Connect hd = starts Connect (Own Connect) hd refl refl (hd.at.0, ap is_shaking hd.at.1, first_count st.newest st.older (hd.first (ap is_greeting hd.at.1)).0 (hd.first (ap is_greeting hd.at.1)).1) ((hd.first (ap is_greeting hd.at.1)).0, at_greeting s.context.spot h.calls st.newest.call st.older (ap is_greeting hd.at.1) hd.tie)
   first_keeps Query hd = starts Query (Cleaning Query) hd refl refl (refl, hd.at.0, settled_not_greeting s.context.spot (settled_reads s.context.spot hd.at.1)) hd.tie
@@ -210,6 +217,7 @@ module _ (s : Seen) (h : History) (st : Stands s h) (open_still : s.closed ≡ f
   first_keeps TakeSet hd = starts TakeSet Taking hd refl refl (hd.at.0, settled_reads s.context.spot hd.at.1) hd.tie
   first_keeps SkipTaken hd = starts SkipTaken Skipping hd refl refl hd.at hd.tie
   first_keeps Ping hd = starts Ping (Cleaning Ping) hd refl refl (refl, hd.at.0, settled_not_greeting s.context.spot (settled_reads s.context.spot hd.at.1)) hd.tie
+  first_keeps Reset hd = offered_keeps hd (can_reset (version_of s.facts.version))
   first_keeps Quit hd = starts Quit (Cleaning Quit) hd refl refl (refl, hd.at.0, settled_not_greeting s.context.spot (settled_reads s.context.spot hd.at.1)) hd.tie
 
   -- the end of a lone OK is dropped
@@ -281,29 +289,38 @@ module _ (s : Seen) (h : History) (st : Stands s h) (open_still : s.closed ≡ f
   learns : HeardAs (Own Execute) → s.context.spot ≡ spots.Rows → Keeps (planned s plans.Learns) h
   learns hd rows = known_stands (with_task s Nothing s.untold) (answered h ToldReady) (with_columns (id_in (call_of Execute s.call)) s.facts.columns s.statements) (readied Execute hd hd.at (λ gs. refl) refl refl rows)
 
-  -- the rows of an execution of a batch are read whole
-  known_now : (n : ℕ) → s.task ≡ Running n → HeardAs (Running n) → Keeps (planned s (plans.Notes n)) h
-  known_now n task hd = known_stands (with_task s (Finishing n) s.untold) h (with_columns (id_in (call_of Batch s.call)) s.facts.columns s.statements) (record {
+  -- the call goes on with another task, which keeps nothing for reads
+  goes_to : (t u : Task) → HeardAs t → kind_in u ≡ kind_in t → keeps u ≡ false → TaskIs u s.context.spot s.closed (has_connected h.calls) (connecting_in (st.newest ∷ st.older)) st.newest → TieIs u s.call s.context.spot h.calls st.newest.call st.older → Stands (with_task s u s.untold) h
+  goes_to t u hd same lost at tie = record {
     newest = st.newest;
     older = st.older;
     wire = st.wire;
     heard = record {
-      pending_is = hd.pending_is;
+      pending_is = hd.pending_is ∙ ap (λ k. call_with k s.call) (sym same);
       closed_is = hd.closed_is;
       alive = λ _. open_still;
       given_is = hd.given_is;
       errors = hd.errors;
       each = hd.each;
       lone = hd.lone;
-      fresh = λ _ no _. cc;
-      at = (hd.at.0, heading_not_greeting s.context.spot hd.at.1);
+      fresh = λ _ kept _. let stop : true ≡ false = sym kept ∙ lost in cc;
+      at = at;
       first = hd.first;
-      tie = hd.tie;
+      tie = tie;
     };
     arranged = st.arranged;
     ended_is = st.ended_is;
     settled = λ _. nothing;
-  })
+  }
+
+  -- the rows of an execution of a batch are read whole
+  known_now : (n : ℕ) → s.task ≡ Running n → HeardAs (Running n) → Keeps (planned s (plans.Notes n)) h
+  known_now n task hd = known_stands (with_task s (Finishing n) s.untold) h (with_columns (id_in (call_of Batch s.call)) s.facts.columns s.statements)
+      (goes_to (Running n) (Finishing n) hd refl refl (hd.at.0, heading_not_greeting s.context.spot hd.at.1) hd.tie)
+
+  -- after a reset no statement is cached any more
+  clears : HeardAs Clearing → Keeps (planned s plans.Clears) h
+  clears hd = known_stands (with_task s (Setting 0) s.untold) h (cleared s.statements) (goes_to Clearing (Setting 0) hd refl refl (hd.at.0, ap is_greeting hd.at.1) hd.tie)
 
   runs : AreBytes s.unread → (n : ℕ) → s.task ≡ Running n → HeardAs (Running n) → (spot : Spot) → Keeps (planned s (run_plan n spot)) h
   runs bytes n task hd spots.Idle = reads bytes (not_reader (Running n) task refl)
@@ -460,6 +477,7 @@ module _ (s : Seen) (h : History) (st : Stands s h) (open_still : s.closed ≡ f
   owns bytes TakeSet task hd = absurd hd.at
   owns bytes SkipTaken task hd = absurd hd.at
   owns bytes Ping task hd = reads bytes (not_reader (Own Ping) task refl)
+  owns bytes Reset task hd = reads bytes (not_reader (Own Reset) task refl)
   owns bytes Quit task hd = falls s h ToldReady Quit (ap kind_in task) refl refl refl refl st
 
   -- the end of a lone OK is returned, or passed over
@@ -589,6 +607,8 @@ module _ (s : Seen) (h : History) (st : Stands s h) (open_still : s.closed ≡ f
   plan_keeps bytes sound (Arranging n) task hd = cleans bytes (Arranging n) task refl refl (plans.Arranges n) (arranges_keep s h st open_still nothing op n hd) s.context.spot refl s.untold refl
   plan_keeps bytes sound (Running n) task hd = runs bytes n task hd s.context.spot
   plan_keeps bytes sound (Finishing n) task hd = cleans bytes (Finishing n) task refl refl (plans.Runs n) (runs_keep s h st open_still nothing op n hd) s.context.spot refl s.untold refl
+  plan_keeps bytes sound Clearing task hd = clears hd
+  plan_keeps bytes sound (Setting n) task hd = cleans bytes (Setting n) task refl refl (plans.Sets n) (sets_keep s h st open_still nothing op n hd) s.context.spot refl s.untold refl
   plan_keeps bytes sound Reading task hd = reading_plan bytes task hd s.untold refl
   plan_keeps bytes sound Dropping task hd = dropping_plan bytes task hd s.untold refl
   plan_keeps bytes sound Taking task hd = taking_plan bytes task hd s.untold refl
@@ -616,6 +636,8 @@ module _ (s : Seen) (h : History) (st : Stands s h) (bytes : AreBytes s.unread) 
   alive_or (Arranging n) task sound = inl (st.heard.alive (ap is_alive task))
   alive_or (Running n) task sound = inl (st.heard.alive (ap is_alive task))
   alive_or (Finishing n) task sound = inl (st.heard.alive (ap is_alive task))
+  alive_or Clearing task sound = inl (st.heard.alive (ap is_alive task))
+  alive_or (Setting n) task sound = inl (st.heard.alive (ap is_alive task))
   alive_or Reading task sound = inl (st.heard.alive (ap is_alive task))
   alive_or Dropping task sound = inl (st.heard.alive (ap is_alive task))
   alive_or Taking task sound = inl (st.heard.alive (ap is_alive task))

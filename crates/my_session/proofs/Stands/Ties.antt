@@ -5,13 +5,13 @@ use Rattle.my_grammar.specs.declared.spot.Spot.{Spot}
 use Rattle.my_reading.specs.declared.call.Call.{Call}
 use Rattle.my_reading.specs.declared.call.Call.TheVariants as calls
 use Rattle.my_reading.specs.declared.call.CallKind.{CallKind}
-use Rattle.my_reading.specs.declared.call.CallKind.TheVariants.{Connect, Query, Prepare, Execute, Batch, CloseStmt, NextRow, DropResult, TakeSet, SkipTaken, Ping, Quit}
+use Rattle.my_reading.specs.declared.call.CallKind.TheVariants.{Connect, Query, Prepare, Execute, Batch, CloseStmt, NextRow, DropResult, TakeSet, SkipTaken, Ping, Reset, Quit}
 use Rattle.my_session.specs.declared.task.Task.{Task}
 use Rattle.my_session.specs.declared.task.Task.TheVariants as tasks
 use Rattle.my_reading.specs.Calls.{kind_of, call_of, is_connect, asks}
 use Rattle.my_session.specs.Tasks.{kind_in, is_open}
 use Rattle.my_session.specs.Entries.{Entry, calls_in, connecting_in, connects, has_connected, owns_more, OwnsFirst, IsTied, may_lack}
-use Rattle.my_reading.specs.Told.{Told, ToldReady, ToldRow, ToldEnd, ToldNone, ToldStatement, ToldError, Dropped, closes}
+use Rattle.my_reading.specs.Told.{Told, ToldReady, ToldRow, ToldEnd, ToldNone, ToldStatement, ToldFlag, ToldError, Dropped, closes}
 use Rattle.my_session.specs.History.{History, Made, answered, noted, with_answer}
 use Rattle.my_session.specs.Machine.{is_greeting, with_statements, with_taken}
 use Rattle.my_reading.specs.Statements.{Statements}
@@ -43,6 +43,8 @@ kind_there_is tasks.Giving e = (Prepare, refl)
 kind_there_is (tasks.Arranging n) e = (Connect, refl)
 kind_there_is (tasks.Running n) e = (Batch, refl)
 kind_there_is (tasks.Finishing n) e = (Batch, refl)
+kind_there_is tasks.Clearing e = (Reset, refl)
+kind_there_is (tasks.Setting n) e = (Reset, refl)
 kind_there_is tasks.Reading e = (NextRow, refl)
 kind_there_is tasks.Dropping e = (DropResult, refl)
 kind_there_is tasks.Taking e = (TakeSet, refl)
@@ -62,6 +64,7 @@ asks_not DropResult opened e = cc
 asks_not TakeSet opened e = cc
 asks_not SkipTaken opened e = cc
 asks_not Ping opened e = refl
+asks_not Reset opened e = refl
 asks_not Quit opened e = refl
 
 -- after the first of the exchanges that a call owns
@@ -94,6 +97,8 @@ closed_tie (tasks.Arranging n) c opened spot made call older m k e lack t = let 
 closed_tie tasks.Giving c opened spot made call older m k e lack t = let same : Prepare ≡ c = cc in owned_tie Prepare c opened spot made call older m same e lack t
 closed_tie (tasks.Running n) c opened spot made call older m k e lack t = let same : Batch ≡ c = cc in owned_tie Batch c opened spot made call older m same e lack t
 closed_tie (tasks.Finishing n) c opened spot made call older m k e lack t = let same : Batch ≡ c = cc in owned_tie Batch c opened spot made call older m same e lack t
+closed_tie tasks.Clearing c opened spot made call older m k e lack t = let same : Reset ≡ c = cc in owned_tie Reset c opened spot made call older m same e lack t
+closed_tie (tasks.Setting n) c opened spot made call older m k e lack t = let same : Reset ≡ c = cc in owned_tie Reset c opened spot made call older m same e lack t
 closed_tie tasks.Reading c opened spot made call older m k e lack t = inl (lack, t)
 closed_tie tasks.Dropping c opened spot made call older m k e lack t = inl (lack, t)
 closed_tie tasks.Taking c opened spot made call older m k e lack t = inl (lack, t)
@@ -143,11 +148,13 @@ closes_unmade ToldReady DropResult e = refl
 closes_unmade ToldReady TakeSet e = refl
 closes_unmade ToldReady SkipTaken e = refl
 closes_unmade ToldReady Ping e = refl
+closes_unmade ToldReady Reset e = refl
 closes_unmade ToldReady Quit e = refl
 closes_unmade (ToldRow row) c e = refl
 closes_unmade ToldEnd c e = refl
 closes_unmade ToldNone c e = refl
 closes_unmade (ToldStatement statement) c e = refl
+closes_unmade (ToldFlag flag) c e = refl
 closes_unmade (ToldError x) c e = refl
 closes_unmade (Dropped closing) c e = refl
 

@@ -10,11 +10,13 @@ use Rattle.my_reading.specs.declared.call.CallKind.TheVariants.{Execute, Batch}
 use Rattle.my_statements.specs.Cache.{Held}
 use Rattle.my_reading.specs.declared.error.DriverError.{DriverError}
 use Rattle.my_reading.specs.Calls.{call_of, text_in, lists_in, statement_in}
-use Rattle.my_reading.specs.Commands.{closing, command_of, connecting, execution}
+use Rattle.my_reading.specs.Commands.{closing, command_of, connecting, execution, queried, setup_texts}
 use Rattle.my_reading.specs.Facts.{prepared_by}
 use Rattle.my_reading.specs.Statements.{held_in, is_mixed_text, leaving, query_of}
 use Rattle.my_reading.specs.Errors.{invalid_data, unexpected_eof}
 use Rattle.my_reading.specs.Rows.{row_at}
+use Rattle.my_reading.specs.Versions.{can_reset}
+use Rattle.my_handshake.specs.Version.{version_of}
 use Rattle.my_session.specs.declared.answer.SessionStep.{SessionStep}
 use Rattle.my_session.specs.declared.answer.Tick.{Tick}
 use Rattle.my_session.specs.declared.tables.Plan.{Plan}
@@ -23,9 +25,9 @@ use Rattle.my_session.specs.declared.reactions.Reaction.{Reaction}
 use Rattle.my_session.specs.declared.reactions.Reaction.TheVariants as reactions
 use Rattle.my_session.specs.declared.task.LinkFault.{LinkFault}
 use Rattle.my_session.specs.declared.task.Task.{Task}
-use Rattle.my_session.specs.declared.task.Task.TheVariants.{Nothing, Cleaning, Own, Giving, Arranging, Running}
+use Rattle.my_session.specs.declared.task.Task.TheVariants.{Nothing, Cleaning, Own, Giving, Arranging, Running, Setting}
 use Rattle.my_session.specs.Machine as machine
-use Rattle.my_session.specs.Machine.{Move, Sends, Needs, Does, advanced, reply_to, above, unless_above, refused, gave, passed, reacted, read_by, reading, next_terms, unless_exceeds, unless_refused, refusal, is_doubled, looked, with_kept, kept, asked, arranged, planned, when_owed, next_by, next, refused_by, batched, ran}
+use Rattle.my_session.specs.Machine.{Move, Sends, Needs, Does, advanced, reply_to, above, unless_above, refused, gave, passed, reacted, read_by, reading, next_terms, unless_exceeds, unless_refused, refusal, is_doubled, looked, with_kept, kept, asked, arranged, offered, set_up, planned, when_owed, next_by, next, refused_by, batched, ran}
 use Rattle.my_session.specs.Seen.{Seen}
 use Rattle.my_session.specs.Steps.{Steps, last_tick, moved}
 use Rattle.my_session.specs.Tables.{is_breaking, is_connecting, plan_of, react}
@@ -115,6 +117,14 @@ module _ (s : Seen) where
   batched_fewer None = omega arith
   batched_fewer (Some params) = unless_refused_fewer (refused_by (values_for (statement_in s.call) params)) (record { seen = machine.with_task s (Cleaning Batch) s.untold; does = machine.Goes }) (omega arith)
 
+  offered_fewer : (b : Bool) → Fewer (offered s b)
+  offered_fewer true = omega arith
+  offered_fewer false = omega arith
+
+  set_up_fewer : (n : ℕ) (o : Option (List ℕ)) → Fewer (set_up s n o)
+  set_up_fewer n None = omega arith
+  set_up_fewer n (Some text) = begins_if s (Setting (suc n)) (queried (next_terms s) text) _ (omega arith)
+
   looked_fewer : (mixed : Bool) (o : Option Held) → Fewer (looked s mixed o)
   looked_fewer true o = omega arith
   looked_fewer false None = omega arith
@@ -134,6 +144,9 @@ module _ (s : Seen) where
   plan_fewer (plans.Runs n) = ran_fewer (suc n) (slice_get (lists_in s.call) n)
   plan_fewer (plans.Notes n) = omega arith
   plan_fewer plans.Forgets = omega arith
+  plan_fewer plans.Resets = offered_fewer (can_reset (version_of s.facts.version))
+  plan_fewer plans.Clears = omega arith
+  plan_fewer (plans.Sets n) = set_up_fewer n (slice_get (setup_texts s.login) n)
   plan_fewer (plans.Asks c) = unless_refused_fewer (refusal c s.call) (asked s (Own c) (command_of (next_terms s) s.statements (call_of c s.call))) (asked_fewer (Own c) (command_of (next_terms s) s.statements (call_of c s.call)))
   plan_fewer (plans.Arranges n) = arranged_fewer n (connecting s.login (next_terms s) (suc n))
   plan_fewer plans.Readies = omega arith

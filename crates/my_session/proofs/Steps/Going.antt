@@ -27,10 +27,10 @@ use Rattle.my_reading.specs.Facts.{prepared_by}
 use Rattle.my_reading.specs.Statements.{held_in, is_mixed_text, known_in, leaving, query_of}
 use Rattle.my_grammar.proofs.Cutting.Fronts.{takes_whole}
 use Rattle.my_reading.specs.declared.call.CallKind.{CallKind}
-use Rattle.my_reading.specs.declared.call.CallKind.TheVariants.{Connect, Query, Prepare, Execute, Batch, CloseStmt, NextRow, DropResult, TakeSet, SkipTaken, Ping, Quit}
+use Rattle.my_reading.specs.declared.call.CallKind.TheVariants.{Connect, Query, Prepare, Execute, Batch, CloseStmt, NextRow, DropResult, TakeSet, SkipTaken, Ping, Reset, Quit}
 use Rattle.my_session.specs.declared.task.LinkFault.{LinkFault}
 use Rattle.my_session.specs.declared.task.Task.{Task}
-use Rattle.my_session.specs.declared.task.Task.TheVariants.{Nothing, Begun, Cleaning, Own, Giving, Arranging, Running, Finishing, Reading, Dropping, Taking, Skipping, Leaving, Failing}
+use Rattle.my_session.specs.declared.task.Task.TheVariants.{Nothing, Begun, Cleaning, Own, Giving, Arranging, Running, Finishing, Clearing, Setting, Reading, Dropping, Taking, Skipping, Leaving, Failing}
 use Rattle.my_reading.specs.declared.error.Error.{Error}
 use Rattle.my_reading.specs.declared.error.Error.TheVariants as errors
 use Rattle.my_session.specs.declared.tables.Plan.{Plan}
@@ -41,14 +41,16 @@ use Rattle.my_session.specs.declared.answer.Tick.{Tick}
 use Rattle.my_session.specs.declared.answer.Tick.TheVariants as ticks
 use Rattle.my_reading.specs.Calls.{call_of, id_in, params_in, statement_in, text_in, lists_in}
 use Rattle.my_session.specs.Tasks.{is_open, fault_in}
-use Rattle.my_reading.specs.Commands.{arranging, arranging_texts, closing, command_of, execution}
+use Rattle.my_reading.specs.Commands.{arranging, arranging_texts, closing, command_of, execution, setup_texts}
 use Rattle.my_reading.specs.Errors.{invalid_data, unexpected_eof}
 use Rattle.my_session.specs.Machine as machine
-use Rattle.my_session.specs.Machine.{Move, Doing, Goes, Sends, Needs, Tells, Did, Does, FaultIs, fell, with_task, advanced, reply_to, above, unless_above, refused, gave, passed, reacted, read_by, read_kind, reading, next_terms, unless_exceeds, unless_refused, refusal, is_doubled, looked, with_kept, kept, asked, arranged, planned, when_owed, next_by, next, doing, refused_by, batched, ran}
+use Rattle.my_session.specs.Machine.{Move, Doing, Goes, Sends, Needs, Tells, Did, Does, FaultIs, fell, with_task, advanced, reply_to, above, unless_above, refused, gave, passed, reacted, read_by, read_kind, reading, next_terms, unless_exceeds, unless_refused, refusal, is_doubled, looked, with_kept, kept, asked, arranged, offered, set_up, planned, when_owed, next_by, next, doing, refused_by, batched, ran}
 use Rattle.my_reading.specs.Rows.{row_at}
+use Rattle.my_reading.specs.Versions.{can_reset}
+use Rattle.my_handshake.specs.Version.{version_of}
 use Rattle.my_session.specs.Seen.{Seen}
 use Rattle.my_session.specs.Steps.{rank, left_to_do, TickIs}
-use Rattle.my_session.specs.Tables.{plan_of, react, react_whole, react_connect, react_ping, react_own, is_breaking, is_connecting, first_plan, clean_plan, own_plan, query_plan, execute_plan, prepare_plan, read_plan, drop_plan, take_plan, skip_plan, ask_plan, run_plan, react_head}
+use Rattle.my_session.specs.Tables.{plan_of, react, react_whole, react_connect, react_own, react_single, is_breaking, is_connecting, first_plan, clean_plan, own_plan, query_plan, execute_plan, prepare_plan, read_plan, drop_plan, take_plan, skip_plan, ask_plan, run_plan, react_head}
 use Rattle.my_params.specs.declared.params.Params.{Params}
 
 -- what a move leaves
@@ -92,19 +94,19 @@ head_goes good t kinds.Parameter g op low = (op, low)
 head_goes good t kinds.Field g op low = (op, low)
 head_goes good t kinds.Bad g op low = tt
 
-ping_goes : (k : Kind) → GoesOn (react_ping k)
-ping_goes (kinds.Greets n) = tt
-ping_goes (kinds.Good status) = tt
-ping_goes kinds.Failed = tt
-ping_goes (kinds.Count n) = tt
-ping_goes kinds.Column = tt
-ping_goes kinds.ColumnsDone = tt
-ping_goes kinds.Row = tt
-ping_goes (kinds.End status) = tt
-ping_goes (kinds.Prepared params columns) = tt
-ping_goes kinds.Parameter = tt
-ping_goes kinds.Field = tt
-ping_goes kinds.Bad = tt
+single_goes : (good : Reaction) (k : Kind) → GoesOn good → GoesOn (react_single good k)
+single_goes good (kinds.Greets n) g = tt
+single_goes good (kinds.Good status) g = g
+single_goes good kinds.Failed g = tt
+single_goes good (kinds.Count n) g = tt
+single_goes good kinds.Column g = tt
+single_goes good kinds.ColumnsDone g = tt
+single_goes good kinds.Row g = tt
+single_goes good (kinds.End status) g = tt
+single_goes good (kinds.Prepared params columns) g = tt
+single_goes good kinds.Parameter g = tt
+single_goes good kinds.Field g = tt
+single_goes good kinds.Bad g = tt
 
 whole_goes : (t : Task) → is_open t ≡ true → rank t false ≤ 2 → (k : Kind) → GoesOn (react_whole t k)
 whole_goes t op low (kinds.Greets n) = tt
@@ -131,7 +133,8 @@ own_goes NextRow k = tt
 own_goes DropResult k = tt
 own_goes TakeSet k = tt
 own_goes SkipTaken k = tt
-own_goes Ping k = ping_goes k
+own_goes Ping k = single_goes (reactions.Readies false) k tt
+own_goes Reset k = single_goes (reactions.Goes Clearing) k (refl, omega arith)
 own_goes Quit k = tt
 
 react_goes : (t : Task) (k : Kind) → GoesOn (react t k)
@@ -143,6 +146,8 @@ react_goes Giving k = tt
 react_goes (Arranging n) k = whole_goes (Arranging n) refl (omega arith) k
 react_goes (Running n) k = head_goes (reactions.Goes (Finishing n)) (Running n) k (refl, omega arith) refl (omega arith)
 react_goes (Finishing n) k = whole_goes (Finishing n) refl (omega arith) k
+react_goes Clearing k = tt
+react_goes (Setting n) k = whole_goes (Setting n) refl (omega arith) k
 react_goes Reading (kinds.Greets n) = tt
 react_goes Reading (kinds.Good status) = tt
 react_goes Reading kinds.Failed = tt
@@ -192,6 +197,8 @@ rank_false Giving untold = omega arith
 rank_false (Arranging n) untold = omega arith
 rank_false (Running n) untold = omega arith
 rank_false (Finishing n) untold = omega arith
+rank_false Clearing untold = omega arith
+rank_false (Setting n) untold = omega arith
 rank_false Reading untold = omega arith
 rank_false Dropping untold = omega arith
 rank_false Taking untold = omega arith
@@ -272,6 +279,8 @@ FitsTask t untold plans.Checks = rank (Cleaning Execute) untold < rank t untold
 FitsTask t untold plans.Batches = rank (Cleaning Batch) untold < rank t untold
 FitsTask t untold (plans.Notes n) = rank (Finishing n) untold < rank t untold
 FitsTask t untold plans.Forgets = rank (Cleaning CloseStmt) untold < rank t untold
+FitsTask t untold plans.Resets = rank (Cleaning Reset) untold < rank t untold
+FitsTask t untold plans.Clears = rank (Setting 0) untold < rank t untold
 FitsTask t untold plans.Keeps = rank Giving false < rank t untold
 FitsTask t untold p = Unit {0}
 
@@ -313,6 +322,7 @@ asked_is s DropResult call none = refl
 asked_is s TakeSet call none = refl
 asked_is s SkipTaken call none = refl
 asked_is s Ping call none = begins_if s s (Own Ping) (Asked (next_terms s) (packet_bytes packets.Ping)) _ none refl (some_bytes (packet_bytes packets.Ping) 0)
+asked_is s Reset call none = begins_if s s (Own Reset) (Asked (next_terms s) (packet_bytes packets.ResetConnection)) _ none refl (some_bytes (packet_bytes packets.ResetConnection) 0)
 asked_is s Quit call none = begins_if s s (Own Quit) (Silent (next_terms s) (packet_bytes packets.Quit)) _ none refl (some_bytes (packet_bytes packets.Quit) 0)
 
 arranged_is : (s : Seen) (n : ℕ) (text : Option (List ℕ)) → s.owed ≡ [] → MoveIs s (arranged s n (arranging (next_terms s) text)).seen (arranged s n (arranging (next_terms s) text)).does
@@ -334,6 +344,14 @@ batched_is : (s : Seen) (o : Option Params) → rank (Cleaning Batch) s.untold <
 batched_is s None less = refl
 batched_is s (Some params) less = unless_refused_is s (refused_by (values_for (statement_in s.call) params)) (record { seen = with_task s (Cleaning Batch) s.untold; does = Goes }) (refl, omega (arith, less))
 
+offered_is : (s : Seen) (b : Bool) → rank (Cleaning Reset) s.untold < rank s.task s.untold → MoveIs s (offered s b).seen (offered s b).does
+offered_is s true less = (refl, omega arith)
+offered_is s false less = refl
+
+set_up_is : (s : Seen) (n : ℕ) (text : Option (List ℕ)) → s.owed ≡ [] → MoveIs s (set_up s n text).seen (set_up s n text).does
+set_up_is s n None none = refl
+set_up_is s n (Some text) none = begins_if s s (Setting (suc n)) (Queried (next_terms s) (packet_bytes (packets.Query text)) (NoSets ByText)) _ none refl (some_bytes (packet_bytes (packets.Query text)) 0)
+
 looked_is : (s : Seen) (mixed : Bool) (o : Option Held) → rank (Cleaning Prepare) s.untold < rank s.task s.untold → MoveIs s (looked s mixed o).seen (looked s mixed o).does
 looked_is s true o less = refl
 looked_is s false None less = (refl, omega arith)
@@ -353,6 +371,9 @@ plan_is s plans.Batches op none f = batched_is s (slice_get (lists_in s.call) 0)
 plan_is s (plans.Runs n) op none f = ran_is s (suc n) (slice_get (lists_in s.call) n) none
 plan_is s (plans.Notes n) op none f = (refl, omega (arith, f))
 plan_is s plans.Forgets op none f = (refl, omega (arith, f))
+plan_is s plans.Resets op none f = offered_is s (can_reset (version_of s.facts.version)) f
+plan_is s plans.Clears op none f = (refl, omega (arith, f))
+plan_is s (plans.Sets n) op none f = set_up_is s n (slice_get (setup_texts s.login) n) none
 plan_is s (plans.Asks c) op none f = unless_refused_is s (refusal c s.call) (asked s (Own c) (command_of (next_terms s) s.statements (call_of c s.call))) (asked_is s c s.call none)
 plan_is s (plans.Arranges n) op none f = arranged_is s n (slice_get (arranging_texts s.login) n) none
 plan_is s plans.Readies op none f = refl
@@ -407,6 +428,7 @@ first_fits DropResult untold = (refl, rank_dropping untold)
 first_fits TakeSet untold = (refl, omega arith)
 first_fits SkipTaken untold = (refl, rank_skipping untold)
 first_fits Ping untold = (refl, rank_cleaning Ping untold)
+first_fits Reset untold = rank_cleaning Reset untold
 first_fits Quit untold = (refl, rank_cleaning Quit untold)
 
 query_fits : (spot : Spot) (untold : Bool) → FitsTask (Own Query) untold (query_plan spot)
@@ -469,6 +491,7 @@ own_fits DropResult spot untold = tt
 own_fits TakeSet spot untold = tt
 own_fits SkipTaken spot untold = tt
 own_fits Ping spot untold = tt
+own_fits Reset spot untold = tt
 own_fits Quit spot untold = tt
 
 read_fits : (spot : Spot) → FitsTask Reading false (read_plan spot)
@@ -547,11 +570,16 @@ ask_fits t DropResult = tt
 ask_fits t TakeSet = tt
 ask_fits t SkipTaken = tt
 ask_fits t Ping = tt
+ask_fits t Reset = tt
 ask_fits t Quit = tt
 
 rank_finishing : (n : ℕ) (untold : Bool) → rank (Finishing n) untold < 2
 rank_finishing n true = omega arith
 rank_finishing n false = omega arith
+
+rank_setting : (n : ℕ) (untold : Bool) → rank (Setting n) untold < 2
+rank_setting n true = omega arith
+rank_setting n false = omega arith
 
 run_fits : (n : ℕ) (spot : Spot) (untold : Bool) → FitsTask (Running n) untold (run_plan n spot)
 run_fits n spots.Idle untold = tt
@@ -578,6 +606,8 @@ plan_fits Giving spot untold = tt
 plan_fits (Arranging n) spot untold = cleaning_fits (Arranging n) (plans.Arranges n) (omega arith) tt spot untold
 plan_fits (Running n) spot untold = run_fits n spot untold
 plan_fits (Finishing n) spot untold = cleaning_fits (Finishing n) (plans.Runs n) (omega arith) tt spot untold
+plan_fits Clearing spot untold = rank_setting 0 untold
+plan_fits (Setting n) spot untold = cleaning_fits (Setting n) (plans.Sets n) (omega arith) tt spot untold
 plan_fits Reading spot true = tt
 plan_fits Reading spot false = read_fits spot
 plan_fits Dropping spot true = omega arith

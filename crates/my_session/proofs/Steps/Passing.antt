@@ -10,10 +10,10 @@ use Rattle.my_grammar.specs.declared.spot.Kind.TheVariants as kinds
 use Rattle.my_grammar.specs.Kinds.{kind_there}
 use Rattle.my_grammar.specs.Talk.{Talk}
 use Rattle.my_reading.specs.declared.call.CallKind.{CallKind}
-use Rattle.my_reading.specs.declared.call.CallKind.TheVariants.{Connect, Query, Prepare, Execute, Batch, CloseStmt, NextRow, DropResult, TakeSet, SkipTaken, Ping, Quit}
+use Rattle.my_reading.specs.declared.call.CallKind.TheVariants.{Connect, Query, Prepare, Execute, Batch, CloseStmt, NextRow, DropResult, TakeSet, SkipTaken, Ping, Reset, Quit}
 use Rattle.my_session.specs.declared.task.LinkFault.{LinkFault}
 use Rattle.my_session.specs.declared.task.Task.{Task}
-use Rattle.my_session.specs.declared.task.Task.TheVariants.{Nothing, Begun, Cleaning, Own, Giving, Arranging, Running, Finishing, Reading, Dropping, Taking, Skipping, Leaving, Failing}
+use Rattle.my_session.specs.declared.task.Task.TheVariants.{Nothing, Begun, Cleaning, Own, Giving, Arranging, Running, Finishing, Clearing, Setting, Reading, Dropping, Taking, Skipping, Leaving, Failing}
 use Rattle.my_session.specs.declared.tables.Plan.{Plan}
 use Rattle.my_session.specs.declared.tables.Plan.TheVariants as plans
 use Rattle.my_session.specs.declared.reactions.Reaction.{Reaction}
@@ -26,17 +26,19 @@ use Rattle.my_session.specs.Tasks.{kind_in, fault_in}
 use Rattle.my_statements.specs.Cache.{Held}
 use Rattle.my_reading.specs.declared.error.DriverError.{DriverError}
 use Rattle.my_reading.specs.Calls.{call_of, text_in, lists_in, statement_in}
-use Rattle.my_reading.specs.Commands.{closing, command_of, connecting, execution}
+use Rattle.my_reading.specs.Commands.{closing, command_of, connecting, execution, queried, setup_texts}
 use Rattle.my_reading.specs.Facts.{prepared_by}
 use Rattle.my_reading.specs.Statements.{held_in, is_mixed_text, leaving, query_of}
 use Rattle.my_reading.specs.Errors.{invalid_data, unexpected_eof}
 use Rattle.my_session.specs.Machine as machine
-use Rattle.my_session.specs.Machine.{Move, Doing, Goes, Sends, Needs, Tells, Did, Does, FaultIs, advanced, reply_to, above, unless_above, refused, gave, passed, reacted, read_by, reading, next_terms, unless_exceeds, unless_refused, refusal, is_doubled, looked, with_kept, kept, asked, arranged, planned, when_owed, next_by, next, doing, refused_by, batched, ran}
+use Rattle.my_session.specs.Machine.{Move, Doing, Goes, Sends, Needs, Tells, Did, Does, FaultIs, advanced, reply_to, above, unless_above, refused, gave, passed, reacted, read_by, reading, next_terms, unless_exceeds, unless_refused, refusal, is_doubled, looked, with_kept, kept, asked, arranged, offered, set_up, planned, when_owed, next_by, next, doing, refused_by, batched, ran}
 use Rattle.my_session.specs.Passed.{IsItem, is_passing}
 use Rattle.my_reading.specs.Rows.{row_at}
+use Rattle.my_reading.specs.Versions.{can_reset}
+use Rattle.my_handshake.specs.Version.{version_of}
 use Rattle.my_session.specs.Seen.{Seen}
 use Rattle.my_session.specs.Steps.{goes_on}
-use Rattle.my_session.specs.Tables.{plan_of, react, react_whole, react_connect, react_ping, react_own, is_breaking, is_connecting, first_plan, clean_plan, own_plan, query_plan, execute_plan, prepare_plan, read_plan, drop_plan, take_plan, skip_plan, ask_plan, run_plan, react_head}
+use Rattle.my_session.specs.Tables.{plan_of, react, react_whole, react_connect, react_own, react_single, is_breaking, is_connecting, first_plan, clean_plan, own_plan, query_plan, execute_plan, prepare_plan, read_plan, drop_plan, take_plan, skip_plan, ask_plan, run_plan, react_head}
 use Rattle.my_params.specs.declared.params.Params.{Params}
 use Rattle.std.specs.List.{slice_get}
 use Rattle.my_reading.specs.Executions.{values_for}
@@ -84,19 +86,19 @@ head_stays good t kinds.Parameter g sound = (refl, sound)
 head_stays good t kinds.Field g sound = (refl, sound)
 head_stays good t kinds.Bad g sound = tt
 
-ping_stays : (k : Kind) → StaysIn (Some Ping) (react_ping k)
-ping_stays (kinds.Greets n) = tt
-ping_stays (kinds.Good status) = tt
-ping_stays kinds.Failed = tt
-ping_stays (kinds.Count n) = tt
-ping_stays kinds.Column = tt
-ping_stays kinds.ColumnsDone = tt
-ping_stays kinds.Row = tt
-ping_stays (kinds.End status) = tt
-ping_stays (kinds.Prepared params columns) = tt
-ping_stays kinds.Parameter = tt
-ping_stays kinds.Field = tt
-ping_stays kinds.Bad = tt
+single_stays : (kind : Option CallKind) (good : Reaction) (k : Kind) → StaysIn kind good → StaysIn kind (react_single good k)
+single_stays kind good (kinds.Greets n) g = tt
+single_stays kind good (kinds.Good status) g = g
+single_stays kind good kinds.Failed g = tt
+single_stays kind good (kinds.Count n) g = tt
+single_stays kind good kinds.Column g = tt
+single_stays kind good kinds.ColumnsDone g = tt
+single_stays kind good kinds.Row g = tt
+single_stays kind good (kinds.End status) g = tt
+single_stays kind good (kinds.Prepared params columns) g = tt
+single_stays kind good kinds.Parameter g = tt
+single_stays kind good kinds.Field g = tt
+single_stays kind good kinds.Bad g = tt
 
 whole_stays : (t : Task) → fault_in t ≡ None → (k : Kind) → StaysIn (kind_in t) (react_whole t k)
 whole_stays t sound (kinds.Greets n) = tt
@@ -123,7 +125,8 @@ own_stays NextRow k = tt
 own_stays DropResult k = tt
 own_stays TakeSet k = tt
 own_stays SkipTaken k = tt
-own_stays Ping k = ping_stays k
+own_stays Ping k = single_stays (Some Ping) (reactions.Readies false) k tt
+own_stays Reset k = single_stays (Some Reset) (reactions.Goes Clearing) k (refl, refl)
 own_stays Quit k = tt
 
 react_stays : (t : Task) (k : Kind) → StaysIn (kind_in t) (react t k)
@@ -135,6 +138,8 @@ react_stays Giving k = tt
 react_stays (Arranging n) k = whole_stays (Arranging n) refl k
 react_stays (Running n) k = head_stays (reactions.Goes (Finishing n)) (Running n) k (refl, refl) refl
 react_stays (Finishing n) k = whole_stays (Finishing n) refl k
+react_stays Clearing k = tt
+react_stays (Setting n) k = whole_stays (Setting n) refl k
 react_stays Reading (kinds.Greets n) = tt
 react_stays Reading (kinds.Good status) = tt
 react_stays Reading kinds.Failed = tt
@@ -184,6 +189,8 @@ Suits kind plans.Checks = Some Execute ≡ kind
 Suits kind plans.Batches = Some Batch ≡ kind
 Suits kind (plans.Notes n) = Some Batch ≡ kind
 Suits kind plans.Forgets = Some CloseStmt ≡ kind
+Suits kind plans.Resets = Some Reset ≡ kind
+Suits kind plans.Clears = Some Reset ≡ kind
 Suits kind plans.Keeps = Some Prepare ≡ kind
 Suits kind p = Unit {0}
 
@@ -199,6 +206,7 @@ first_suits DropResult = (refl, refl)
 first_suits TakeSet = (refl, refl)
 first_suits SkipTaken = (refl, refl)
 first_suits Ping = (refl, refl)
+first_suits Reset = refl
 first_suits Quit = (refl, refl)
 
 cleaning_suits : (kind : Option CallKind) (p : Plan) → Suits kind p → (spot : Spot) (untold : Bool) → Suits kind (clean_plan p spot untold)
@@ -278,6 +286,7 @@ own_suits DropResult spot = tt
 own_suits TakeSet spot = tt
 own_suits SkipTaken spot = tt
 own_suits Ping spot = tt
+own_suits Reset spot = tt
 own_suits Quit spot = tt
 
 read_suits : (spot : Spot) → Suits (Some NextRow) (read_plan spot)
@@ -356,6 +365,7 @@ ask_suits DropResult = tt
 ask_suits TakeSet = tt
 ask_suits SkipTaken = tt
 ask_suits Ping = tt
+ask_suits Reset = tt
 ask_suits Quit = tt
 
 run_suits : (n : ℕ) (spot : Spot) → Suits (Some Batch) (run_plan n spot)
@@ -383,6 +393,8 @@ plan_suits Giving spot untold = tt
 plan_suits (Arranging n) spot untold = cleaning_suits (Some Connect) (plans.Arranges n) tt spot untold
 plan_suits (Running n) spot untold = run_suits n spot
 plan_suits (Finishing n) spot untold = cleaning_suits (Some Batch) (plans.Runs n) tt spot untold
+plan_suits Clearing spot untold = refl
+plan_suits (Setting n) spot untold = cleaning_suits (Some Reset) (plans.Sets n) tt spot untold
 plan_suits Reading spot true = tt
 plan_suits Reading spot false = read_suits spot
 plan_suits Dropping spot true = refl
@@ -477,6 +489,14 @@ module _ (s : Seen) (sound : fault_in s.task ≡ None) where
   batched_stays None i = (tt, refl)
   batched_stays (Some params) i = unless_refused_stays (refused_by (values_for (statement_in s.call) params)) (record { seen = machine.with_task s (Cleaning Batch) s.untold; does = Goes }) ((i, refl), refl)
 
+  offered_stays : (b : Bool) → Some Reset ≡ kind_in s.task → Stays (offered s b)
+  offered_stays true i = ((i, refl), refl)
+  offered_stays false i = (tt, refl)
+
+  set_up_stays : (n : ℕ) (o : Option (List ℕ)) → Stays (set_up s n o)
+  set_up_stays n None = (tt, refl)
+  set_up_stays n (Some text) = begins_if s (Setting (suc n)) (queried (next_terms s) text) _ refl
+
   looked_stays : (mixed : Bool) (o : Option Held) → Some Prepare ≡ kind_in s.task → Stays (looked s mixed o)
   looked_stays true o i = (tt, refl)
   looked_stays false None i = ((i, refl), refl)
@@ -496,6 +516,9 @@ module _ (s : Seen) (sound : fault_in s.task ≡ None) where
   plan_stays (plans.Runs n) i = ran_stays (suc n) (slice_get (lists_in s.call) n)
   plan_stays (plans.Notes n) i = ((i, refl), refl)
   plan_stays plans.Forgets i = ((i, refl), refl)
+  plan_stays plans.Resets i = offered_stays (can_reset (version_of s.facts.version)) i
+  plan_stays plans.Clears i = ((i, refl), refl)
+  plan_stays (plans.Sets n) i = set_up_stays n (slice_get (setup_texts s.login) n)
   plan_stays (plans.Asks c) i = unless_refused_stays (refusal c s.call) (asked s (Own c) (command_of (next_terms s) s.statements (call_of c s.call))) (asked_stays (Own c) (command_of (next_terms s) s.statements (call_of c s.call)))
   plan_stays (plans.Arranges n) i = arranged_stays n (connecting s.login (next_terms s) (suc n))
   plan_stays plans.Readies i = (tt, refl)

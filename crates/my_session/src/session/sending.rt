@@ -82,19 +82,12 @@ fn push_commands(queue: &mut Queue, commands: &[Blob]) -> Result<(), NoMemory>
     Ok(())
 }
 
-// The packet of a query with this text.
-fn query_packet(alloc: Global, text: &[u8]) -> Result<ClientPacket, NoMemory>
-    ensures { IfOk result (λ packet. packet ≡ ClientPacket.Query text.now) }
-{
-    Ok(ClientPacket::Query(Blob::from_slice(alloc, text)?))
-}
-
 impl Session {
     ghost use Rattle.my_frame.specs.Chunks.{chunks, number_after_payload};
     ghost use Rattle.my_reading.specs.Calls.{statement_in};
-    ghost use Rattle.my_reading.specs.Commands.{connecting, execution};
+    ghost use Rattle.my_reading.specs.Commands.{connecting, execution, queried};
     ghost use Rattle.my_reading.specs.Executions.{Fitting};
-    ghost use Rattle.my_session.specs.Machine.{Does, asked, arranged, commanded, fell, next_terms, planned};
+    ghost use Rattle.my_session.specs.Machine.{Does, asked, arranged, begins, commanded, fell, next_terms, planned};
 
     // The commands are owed; the next sequence id is returned. Where it fails, the caller closes the session.
     fn owe_commands(&mut self, ahead: &[Blob], command: &[u8]) -> Result<u8, NoMemory>
@@ -169,16 +162,24 @@ impl Session {
         }
     }
 
+    // The exchange of a query with this text begins.
+    pub(super) fn query(&mut self, alloc: Global, task: Task, text: Blob) -> Tick
+        ensures does { let s = self.old.seen in
+            Does (begins s task (queried (next_terms s) text)) s self.new.seen result }
+        ensures lifetime { self.new.lifetime ≡ self.old.lifetime }
+    {
+        let packet = ClientPacket::Query(text);
+        let tick = self.command(alloc, task, Spot::Head, &packet);
+        drop(packet);
+        tick
+    }
+
     fn ask_query(&mut self, alloc: Global) -> Tick
         ensures does { Does (planned self.old.seen (Plan.Asks CallKind.Query)) self.old.seen self.new.seen result }
         ensures lifetime { self.new.lifetime ≡ self.old.lifetime }
     {
-        match query_packet(alloc, text_in(&self.call)) {
-            Ok(packet) => {
-                let tick = self.command(alloc, Task::Own(CallKind::Query), Spot::Head, &packet);
-                drop(packet);
-                tick
-            }
+        match Blob::from_slice(alloc, text_in(&self.call)) {
+            Ok(text) => self.query(alloc, Task::Own(CallKind::Query), text),
             Err(NoMemory) => self.fault(Error::NoMemory),
         }
     }
@@ -270,6 +271,9 @@ impl Session {
                 self.command(alloc, own, Spot::Idle, &packet)
             }
             CallKind::Ping => self.command(alloc, own, Spot::Single, &ClientPacket::Ping),
+            CallKind::Reset => {
+                self.command(alloc, own, Spot::Single, &ClientPacket::ResetConnection)
+            }
             CallKind::Quit => self.command(alloc, own, Spot::Idle, &ClientPacket::Quit),
             CallKind::Connect
             | CallKind::Batch
@@ -290,12 +294,8 @@ impl Session {
         let Some(text) = arranging_text(&self.login, sent) else {
             return self.answer(Answer::Ready);
         };
-        match query_packet(alloc, text) {
-            Ok(packet) => {
-                let tick = self.command(alloc, Task::Arranging(sent + 1), Spot::Head, &packet);
-                drop(packet);
-                tick
-            }
+        match Blob::from_slice(alloc, text) {
+            Ok(text) => self.query(alloc, Task::Arranging(sent + 1), text),
             Err(NoMemory) => self.fault(Error::NoMemory),
         }
     }

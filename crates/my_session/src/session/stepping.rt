@@ -25,6 +25,8 @@ fn fault_in(task: Task) -> Option<LinkFault>
         | Task::Arranging(_)
         | Task::Running(_)
         | Task::Finishing(_)
+        | Task::Clearing
+        | Task::Setting(_)
         | Task::Reading
         | Task::Dropping
         | Task::Taking
@@ -108,6 +110,9 @@ impl Session {
             Plan::Runs(sent) => self.run(alloc, sent),
             Plan::Notes(sent) => self.note_columns(sent),
             Plan::Forgets => self.forget(),
+            Plan::Resets => self.begin_reset(),
+            Plan::Clears => self.clear(),
+            Plan::Sets(sent) => self.set_up(alloc, sent),
             Plan::Learns => self.learn_columns(),
             Plan::Keeps => self.keep(alloc),
             Plan::Gives => self.give_statement(alloc),
