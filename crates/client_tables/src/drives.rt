@@ -2,12 +2,9 @@
 
 ghost use Rattle.std.specs.Prelude.{◌≡◌, None};
 
-use crate::held::{batch_of, execution_of, text_of};
+use crate::held::{Given, execution_of, text_of};
 use crate::library::count_rows;
-use crate::told::{
-    failed, of_check, of_columns, of_done, of_facts, of_life, of_marks, of_moment, of_prepared,
-    of_read, of_rest, of_server, of_short_life, of_taken,
-};
+use crate::told::{failed, of_prepared, of_result, of_shown};
 use my_conn::Conn;
 use my_frame::Blob;
 use my_link::BlockingLink;
@@ -33,21 +30,10 @@ fn execute<L: BlockingLink>(
     requires { conn.old.pending ≡ None }
 {
     match execution_of(alloc, held, step) {
-        Ok(Some((statement, params))) => of_done(conn.execute(alloc, statement, params)),
-        Ok(None) | Err(_) => b'?',
-    }
-}
-
-fn batch<L: BlockingLink>(
-    alloc: Global,
-    conn: &mut Conn<L>,
-    held: &Option<Statement>,
-    step: u8,
-) -> u8
-    requires { conn.old.pending ≡ None }
-{
-    match batch_of(alloc, held, step) {
-        Ok(Some((statement, lists))) => of_done(conn.execute_batch(alloc, statement, lists)),
+        Ok(Some((statement, given))) => match given {
+            Given::Once(params) => of_result(conn.execute(alloc, statement, params)),
+            Given::Each(lists) => of_result(conn.execute_batch(alloc, statement, lists)),
+        },
         Ok(None) | Err(_) => b'?',
     }
 }
@@ -66,14 +52,12 @@ fn drive_held<L: BlockingLink>(
             Ok(text) => of_prepared(held, conn.prepare(alloc, text)),
             Err(_) => b'?',
         },
-        b'X' | b'Z' => execute(alloc, conn, held, step),
-        b'B' | b'T' | b'N' => batch(alloc, conn, held, step),
+        b'X' | b'Z' | b'B' | b'T' | b'N' => execute(alloc, conn, held, step),
         b'Y' => match held.take() {
-            Some(statement) => of_done(conn.close_statement(alloc, statement)),
+            Some(statement) => of_result(conn.close_statement(alloc, statement)),
             None => b'?',
         },
-        b'o' => of_columns(conn, held),
-        _ => b'?',
+        _ => of_shown(conn, held, step),
     }
 }
 
@@ -87,22 +71,15 @@ fn drive_idle<L: BlockingLink>(
 {
     match step {
         b'q' => match Blob::from_slice(alloc, b"SELECT 1") {
-            Ok(text) => of_done(conn.query(alloc, text)),
+            Ok(text) => of_result(conn.query(alloc, text)),
             Err(_) => b'?',
         },
-        b'r' => of_read(conn.next(alloc)),
-        b's' => of_taken(conn.stream(alloc)),
-        b'd' => of_done(conn.drop_result(alloc)),
-        b'p' => of_done(conn.ping(alloc)),
-        b'u' => of_done(conn.quit(alloc)),
-        b'c' => of_check(conn.check()),
-        b'i' => of_facts(conn),
-        b'v' => of_server(conn),
-        b'y' => of_rest(conn),
-        b'm' => of_moment(conn),
-        b'l' => of_life(conn),
-        b'h' => of_short_life(conn),
-        b'f' => of_marks(conn),
+        b'r' => of_result(conn.next(alloc)),
+        b's' => of_result(conn.stream(alloc)),
+        b'd' => of_result(conn.drop_result(alloc)),
+        b'p' => of_result(conn.ping(alloc)),
+        b'R' => of_result(conn.reset(alloc)),
+        b'u' => of_result(conn.quit(alloc)),
         // The rows of a query are counted.
         b'n' => of_count(count_rows(alloc, conn, b"SELECT 1")),
         _ => drive_held(alloc, conn, held, step),
@@ -125,7 +102,7 @@ pub fn driven<L: BlockingLink>(
 fn end_idle<L: BlockingLink + Drop>(alloc: Global, conn: Conn<L>) -> u8
     requires { conn.pending ≡ None }
 {
-    of_done(conn.disconnect(alloc))
+    of_result(conn.disconnect(alloc))
 }
 
 /// What a connection's end returns.

@@ -26,21 +26,6 @@ fn params_of(alloc: Global, step: u8) -> Result<Params, NoMemory> {
     }
 }
 
-/// A second holder of the statement that is held, and the parameters of a step.
-pub fn execution_of(
-    alloc: Global,
-    held: &Option<Statement>,
-    step: u8,
-) -> Result<Option<(Statement, Params)>, NoMemory> {
-    match held {
-        None => Ok(None),
-        Some(statement) => {
-            let copy = statement.copy(alloc)?;
-            Ok(Some((copy, params_of(alloc, step)?)))
-        }
-    }
-}
-
 // The parameters of each execution of a batch: `B` has two, `T` two of which the second lacks its value, and `N` none.
 fn lists_of(alloc: Global, step: u8) -> Result<Vec<Params>, NoMemory> {
     let mut lists = Vec::new(alloc);
@@ -55,17 +40,31 @@ fn lists_of(alloc: Global, step: u8) -> Result<Vec<Params>, NoMemory> {
     Ok(lists)
 }
 
-/// A second holder of the statement that is held, and the parameters of each execution of a batch.
-pub fn batch_of(
+/// What a statement is executed with: once, or once with each of these.
+#[derive(Drop)]
+pub enum Given {
+    Once(Params),
+    Each(Vec<Params>),
+}
+
+fn given_by(alloc: Global, step: u8) -> Result<Given, NoMemory> {
+    Ok(match step {
+        b'X' | b'Z' => Given::Once(params_of(alloc, step)?),
+        _ => Given::Each(lists_of(alloc, step)?),
+    })
+}
+
+/// A second holder of the statement that is held, and what a step executes it with.
+pub fn execution_of(
     alloc: Global,
     held: &Option<Statement>,
     step: u8,
-) -> Result<Option<(Statement, Vec<Params>)>, NoMemory> {
+) -> Result<Option<(Statement, Given)>, NoMemory> {
     match held {
         None => Ok(None),
         Some(statement) => {
             let copy = statement.copy(alloc)?;
-            Ok(Some((copy, lists_of(alloc, step)?)))
+            Ok(Some((copy, given_by(alloc, step)?)))
         }
     }
 }

@@ -16,6 +16,8 @@ mod link;
 #[cfg(test)]
 mod polls;
 #[cfg(test)]
+mod row;
+#[cfg(test)]
 mod talks;
 #[cfg(test)]
 mod told;

@@ -10,6 +10,11 @@ const GREETING: &[u8] =
     b"\x4a\x00\x00\x00\x0a8.0.36\x00\x07\x00\x00\x00abcdefgh\x00\x8b\xa2\x2d\x02\x00\x1f\x01\x15\
     \x00\x00\x00\x00\x00\x00\x00\x00\x00\x00ijklmnopqrst\x00mysql_native_password\x00";
 
+// The same from a server of the version 5.7.2.
+const OLD_GREETING: &[u8] =
+    b"\x49\x00\x00\x00\x0a5.7.2\x00\x07\x00\x00\x00abcdefgh\x00\x8b\xa2\x2d\x02\x00\x1f\x01\x15\
+    \x00\x00\x00\x00\x00\x00\x00\x00\x00\x00ijklmnopqrst\x00mysql_native_password\x00";
+
 const LOGIN: &[u8] = b"\x3c\x00\x00\x01\x81\xa2\x0f\x01\x00\x00\x40\x00\x2d\
     \x00\x00\x00\x00\x00\x00\x00\x00\x00\x00\x00\x00\x00\x00\x00\x00\x00\x00\x00\x00\x00\x00\x00\
     root\x00\x00mysql_native_password\x00";
@@ -40,6 +45,7 @@ const COLUMN: &[u8] =
 pub fn piece(letter: u8) -> &'static [u8] {
     match letter {
         b'g' => GREETING,
+        b'G' => OLD_GREETING,
         // An OK to the login, and one with a byte more.
         b'k' => b"\x07\x00\x00\x02\x00\x00\x00\x02\x00\x00\x00",
         b'K' => b"\x07\x00\x00\x02\x00\x00\x00\x02\x00\x00\x00\x01",
@@ -62,12 +68,13 @@ pub fn piece(letter: u8) -> &'static [u8] {
         b'0' => b"\x07\x00\x00\x05\xfe\x00\x00\x02\x00\x00\x00",
         b'5' => b"\x02\x00",
         b'6' => b"\x00\x03\x011",
-        // The client's response, a query with its first part, a text that follows a login, a ping and a quit.
+        // The client's response, a query with its first part, a text that follows a login, a ping, a reset and a quit.
         b'l' => LOGIN,
         b'q' => b"\x09\x00\x00\x00\x03SELECT 1",
         b'Q' => b"\x09\x00\x00\x00\x03S",
         b's' => b"\x0c\x00\x00\x00\x03SET @a = 42",
         b'p' => b"\x01\x00\x00\x00\x0e",
+        b'R' => b"\x01\x00\x00\x00\x1f",
         b'u' => b"\x01\x00\x00\x00\x01",
         b'a' => PREPARE,
         b'x' => EXECUTE,

@@ -4,16 +4,13 @@ ghost use Rattle.std.specs.Prelude.{◌≡◌, None};
 ghost use Rattle.my_line.specs.Calls.{MayPoll};
 
 use crate::aid::Script;
-use crate::held::{batch_of, execution_of, text_of};
-use crate::told::{
-    of_check, of_columns, of_done, of_facts, of_life, of_marks, of_moment, of_prepared, of_read,
-    of_rest, of_server, of_short_life, of_taken, of_tape,
-};
+use crate::held::{Given, execution_of, text_of};
+use crate::told::{Letter, of_prepared, of_result, of_shown};
 use my_calls::{
     CallState, CloseCall, DropCall, ExecCall, NextCall, PingCall, Poll, PrepCall, QueryCall,
-    QuitCall, Returns, StreamCall,
+    QuitCall, ResetCall, Returns, StreamCall,
 };
-use my_conn::{Conn, Connected, Connecting, NextAnswer};
+use my_conn::{Conn, Connected, Connecting};
 use my_frame::Blob;
 use my_link::{Link, NoAid};
 use my_reading::Error;
@@ -58,16 +55,10 @@ fn play<K: Drop, R: Returns + Drop, L: Link>(
     None
 }
 
-fn done(answer: Option<Result<(), Error>>) -> u8 {
+// The letter of what a call returned within its polls.
+fn letter<R: Letter>(answer: Option<Result<R, Error>>) -> u8 {
     match answer {
-        Some(answer) => of_done(answer),
-        None => b'.',
-    }
-}
-
-fn read(answer: Option<Result<NextAnswer, Error>>) -> u8 {
-    match answer {
-        Some(answer) => of_read(answer),
+        Some(answer) => of_result(answer),
         None => b'.',
     }
 }
@@ -79,7 +70,7 @@ fn take<L: Link>(alloc: Global, conn: &mut Conn<L>, polls: u64) -> u8
     let mut call = StreamCall::new();
     'polls: for _ in 0..polls {
         match call.poll(alloc, conn, &mut NoAid, 7) {
-            Poll::Ready(answer) => return of_taken(answer),
+            Poll::Ready(answer) => return of_result(answer),
             Poll::Pending => {}
         }
     }
@@ -116,26 +107,14 @@ fn execute<L: Link>(
     requires { conn.old.pending ≡ None }
 {
     match execution_of(alloc, held, step) {
-        Ok(Some((statement, params))) => {
-            done(play(alloc, conn, ExecCall::new(statement, params), polls))
-        }
-        Ok(None) | Err(_) => b'?',
-    }
-}
-
-fn batch<L: Link>(
-    alloc: Global,
-    conn: &mut Conn<L>,
-    held: &Option<Statement>,
-    step: u8,
-    polls: u64,
-) -> u8
-    requires { conn.old.pending ≡ None }
-{
-    match batch_of(alloc, held, step) {
-        Ok(Some((statement, lists))) => {
-            done(play(alloc, conn, ExecCall::batch(statement, lists), polls))
-        }
+        Ok(Some((statement, given))) => match given {
+            Given::Once(params) => {
+                letter(play(alloc, conn, ExecCall::new(statement, params), polls))
+            }
+            Given::Each(lists) => {
+                letter(play(alloc, conn, ExecCall::batch(statement, lists), polls))
+            }
+        },
         Ok(None) | Err(_) => b'?',
     }
 }
@@ -144,7 +123,7 @@ fn close<L: Link>(alloc: Global, conn: &mut Conn<L>, held: &mut Option<Statement
     requires { conn.old.pending ≡ None }
 {
     match held.take() {
-        Some(statement) => done(play(alloc, conn, CloseCall::new(statement), polls)),
+        Some(statement) => letter(play(alloc, conn, CloseCall::new(statement), polls)),
         None => b'?',
     }
 }
@@ -161,11 +140,9 @@ fn poll_held<L: Link>(
 {
     match step {
         b'P' | b'M' => prepare(alloc, conn, held, step, polls),
-        b'X' | b'Z' => execute(alloc, conn, held, step, polls),
-        b'B' | b'T' | b'N' => batch(alloc, conn, held, step, polls),
+        b'X' | b'Z' | b'B' | b'T' | b'N' => execute(alloc, conn, held, step, polls),
         b'Y' => close(alloc, conn, held, polls),
-        b'o' => of_columns(conn, held),
-        _ => b'?',
+        _ => of_shown(conn, held, step),
     }
 }
 
@@ -180,23 +157,15 @@ fn poll_idle<L: Link>(
 {
     match step {
         b'q' => match Blob::from_slice(alloc, b"SELECT 1") {
-            Ok(text) => done(play(alloc, conn, QueryCall::new(text), polls)),
+            Ok(text) => letter(play(alloc, conn, QueryCall::new(text), polls)),
             Err(_) => b'?',
         },
-        b'r' => read(play(alloc, conn, NextCall::new(), polls)),
+        b'r' => letter(play(alloc, conn, NextCall::new(), polls)),
         b's' => take(alloc, conn, polls),
-        b'd' => done(play(alloc, conn, DropCall::new(), polls)),
-        b'p' => done(play(alloc, conn, PingCall::new(), polls)),
-        b'u' => done(play(alloc, conn, QuitCall::new(), polls)),
-        b'c' => of_check(conn.check()),
-        b't' => of_tape(conn.take_tape()),
-        b'i' => of_facts(conn),
-        b'v' => of_server(conn),
-        b'y' => of_rest(conn),
-        b'm' => of_moment(conn),
-        b'l' => of_life(conn),
-        b'h' => of_short_life(conn),
-        b'f' => of_marks(conn),
+        b'd' => letter(play(alloc, conn, DropCall::new(), polls)),
+        b'p' => letter(play(alloc, conn, PingCall::new(), polls)),
+        b'R' => letter(play(alloc, conn, ResetCall::new(), polls)),
+        b'u' => letter(play(alloc, conn, QuitCall::new(), polls)),
         _ => poll_held(alloc, conn, held, step, polls),
     }
 }

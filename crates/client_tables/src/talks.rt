@@ -3,13 +3,15 @@
 use crate::drives::{driven, ended};
 use crate::link::{count_bytes, link_of};
 use crate::polls::{made, polled};
+use crate::row::{Row, at, count_at, polled_row, waiting_row};
 use crate::told::{failed, is_kept, is_none, of_error};
 use my_conn::{Conn, Connected, Connecting};
 use my_frame::NoMemory;
-use my_link::{BlockingLink, Link, MemLink, ReadyLink};
+use my_link::{MemLink, ReadyLink};
 use my_opts::Opts;
 use my_opts_parts::limits::LONGEST_URL;
 use my_reading::Error;
+use my_statements::Statement;
 use std::alloc::Global;
 use std::test::Fail;
 
@@ -21,15 +23,16 @@ use std::test::Fail;
 // refuses the connection. Each text and the drop of its result are calls of their own, which come before those of the steps.
 //
 // Steps: `a` the making of the connection, which is the first; `q` a query, `r` a read of the next row, `s` a stream that takes a set,
-// `d` a drop of the result, `p` a ping, `u` a quit, `c` a check; `i` the facts of the last OK, `v` those of the server and
+// `d` a drop of the result, `p` a ping, `R` a reset, `u` a quit, `c` a check; `i` the facts of the last OK, `v` those of the server and
 // the options, `l` the connection's life, `h` a short one, `t` the tape is taken; `y` whether something is unread, `m` the moment of
 // the last payload, `f` what a pool tells the connection.
 // Of prepared statements: `P` prepares one with a name, which is held from then on, `M` one of a text with a name and a mark; `X`
 // executes the one that is held, with 42, `Z` without its value; `B` executes it with 42 twice, `T` first with 42 and then without its
 // value, `N` for no list; `Y` closes it; `o` whether the columns of its rows are known.
-// Returned: `k` done, or a set is taken, `r` a row, `e` the end of a set, `n` that nothing is there, `.` pending; `S` a server's error, `L` a
-// fault of the link, `U` an end that came too early, `C` that the connection is closed; `A` alive, `D` dead; `c` closed; `R` that the caller
-// refused; `y` and `n` for `y` and `o`; `5` and `7` for `m`; `s` a statement; `M` that names and marks are mixed, `P` that a value is missing.
+// Returned: `k` done, a set is taken, or the server reset its session, `r` a row, `e` the end of a set, `n` that nothing is there, or
+// that the server can't, `.` pending; `S` a server's error, `L` a fault of the link, `U` an end that came too early, `C` that the
+// connection is closed; `A` alive, `D` dead; `c` closed; `R` that the caller refused; `y` and `n` for `y` and `o`; `5` and `7` for `m`;
+// `s` a statement; `M` that names and marks are mixed, `P` that a value is missing.
 // Ended: `k` answered, `e` failed, `x` cancelled, `X` cancelled with the connection closed by that, `.` not yet.
 const POLLED: &str = "\
 gtktOt1234t1234t apivqrrrqduv 111111111111 kkkkkrenkkkc lpqqu gkO12341234 kkkkkkkkk
@@ -89,6 +92,17 @@ gtkth2jtoteto aPBp 1111 ksSk laxxp gkh2joeo kkek
 gtkth2jtotwo aPB 112 ksk laxx gkh2joo kkk
 gtkth2jtow aPBp 1111 ks.C laxx gkh2jo kkXe
 gtkth2jtoz aPBp 1111 ksUC laxx gkh2jo kkee
+gtkt1234toto aqRp 1111 kkkk lqRp gk1234oo kkkk
+gtkth2jt12b4toth2j aPXRoP 111111 kskkys laxRa gkh2j12b4oh2j kkkkk
+Gtkth2jt12b4to aPXRPrrp 11111111 ksknsrek laxp Gkh2j12b4o kkkkkkkk
+gtkteto aRp 111 kSk lRp gkeo kek
+gtkt12379to aqRp 1111 kkSk lqp gk12379o kkek
+gtktz aRRu 1111 kUCk lR gk keek
+gtktwo aR 12 kk lR gko kk
+gtktw aRp 111 k.C lR gk kXe
+gtktLW aRp 111 k.C l gk kXe
+gtkt12w34 aqRp 1111 kk.C lq gk12 kkXe
+gtkto aRp 101 k.k lp gko kk
 gtkto a 1 k ls gko kkk s
 gtktoto amp 111 k5k lsp gkoo kkkk s
 gtkt1234to a 1 k lqs gk1234o kkkkk qs
@@ -135,10 +149,15 @@ gtkth2jt12b4t12b4to aPBoyrp kskynnk
 gtkth2jto aPNp kskk
 gtkth2jto aPTp ksPC
 gtkth2jtoteto aPBp ksSk
+gtkt1234toto aqRp kkkk
+gtkth2jt12b4toth2j aPXRoP kskkys
+Gtkth2jt12b4to aPXRPrrp ksknsrek
+gtkteto aRp kSk
+gtkt aRp kLC
 gtk eh kk";
 
 // A row as those that are polled. It plays the same where the link isn't ready before any one of its bytes.
-const HELD: &str = "gtkth2jt12b4to aPBr 2222 kskn laxx gkh2j12b4o kkkk";
+const HELD: &str = "gtkth2jt12b4toto aPBrR 22222 ksknk laxxR gkh2j12b4oo kkkkk";
 
 // The options of each connection.
 const URL: &str = "mysql://root@localhost?max_allowed_packet=4194304&wait_timeout=28800";
@@ -150,85 +169,31 @@ const SHORT: &str = "mysql://root@localhost?max_allowed_packet=4194304&wait_time
 // A URL with a key that there isn't.
 const WRONG: &str = "mysql://root@localhost?speed=1";
 
-// The words of a row.
-#[derive(Clone, Copy)]
-struct Row<'a> {
-    plan: &'a str,
-    steps: &'a str,
-    polls: &'a str,
-    says: &'a str,
-    sent: &'a str,
-    taken: &'a str,
-    calls: &'a str,
-    texts: &'a str,
-    // The number of the byte before which the link isn't ready.
-    hold: usize,
+// A connection whose steps are played.
+trait Plays {
+    fn play(&mut self, alloc: Global, held: &mut Option<Statement>, step: u8, polls: u64) -> u8;
 }
 
-fn word(row: &str, number: usize) -> &str {
-    for (i, word) in row.split(' ').enumerate() {
-        if i == number {
-            return word;
-        }
-    }
-    ""
-}
-
-fn polled_row(row: &str) -> Row<'_> {
-    Row {
-        plan: word(row, 0),
-        steps: word(row, 1),
-        polls: word(row, 2),
-        says: word(row, 3),
-        sent: word(row, 4),
-        taken: word(row, 5),
-        calls: word(row, 6),
-        texts: word(row, 7),
-        hold: usize::MAX,
+impl Plays for Conn<MemLink> {
+    fn play(&mut self, alloc: Global, held: &mut Option<Statement>, step: u8, polls: u64) -> u8 {
+        polled(alloc, self, held, step, polls)
     }
 }
 
-fn waiting_row(row: &str) -> Row<'_> {
-    Row {
-        plan: word(row, 0),
-        steps: word(row, 1),
-        polls: "",
-        says: word(row, 2),
-        sent: "-",
-        taken: "-",
-        calls: "-",
-        texts: "",
-        hold: usize::MAX,
+// Its calls wait.
+impl Plays for Conn<ReadyLink<MemLink>> {
+    fn play(&mut self, alloc: Global, held: &mut Option<Statement>, step: u8, polls: u64) -> u8 {
+        let _ = polls;
+        driven(alloc, self, held, step)
     }
-}
-
-fn at(letters: &str, number: usize) -> u8 {
-    match letters.as_bytes().get(number) {
-        Some(letter) => *letter,
-        None => b'?',
-    }
-}
-
-fn count_at(digits: &str, number: usize) -> u64 {
-    u64::from(at(digits, number).wrapping_sub(b'0'))
 }
 
 // Whether each step after the making returns what it should.
-fn are_polled<L: Link>(alloc: Global, conn: &mut Conn<L>, row: &Row) -> bool {
+fn are_right<C: Plays>(alloc: Global, conn: &mut C, row: &Row) -> bool {
     let mut held = None;
     for (i, step) in row.steps.as_bytes().iter().enumerate() {
         let polls = count_at(row.polls, i);
-        if i > 0 && polled(alloc, conn, &mut held, *step, polls) != at(row.says, i) {
-            return false;
-        }
-    }
-    true
-}
-
-fn are_driven<L: BlockingLink>(alloc: Global, conn: &mut Conn<L>, row: &Row) -> bool {
-    let mut held = None;
-    for (i, step) in row.steps.as_bytes().iter().enumerate() {
-        if i > 0 && driven(alloc, conn, &mut held, *step) != at(row.says, i) {
+        if i > 0 && conn.play(alloc, &mut held, *step, polls) != at(row.says, i) {
             return false;
         }
     }
@@ -245,12 +210,12 @@ fn has_first_tape<L>(connecting: &mut Connecting<L>, row: &Row) -> bool {
 }
 
 // A tape is handed out once.
-fn is_right<L: Link>(alloc: Global, connected: &mut Connected<L>, row: &Row) -> bool {
+fn is_right(alloc: Global, connected: &mut Connected<MemLink>, row: &Row) -> bool {
     let said = at(row.says, 0);
     match connected {
         Connected::Made(conn) => {
             said == b'k'
-                && are_polled(alloc, conn, row)
+                && are_right(alloc, conn, row)
                 && has_tape(conn, row)
                 && is_none(conn.take_tape())
         }
@@ -351,7 +316,7 @@ fn waiting_link(alloc: Global, row: &Row) -> Result<ReadyLink<MemLink>, NoMemory
 fn ends_right(alloc: Global, conn: Conn<ReadyLink<MemLink>>, row: &Row) -> bool {
     let mut conn = conn;
     let right = at(row.says, 0) == b'k'
-        && are_driven(alloc, &mut conn, row)
+        && are_right(alloc, &mut conn, row)
         && is_none(conn.take_tape());
     ended(alloc, conn) == b'k' && right
 }

@@ -3,7 +3,7 @@
 use crate::link::is_of;
 use my_client::{Said, Tape};
 use my_conn::{Conn, NextAnswer};
-use my_link::CheckStep;
+use my_link::{CheckStep, Link};
 use my_opts::UrlError;
 use my_reading::{DriverError, Error, IoError, IoKind, OtherError};
 use my_statements::Statement;
@@ -65,37 +65,41 @@ pub fn failed(error: Error) -> u8 {
     letter
 }
 
-/// The letter of a call that is done.
-pub fn of_done(answer: Result<(), Error>) -> u8 {
-    match answer {
-        Ok(()) => b'k',
-        Err(error) => failed(error),
+/// What a caller gets of a call, as a letter.
+pub trait Letter {
+    fn letter(self) -> u8;
+}
+
+// A call that is done.
+impl Letter for () {
+    fn letter(self) -> u8 {
+        b'k'
     }
 }
 
-fn of_next(answer: NextAnswer) -> u8 {
-    let letter = match &answer {
-        NextAnswer::Row(_) => b'r',
-        NextAnswer::SetEnd => b'e',
-        NextAnswer::NoSet => b'n',
-    };
-    drop(answer);
-    letter
-}
-
-/// The letter of what a read returned.
-pub fn of_read(answer: Result<NextAnswer, Error>) -> u8 {
-    match answer {
-        Ok(answer) => of_next(answer),
-        Err(error) => failed(error),
+// A set that was taken or a session that was reset, or neither.
+impl Letter for bool {
+    fn letter(self) -> u8 {
+        if self { b'k' } else { b'n' }
     }
 }
 
-/// The letter of a set that was taken, or that nothing is left.
-pub fn of_taken(answer: Result<bool, Error>) -> u8 {
+impl Letter for NextAnswer {
+    fn letter(self) -> u8 {
+        let letter = match &self {
+            NextAnswer::Row(_) => b'r',
+            NextAnswer::SetEnd => b'e',
+            NextAnswer::NoSet => b'n',
+        };
+        drop(self);
+        letter
+    }
+}
+
+/// The letter of what a call returned.
+pub fn of_result<R: Letter>(answer: Result<R, Error>) -> u8 {
     match answer {
-        Ok(true) => b'k',
-        Ok(false) => b'n',
+        Ok(value) => value.letter(),
         Err(error) => failed(error),
     }
 }
@@ -123,8 +127,8 @@ pub fn of_prepared(held: &mut Option<Statement>, answer: Result<Statement, Error
     }
 }
 
-/// Whether the columns of the rows of the statement that is held are known.
-pub fn of_columns<L>(conn: &Conn<L>, held: &Option<Statement>) -> u8 {
+// Whether the columns of the rows of the statement that is held are known.
+fn of_columns<L>(conn: &Conn<L>, held: &Option<Statement>) -> u8 {
     match held {
         None => b'?',
         Some(statement) => match conn.columns_of(statement) {
@@ -134,8 +138,8 @@ pub fn of_columns<L>(conn: &Conn<L>, held: &Option<Statement>) -> u8 {
     }
 }
 
-/// The letter of what a check said.
-pub fn of_check(step: CheckStep) -> u8 {
+// The letter of what a check said.
+fn of_check(step: CheckStep) -> u8 {
     match step {
         CheckStep::Alive => b'A',
         CheckStep::Dead => b'D',
@@ -151,8 +155,8 @@ pub fn is_none(tape: Option<Tape>) -> bool {
     none
 }
 
-/// Whether a tape is kept.
-pub fn of_tape(tape: Option<Tape>) -> u8 {
+// Whether a tape is kept.
+fn of_tape(tape: Option<Tape>) -> u8 {
     if is_none(tape) { b'n' } else { b'k' }
 }
 
@@ -160,8 +164,8 @@ fn yes(right: bool) -> u8 {
     if right { b'k' } else { b'?' }
 }
 
-/// Whether the getters return what the full OK says.
-pub fn of_facts<L>(conn: &Conn<L>) -> u8 {
+// Whether the getters return what the full OK says.
+fn of_facts<L>(conn: &Conn<L>) -> u8 {
     yes(
         conn.affected_rows() == 3
             && conn.last_insert_id() == Some(7)
@@ -170,9 +174,9 @@ pub fn of_facts<L>(conn: &Conn<L>) -> u8 {
     )
 }
 
-/// Whether the getters return what the greeting said, and the options that the connection was made with; and whether it
-/// is closed.
-pub fn of_server<L>(conn: &Conn<L>) -> u8 {
+// Whether the getters return what the greeting said, and the options that the connection was made with; and whether it
+// is closed.
+fn of_server<L>(conn: &Conn<L>) -> u8 {
     let right = conn.id() == 7
         && conn.server_version() == (8, 0, 36)
         && conn.opts().user() == Some("root")
@@ -184,13 +188,13 @@ pub fn of_server<L>(conn: &Conn<L>) -> u8 {
     }
 }
 
-/// Whether something of a response is unread.
-pub fn of_rest<L>(conn: &Conn<L>) -> u8 {
+// Whether something of a response is unread.
+fn of_rest<L>(conn: &Conn<L>) -> u8 {
     if conn.is_dirty() { b'y' } else { b'n' }
 }
 
-/// The moment of the last payload, which is below ten.
-pub fn of_moment<L>(conn: &Conn<L>) -> u8 {
+// The moment of the last payload, which is below ten.
+fn of_moment<L>(conn: &Conn<L>) -> u8 {
     match conn.last_io() {
         5 => b'5',
         7 => b'7',
@@ -198,9 +202,9 @@ pub fn of_moment<L>(conn: &Conn<L>) -> u8 {
     }
 }
 
-/// Whether the life of a connection is as its first options say: without an end, to be reset, and to rest for the server's
-/// timeout.
-pub fn of_life<L>(conn: &Conn<L>) -> u8 {
+// Whether the life of a connection is as its first options say: without an end, to be reset, and to rest for the server's
+// timeout.
+fn of_life<L>(conn: &Conn<L>) -> u8 {
     yes(
         conn.deadline().is_none()
             && conn.ttl() == 28_800_000
@@ -209,17 +213,34 @@ pub fn of_life<L>(conn: &Conn<L>) -> u8 {
     )
 }
 
-/// Whether it is as the options with ends say.
-pub fn of_short_life<L>(conn: &Conn<L>) -> u8 {
+// Whether it is as the options with ends say.
+fn of_short_life<L>(conn: &Conn<L>) -> u8 {
     yes(conn.deadline() == Some(60_005) && conn.ttl() == 9_000 && !conn.reset_flag())
 }
 
-/// Whether what a pool tells a connection is what it says then.
-pub fn of_marks<L>(conn: &mut Conn<L>) -> u8 {
+// Whether what a pool tells a connection is what it says then.
+fn of_marks<L>(conn: &mut Conn<L>) -> u8 {
     conn.set_pooled(true);
     conn.reset_connection(false);
     conn.set_now(7);
     yes(conn.is_pooled() && !conn.reset_flag() && conn.now() == 7)
+}
+
+/// What a step shows of a connection without a call.
+pub fn of_shown<L: Link>(conn: &mut Conn<L>, held: &Option<Statement>, step: u8) -> u8 {
+    match step {
+        b'c' => of_check(conn.check()),
+        b't' => of_tape(conn.take_tape()),
+        b'i' => of_facts(conn),
+        b'v' => of_server(conn),
+        b'y' => of_rest(conn),
+        b'm' => of_moment(conn),
+        b'l' => of_life(conn),
+        b'h' => of_short_life(conn),
+        b'f' => of_marks(conn),
+        b'o' => of_columns(conn, held),
+        _ => b'?',
+    }
 }
 
 fn of_said(said: &Said) -> u8 {

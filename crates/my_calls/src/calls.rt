@@ -125,6 +125,21 @@ impl CallState<Ping, ()> {
     }
 }
 
+/// A reset of the server's session. `false`: the server can't, and nothing was sent.
+pub type ResetCall = CallState<Reset, bool>;
+
+/// Marks `ResetCall`.
+#[derive(Drop)]
+pub struct Reset;
+
+impl CallState<Reset, bool> {
+    pub fn new() -> ResetCall
+        ensures { result ≡ first_state calls.Reset }
+    {
+        CallState::first(Call::Reset)
+    }
+}
+
 /// The end of a connection.
 pub type QuitCall = CallState<Quit, ()>;
 

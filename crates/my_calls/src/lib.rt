@@ -7,7 +7,7 @@ mod stream;
 
 pub use calls::{
     CloseCall, CloseStmt, DropCall, DropResult, ExecCall, Execute, NextCall, NextRow, Ping,
-    PingCall, PrepCall, Prepare, Query, QueryCall, Quit, QuitCall,
+    PingCall, PrepCall, Prepare, Query, QueryCall, Quit, QuitCall, Reset, ResetCall,
 };
 pub use my_packets::Poll;
 pub use states::{CallState, Returns};

@@ -13,7 +13,7 @@ ghost use Rattle.my_conn.specs.Answers.{done_of, next_of};
 ghost use Rattle.my_calls.specs.States.{PollIs, ReturnedBy, StateCancels, first_state};
 
 use my_client::After;
-use my_conn::{Conn, NextAnswer, next_answer, statement_answer};
+use my_conn::{Conn, NextAnswer, flag_answer, next_answer, statement_answer};
 use my_link::{Aid, Link};
 use my_packets::Poll;
 use my_reading::{Answer, Call, CallKind, Error};
@@ -52,6 +52,16 @@ impl Returns for Statement {
 
     fn from_answer(given: Answer) -> Statement {
         statement_answer(given)
+    }
+}
+
+impl Returns for bool {
+    ghost takes = { λ c. c ≡ kinds.Reset };
+
+    ghost gives = { λ given flag. given ≡ answers.Flag flag };
+
+    fn from_answer(given: Answer) -> bool {
+        flag_answer(given)
     }
 }
 

@@ -9,11 +9,11 @@ use Rattle.my_grammar.specs.declared.login.Login.{Login}
 use Rattle.my_reading.specs.declared.call.Call.{Call}
 use Rattle.my_reading.specs.declared.call.Call.TheVariants as calls
 use Rattle.my_reading.specs.declared.call.CallKind.{CallKind}
-use Rattle.my_reading.specs.declared.call.CallKind.TheVariants.{Connect, Query, Prepare, Execute, Batch, CloseStmt, NextRow, DropResult, TakeSet, SkipTaken, Ping, Quit}
+use Rattle.my_reading.specs.declared.call.CallKind.TheVariants.{Connect, Query, Prepare, Execute, Batch, CloseStmt, NextRow, DropResult, TakeSet, SkipTaken, Ping, Reset, Quit}
 use Rattle.my_session.specs.declared.task.LinkFault.{LinkFault}
 use Rattle.my_reading.specs.Calls.{kind_of, call_of}
 use Rattle.my_session.specs.Fits.{may_be}
-use Rattle.my_reading.specs.Told.{Told, ToldReady, ToldRow, ToldEnd, ToldNone, ToldStatement, ToldError, Dropped}
+use Rattle.my_reading.specs.Told.{Told, ToldReady, ToldRow, ToldEnd, ToldNone, ToldStatement, ToldFlag, ToldError, Dropped}
 use Rattle.my_session.specs.History.{History, Made, answered, noted, passing, gone, took, ending}
 use Rattle.my_session.specs.Passed.{IsItem, ArePassed, is_passing}
 use Rattle.my_session.specs.Seen.{Seen}
@@ -36,6 +36,7 @@ item_noted c (ToldRow row) p i = ap (λ b. b && true) p
 item_noted c ToldEnd p i = ap (λ b. b && true) p
 item_noted c ToldNone p i = absurd i
 item_noted c (ToldStatement statement) p i = absurd i
+item_noted c (ToldFlag flag) p i = absurd i
 item_noted c (ToldError e) p i = absurd i
 item_noted c (Dropped closing) p i = absurd i
 
@@ -53,6 +54,7 @@ answer_counts DropResult (ToldRow row) m = cc
 answer_counts DropResult ToldEnd m = cc
 answer_counts DropResult ToldNone m = cc
 answer_counts DropResult (ToldStatement statement) m = cc
+answer_counts DropResult (ToldFlag flag) m = cc
 answer_counts DropResult (ToldError e) m = refl
 answer_counts DropResult (Dropped closing) m = refl
 answer_counts TakeSet t m = refl
@@ -61,9 +63,11 @@ answer_counts SkipTaken (ToldRow row) m = cc
 answer_counts SkipTaken ToldEnd m = cc
 answer_counts SkipTaken ToldNone m = cc
 answer_counts SkipTaken (ToldStatement statement) m = cc
+answer_counts SkipTaken (ToldFlag flag) m = cc
 answer_counts SkipTaken (ToldError e) m = refl
 answer_counts SkipTaken (Dropped closing) m = refl
 answer_counts Ping t m = refl
+answer_counts Reset t m = refl
 answer_counts Quit t m = refl
 
 pub pending_passing : (h : History) (ts : List Told) → (passing h ts).pending ≡ h.pending
@@ -87,6 +91,7 @@ noted_by (Some DropResult) carried p t ms e passing i = answers_noted DropResult
 noted_by (Some TakeSet) carried p t ms e passing i = cc
 noted_by (Some SkipTaken) carried p t ms e passing i = answers_noted SkipTaken p t ms e (item_noted SkipTaken t refl i)
 noted_by (Some Ping) carried p t ms e passing i = cc
+noted_by (Some Reset) carried p t ms e passing i = cc
 noted_by (Some Quit) carried p t ms e passing i = cc
 
 pub passing_of : (k : Kept) (h : History) (kind : Option CallKind) (carried : Call) (ts : List Told) → h.pending ≡ call_with kind carried → ArePassed kind ts → IsOf k h → IsOf k (passing h ts)

@@ -6,7 +6,7 @@ use Rattle.my_reading.specs.declared.call.Call.{Call}
 use Rattle.my_reading.specs.declared.call.Call.TheVariants as calls
 use Rattle.my_reading.specs.declared.call.CallKind.{CallKind}
 use Rattle.my_reading.specs.Calls.{kind_of}
-use Rattle.my_reading.specs.Told.{Told, ToldReady, ToldRow, ToldEnd, ToldNone, ToldStatement, ToldError, Dropped, told}
+use Rattle.my_reading.specs.Told.{Told, ToldReady, ToldRow, ToldEnd, ToldNone, ToldStatement, ToldFlag, ToldError, Dropped, told}
 pub use Rattle.my_session.specs.Passed.{passes_over}
 use Rattle.my_session.specs.History.{History, Made}
 use Rattle.my_session.specs.Seen.{Seen}
@@ -48,6 +48,7 @@ is_item (ToldRow row) = true
 is_item ToldEnd = true
 is_item ToldNone = false
 is_item (ToldStatement statement) = false
+is_item (ToldFlag flag) = false
 is_item (ToldError e) = false
 is_item (Dropped closing) = false
 

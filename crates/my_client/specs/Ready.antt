@@ -63,4 +63,5 @@ StaysOpen (Answered (answers.Row row)) s = s.closed ≡ false
 StaysOpen (Answered answers.SetEnd) s = Unit {0}
 StaysOpen (Answered answers.NoSet) s = Unit {0}
 StaysOpen (Answered (answers.Stmt statement)) s = Unit {0}
+StaysOpen (Answered (answers.Flag flag)) s = Unit {0}
 StaysOpen (Failed e) s = Unit {0}

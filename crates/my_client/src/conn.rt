@@ -141,6 +141,7 @@ pub fn is_connecting<L>(conn: &TapedConn<L>) -> bool
             | Call::TakeSet
             | Call::SkipTaken
             | Call::Ping
+            | Call::Reset
             | Call::Quit => false,
         },
     }

@@ -82,12 +82,18 @@ NextIs look old new result = WaitIs look next_of kinds.NextRow calls.NextRow old
 abbrev pub TakeIs : {L : Type 0} → (L → Looks) → ConnSeen L → ConnSeen L → Result Bool Error → Type 0
 TakeIs look old new result = WaitIs look taken_of kinds.TakeSet calls.TakeSet old new result
 
--- what a caller gets of a statement that was prepared: the one that is the answer
-abbrev pub PreparedBy : Result Answer Error → Result StatementView Error → Type 0
-PreparedBy r (Ok statement) = r ≡ Ok (answers.Stmt statement)
-PreparedBy r (Err error) = r ≡ Err error
+-- what a caller gets of a call that is answered by a value: the one that is in the answer
+abbrev pub GivenBy : {A : Type 0} → (A → Answer) → Result Answer Error → Result A Error → Type 0
+GivenBy answer_with r (Ok value) = r ≡ Ok (answer_with value)
+GivenBy answer_with r (Err error) = r ≡ Err error
 
-abbrev pub PrepareIs : {L : Type 0} → (L → Looks) → List ℕ → ConnSeen L → ConnSeen L → Result StatementView Error
-    → Type 0
-PrepareIs look text old new result = (r : Result Answer Error) × PreparedBy r result
-    × DriveIs look kinds.Prepare (calls.Prepare text) old new r
+abbrev pub GiveIs : {L A : Type 0} → (L → Looks) → (A → Answer) → CallKind → Call → ConnSeen L → ConnSeen L → Result A Error → Type 0
+GiveIs look answer_with c call old new result = (r : Result Answer Error) × GivenBy answer_with r result × DriveIs look c call old new r
+
+-- the statement that was prepared
+abbrev pub PrepareIs : {L : Type 0} → (L → Looks) → List ℕ → ConnSeen L → ConnSeen L → Result StatementView Error → Type 0
+PrepareIs look text old new result = GiveIs look answers.Stmt kinds.Prepare (calls.Prepare text) old new result
+
+-- whether the server could reset its session
+abbrev pub ResetIs : {L : Type 0} → (L → Looks) → ConnSeen L → ConnSeen L → Result Bool Error → Type 0
+ResetIs look old new result = GiveIs look answers.Flag kinds.Reset calls.Reset old new result

@@ -92,7 +92,8 @@ fn lost_answer(kind: CallKind) -> After
         | CallKind::DropResult
         | CallKind::TakeSet
         | CallKind::SkipTaken
-        | CallKind::Ping => After::Failed(Error::Driver(DriverError::ConnectionClosed)),
+        | CallKind::Ping
+        | CallKind::Reset => After::Failed(Error::Driver(DriverError::ConnectionClosed)),
     }
 }
 

@@ -7,7 +7,7 @@ ghost use Rattle.my_reading.specs.declared.call.CallKind.TheVariants as kinds;
 ghost use Rattle.my_reading.specs.Told.{told};
 ghost use Rattle.my_session.specs.Fits.{may_be};
 ghost use Rattle.my_conn.specs.Answers.{next_of};
-ghost use Rattle.my_conn.specs.Drives.{DoneIs, DriveIs, NextIs, PrepareIs};
+ghost use Rattle.my_conn.specs.Drives.{DoneIs, DriveIs, NextIs, PrepareIs, ResetIs};
 
 use crate::conn::Conn;
 use my_client::After;
@@ -30,7 +30,7 @@ pub enum NextAnswer {
     NoSet,
 }
 
-/// What a caller gets of a read's answer. `Ready` and `Stmt` are never answers of a read.
+/// What a caller gets of a read's answer. `Ready`, `Stmt` and `Flag` are never answers of a read.
 pub fn next_answer(given: Answer) -> NextAnswer
     ensures { result ≡ next_of given }
 {
@@ -43,6 +43,7 @@ pub fn next_answer(given: Answer) -> NextAnswer
             drop(statement);
             NextAnswer::NoSet
         }
+        Answer::Flag(_) => NextAnswer::NoSet,
     }
 }
 
@@ -53,7 +54,22 @@ pub fn statement_answer(given: Answer) -> Statement
 {
     match given {
         Answer::Stmt(statement) => statement,
-        Answer::Ready | Answer::Row(_) | Answer::SetEnd | Answer::NoSet => unreachable!(),
+        Answer::Ready | Answer::Row(_) | Answer::SetEnd | Answer::NoSet | Answer::Flag(_) => {
+            unreachable!()
+        }
+    }
+}
+
+/// The flag that is the answer to a reset.
+pub fn flag_answer(given: Answer) -> bool
+    requires { may_be kinds.Reset (told given) ≡ true }
+    ensures { given ≡ answers.Flag result }
+{
+    match given {
+        Answer::Flag(flag) => flag,
+        Answer::Ready | Answer::Row(_) | Answer::SetEnd | Answer::NoSet | Answer::Stmt(_) => {
+            unreachable!()
+        }
     }
 }
 
@@ -186,6 +202,21 @@ impl<L: BlockingLink> Conn<L> {
         ensures { DoneIs L.looks kinds.Ping calls.Ping self.old self.new result }
     {
         self.wait(alloc, CallKind::Ping, Call::Ping)
+    }
+
+    /// Resets the server's session without a new login, and waits until that is done. An open transaction is rolled back; variables of
+    /// the session are as after the login; temporary tables, locks and prepared statements are gone, also those of the cache. Then the
+    /// texts of the option `setup` are sent again.
+    ///
+    /// `false`: the server can't, and nothing was sent. MySQL can from 5.7.3 on, MariaDB from 10.2.4 on.
+    pub fn reset(&mut self, alloc: Global) -> Result<bool, Error>
+        requires { self.old.pending ≡ None }
+        ensures { ResetIs L.looks self.old self.new result }
+    {
+        match self.drive(alloc, CallKind::Reset, Call::Reset) {
+            Ok(answer) => return Ok(flag_answer(answer)),
+            Err(error) => return Err(error),
+        }
     }
 
     /// Ends the connection.

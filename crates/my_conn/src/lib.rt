@@ -10,6 +10,6 @@ mod stream;
 
 pub use conn::Conn;
 pub use connecting::{Connected, Connecting};
-pub use drive::{NextAnswer, next_answer, statement_answer};
+pub use drive::{NextAnswer, flag_answer, next_answer, statement_answer};
 pub use my_line::TOO_LONG;
 pub use stream::taken_answer;

@@ -15,7 +15,9 @@ pub fn taken_answer(given: &Answer) -> bool
 {
     match given {
         Answer::Ready => true,
-        Answer::Row(_) | Answer::SetEnd | Answer::NoSet | Answer::Stmt(_) => false,
+        Answer::Row(_) | Answer::SetEnd | Answer::NoSet | Answer::Stmt(_) | Answer::Flag(_) => {
+            false
+        }
     }
 }
 

@@ -91,6 +91,7 @@ answer_ready (answers.Row row) c e m = let no : may_be Connect (told (answers.Ro
 answer_ready answers.SetEnd c e m = let no : may_be Connect (told answers.SetEnd) ≡ true = subst (λ (c : CallKind). may_be c (told answers.SetEnd) ≡ true) e m in cc
 answer_ready answers.NoSet c e m = let no : may_be Connect (told answers.NoSet) ≡ true = subst (λ (c : CallKind). may_be c (told answers.NoSet) ≡ true) e m in cc
 answer_ready (answers.Stmt statement) c e m = let no : may_be Connect (told (answers.Stmt statement)) ≡ true = subst (λ (c : CallKind). may_be c (told (answers.Stmt statement)) ≡ true) e m in cc
+answer_ready (answers.Flag flag) c e m = let no : may_be Connect (told (answers.Flag flag)) ≡ true = subst (λ (c : CallKind). may_be c (told (answers.Flag flag)) ≡ true) e m in cc
 
 module _ (s t : Seen) (x y : Looks) (p q : Option Tape) (m : Met) (answer : Answer) (each : EachCall None s t x y p q m (after.Answered answer)) where
   pub made : (login : Login) (k : Kept) (a : Asked) → ConnectsFor login s p k a → (end : Kept) × StandsFor login t q None end × IsPolled login a k x m (after.Answered answers.Ready) end y

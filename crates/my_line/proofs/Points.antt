@@ -84,6 +84,7 @@ query_ready (answers.Row row) e = cc
 query_ready answers.SetEnd e = cc
 query_ready answers.NoSet e = cc
 query_ready (answers.Stmt statement) e = cc
+query_ready (answers.Flag flag) e = cc
 
 drop_ready : (answer : Answer) → may_be DropResult (told answer) ≡ true → answer ≡ answers.Ready
 drop_ready answers.Ready e = refl
@@ -91,6 +92,7 @@ drop_ready (answers.Row row) e = cc
 drop_ready answers.SetEnd e = cc
 drop_ready answers.NoSet e = cc
 drop_ready (answers.Stmt statement) e = cc
+drop_ready (answers.Flag flag) e = cc
 
 module _ (login : Login) (s t : Seen) (x y : Looks) (p q : Option Tape) (m : Met) (k : Kept) where
   shaking : (after : After) → EachCall None s t x y p q m after → (a : Asked) → ConnectsFor login s p k a → MadePoll login Shakes None t x y q k m after

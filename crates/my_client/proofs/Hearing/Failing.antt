@@ -5,7 +5,7 @@ use Rattle.my_session.specs.declared.answer.SessionStep.TheVariants as steps
 use Rattle.my_session.specs.declared.task.LinkFault.{LinkFault}
 use Rattle.my_session.specs.declared.task.LinkFault.TheVariants as faults
 use Rattle.my_session.specs.declared.task.Task.{Task}
-use Rattle.my_session.specs.declared.task.Task.TheVariants.{Nothing, Begun, Cleaning, Own, Giving, Arranging, Running, Finishing, Reading, Dropping, Taking, Skipping, Leaving, Failing}
+use Rattle.my_session.specs.declared.task.Task.TheVariants.{Nothing, Begun, Cleaning, Own, Giving, Arranging, Running, Finishing, Clearing, Setting, Reading, Dropping, Taking, Skipping, Leaving, Failing}
 use Rattle.my_session.specs.declared.answer.Tick.TheVariants as ticks
 use Rattle.my_reading.specs.declared.error.IoError.{IoError}
 use Rattle.my_reading.specs.declared.error.IoError.TheVariants as ios
@@ -64,6 +64,8 @@ is_leaving Giving closed c o f a = let no : true ≡ false = sym c ∙ a refl in
 is_leaving (Arranging n) closed c o f a = let no : true ≡ false = sym c ∙ a refl in cc
 is_leaving (Running n) closed c o f a = let no : true ≡ false = sym c ∙ a refl in cc
 is_leaving (Finishing n) closed c o f a = let no : true ≡ false = sym c ∙ a refl in cc
+is_leaving Clearing closed c o f a = let no : true ≡ false = sym c ∙ a refl in cc
+is_leaving (Setting n) closed c o f a = let no : true ≡ false = sym c ∙ a refl in cc
 is_leaving Reading closed c o f a = let no : true ≡ false = sym c ∙ a refl in cc
 is_leaving Dropping closed c o f a = let no : true ≡ false = sym c ∙ a refl in cc
 is_leaving Taking closed c o f a = let no : true ≡ false = sym c ∙ a refl in cc
@@ -129,6 +131,8 @@ told_to_fail Giving fault o = refl
 told_to_fail (Arranging n) fault o = refl
 told_to_fail (Running n) fault o = refl
 told_to_fail (Finishing n) fault o = refl
+told_to_fail Clearing fault o = refl
+told_to_fail (Setting n) fault o = refl
 told_to_fail Reading fault o = refl
 told_to_fail Dropping fault o = refl
 told_to_fail Taking fault o = refl

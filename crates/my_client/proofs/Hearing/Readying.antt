@@ -2,13 +2,13 @@
 use Rattle.std.proofs.Common.{◌≡◌, List, [], ◌∷◌, ◌||◌, Bool, true, false, cond, None, refl, sym, ap, ◌∙◌, subst}
 use Rattle.my_grammar.specs.declared.login.Login.{Login}
 use Rattle.my_reading.specs.declared.call.CallKind.{CallKind}
-use Rattle.my_reading.specs.declared.call.CallKind.TheVariants.{Connect, Query, Prepare, Execute, Batch, CloseStmt, NextRow, DropResult, TakeSet, SkipTaken, Ping, Quit}
+use Rattle.my_reading.specs.declared.call.CallKind.TheVariants.{Connect, Query, Prepare, Execute, Batch, CloseStmt, NextRow, DropResult, TakeSet, SkipTaken, Ping, Reset, Quit}
 use Rattle.my_session.specs.declared.task.Task.{Task}
 use Rattle.my_session.specs.declared.task.Task.TheVariants.{Nothing}
 use Rattle.my_reading.specs.Calls.{kind_of, is_connect}
 use Rattle.my_session.specs.Tasks.{is_open}
 use Rattle.my_session.specs.Entries.{connects, connecting_in, has_connected}
-use Rattle.my_reading.specs.Told.{Told, ToldReady, ToldRow, ToldEnd, ToldNone, ToldStatement, ToldError, Dropped, told}
+use Rattle.my_reading.specs.Told.{Told, ToldReady, ToldRow, ToldEnd, ToldNone, ToldStatement, ToldFlag, ToldError, Dropped, told}
 use Rattle.my_reading.specs.declared.answer.Answer.{Answer}
 use Rattle.my_reading.specs.declared.answer.Answer.TheVariants as answers
 use Rattle.my_session.specs.Fits.{may_be}
@@ -35,6 +35,7 @@ note_joins DropResult (ToldRow row) n = refl
 note_joins DropResult ToldEnd n = refl
 note_joins DropResult ToldNone n = cc
 note_joins DropResult (ToldStatement statement) n = cc
+note_joins DropResult (ToldFlag flag) n = cc
 note_joins DropResult (ToldError e) n = cc
 note_joins DropResult (Dropped closing) n = cc
 note_joins TakeSet t n = cc
@@ -43,9 +44,11 @@ note_joins SkipTaken (ToldRow row) n = refl
 note_joins SkipTaken ToldEnd n = refl
 note_joins SkipTaken ToldNone n = cc
 note_joins SkipTaken (ToldStatement statement) n = cc
+note_joins SkipTaken (ToldFlag flag) n = cc
 note_joins SkipTaken (ToldError e) n = cc
 note_joins SkipTaken (Dropped closing) n = cc
 note_joins Ping t n = cc
+note_joins Reset t n = cc
 note_joins Quit t n = cc
 
 connected_if : (m : Made) (ms : List Made) (b : Bool) → is_note (kind_of m.call) m.what ≡ b → has_connected ms ≡ has_connected (answers_in ms) → has_connected (m ∷ ms) ≡ has_connected (cond b (answers_in ms) (m ∷ answers_in ms))
@@ -82,6 +85,7 @@ at_begun DropResult spot e s = s
 at_begun TakeSet spot e s = s
 at_begun SkipTaken spot e s = s
 at_begun Ping spot e s = s
+at_begun Reset spot e s = s
 at_begun Quit spot e s = s
 
 -- the handshake that is answered connects
@@ -91,6 +95,7 @@ connect_ready Connect (answers.Row row) e m = cc
 connect_ready Connect answers.SetEnd e m = cc
 connect_ready Connect answers.NoSet e m = cc
 connect_ready Connect (answers.Stmt statement) e m = cc
+connect_ready Connect (answers.Flag flag) e m = cc
 connect_ready Query answer e m = cc
 connect_ready Prepare answer e m = cc
 connect_ready Execute answer e m = cc
@@ -101,4 +106,5 @@ connect_ready DropResult answer e m = cc
 connect_ready TakeSet answer e m = cc
 connect_ready SkipTaken answer e m = cc
 connect_ready Ping answer e m = cc
+connect_ready Reset answer e m = cc
 connect_ready Quit answer e m = cc

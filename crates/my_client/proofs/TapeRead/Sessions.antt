@@ -11,7 +11,7 @@ use Rattle.my_reading.specs.declared.answer.Answer.{Answer}
 use Rattle.my_reading.specs.declared.call.Call.{Call}
 use Rattle.my_reading.specs.declared.call.Call.TheVariants as calls
 use Rattle.my_reading.specs.declared.call.CallKind.{CallKind}
-use Rattle.my_reading.specs.declared.call.CallKind.TheVariants.{Connect, Query, Prepare, Execute, Batch, CloseStmt, NextRow, DropResult, TakeSet, SkipTaken, Ping, Quit}
+use Rattle.my_reading.specs.declared.call.CallKind.TheVariants.{Connect, Query, Prepare, Execute, Batch, CloseStmt, NextRow, DropResult, TakeSet, SkipTaken, Ping, Reset, Quit}
 use Rattle.my_reading.specs.declared.error.Error.{Error}
 use Rattle.my_reading.specs.declared.error.Error.TheVariants as errors
 use Rattle.my_reading.specs.Calls.{asks, kind_of, call_of, is_quit}
@@ -252,6 +252,7 @@ kind_back DropResult carried = refl
 kind_back TakeSet carried = refl
 kind_back SkipTaken carried = refl
 kind_back Ping carried = refl
+kind_back Reset carried = refl
 kind_back Quit carried = refl
 
 -- the open call is cancelled
@@ -274,6 +275,7 @@ module _ (s : Seen) (call : Call) (parts : List Part) (p : Place) (o : OpenAt s 
   closes_asking TakeSet e = cc
   closes_asking SkipTaken e = cc
   closes_asking Ping e = refl
+  closes_asking Reset e = refl
   closes_asking Quit e = refl
 
   closes_own : (c : CallKind) → OwnStandsAt c s.context.spot (connects_in (exchanges p)) → closes_cancelled c p ≡ true
@@ -288,6 +290,7 @@ module _ (s : Seen) (call : Call) (parts : List Part) (p : Place) (o : OpenAt s 
   closes_own TakeSet w = absurd w
   closes_own SkipTaken w = absurd w
   closes_own Ping w = refl
+  closes_own Reset w = refl
   closes_own Quit w = refl
 
   closes_is : (t : Task) → s.task ≡ t → TaskStandsAt t s.context.spot (connects_in (exchanges p)) → closes_when_cancelled t s.context.spot ≡ closes_cancelled (kind_of call) p
@@ -299,6 +302,8 @@ module _ (s : Seen) (call : Call) (parts : List Part) (p : Place) (o : OpenAt s 
   closes_is (tasks.Arranging n) e w = sym (ap (λ k. closes_cancelled k p) (kind_is Connect (ap kind_in e)))
   closes_is (tasks.Running n) e w = sym (ap (λ k. closes_cancelled k p) (kind_is Batch (ap kind_in e)))
   closes_is (tasks.Finishing n) e w = sym (ap (λ k. closes_cancelled k p) (kind_is Batch (ap kind_in e)))
+  closes_is tasks.Clearing e w = sym (ap (λ k. closes_cancelled k p) (kind_is Reset (ap kind_in e)))
+  closes_is (tasks.Setting n) e w = sym (ap (λ k. closes_cancelled k p) (kind_is Reset (ap kind_in e)))
   closes_is tasks.Reading e w = ap awaits_head spot_is ∙ sym (ap (λ k. closes_cancelled k p) (kind_is NextRow (ap kind_in e)))
   closes_is tasks.Dropping e w = ap awaits_head spot_is ∙ sym (ap (λ k. closes_cancelled k p) (kind_is DropResult (ap kind_in e)))
   closes_is tasks.Taking e w = ap awaits_head spot_is ∙ sym (ap (λ k. closes_cancelled k p) (kind_is TakeSet (ap kind_in e)))
@@ -315,6 +320,8 @@ module _ (s : Seen) (call : Call) (parts : List Part) (p : Place) (o : OpenAt s 
   keeps_end (tasks.Arranging n) e f = cc
   keeps_end (tasks.Running n) e f = cc
   keeps_end (tasks.Finishing n) e f = cc
+  keeps_end tasks.Clearing e f = cc
+  keeps_end (tasks.Setting n) e f = cc
   keeps_end tasks.Reading e f = refl
   keeps_end tasks.Dropping e f = refl
   keeps_end tasks.Taking e f = refl
@@ -331,6 +338,8 @@ module _ (s : Seen) (call : Call) (parts : List Part) (p : Place) (o : OpenAt s 
   owes_not (tasks.Arranging n) e f = cc
   owes_not (tasks.Running n) e f = cc
   owes_not (tasks.Finishing n) e f = cc
+  owes_not tasks.Clearing e f = cc
+  owes_not (tasks.Setting n) e f = cc
   owes_not tasks.Reading e f = refl
   owes_not tasks.Dropping e f = refl
   owes_not tasks.Taking e f = refl
@@ -383,6 +392,7 @@ module _ (login : Login) (s t : Seen) (k : Kept) (call : Call) where
   back_whole calls.TakeSet = refl
   back_whole calls.SkipTaken = refl
   back_whole calls.Ping = refl
+  back_whole calls.Reset = refl
   back_whole calls.Quit = refl
 
   -- the session with this task
