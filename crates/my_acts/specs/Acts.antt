@@ -8,7 +8,7 @@ use Rattle.my_script.specs.declared.step.Step.{Step}
 use Rattle.my_script.specs.declared.step.Step.TheVariants as steps
 use Rattle.my_script.specs.Streams.{target}
 use Rattle.my_script.specs.declared.transcript.Outcome.{Outcome}
-use Rattle.my_script.specs.declared.transcript.Outcome.TheVariants.{Done, Pending, SetEnd, NoSet, Row, Rows, Prepared, Fields, Connected, Failed, NoSuchHandle}
+use Rattle.my_script.specs.declared.transcript.Outcome.TheVariants.{Done, Pending, SetEnd, NoSet, Row, Rows, Prepared, Flag, Fields, Connected, Failed, NoSuchHandle}
 use Rattle.my_acts.specs.declared.act.Act.{Act}
 use Rattle.my_acts.specs.declared.act.Act.TheVariants.{Wrong, Skips, Tells, Holds, Fails, Connects, Polls, Takes, Ends, Cancels}
 use Rattle.my_acts.specs.declared.act.Status.{Status}
@@ -54,6 +54,7 @@ polled SetEnd = Polls Idle
 polled NoSet = Polls Idle
 polled (Row row) = Polls Idle
 polled (Prepared statement) = Polls Idle
+polled (Flag flag) = Polls Idle
 polled (Failed e) = Polls Idle
 polled outcome = Wrong
 
@@ -124,6 +125,7 @@ at_idle closed next (steps.Item n) outcome uses = asked closed outcome uses
 at_idle closed next (steps.Unstream n) outcome uses = let_go outcome uses
 at_idle closed next (steps.Drop n) outcome uses = asked closed outcome uses
 at_idle closed next (steps.Ping n) outcome uses = asked closed outcome uses
+at_idle closed next (steps.Reset n) outcome uses = asked closed outcome uses
 at_idle closed next (steps.Quit n) outcome uses = polled_once outcome uses
 at_idle closed next (steps.Fields n) outcome uses = told outcome uses
 at_idle closed next (steps.Poll n) outcome uses = refused Idle outcome uses
@@ -240,6 +242,7 @@ begun_by taken named (steps.Item n) = Some calls.NextRow
 begun_by taken named (steps.Unstream n) = None
 begun_by taken named (steps.Drop n) = Some calls.DropResult
 begun_by taken named (steps.Ping n) = Some calls.Ping
+begun_by taken named (steps.Reset n) = Some calls.Reset
 begun_by taken named (steps.Quit n) = Some calls.Quit
 begun_by taken named (steps.Fields n) = None
 begun_by taken named (steps.Poll n) = None

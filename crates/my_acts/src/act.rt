@@ -78,7 +78,8 @@ fn at_idle(closed: bool, next: usize, step: &Step, outcome: &Outcome, uses: usiz
         | Step::Next(_)
         | Step::Item(_)
         | Step::Drop(_)
-        | Step::Ping(_) => asked(closed, outcome, uses),
+        | Step::Ping(_)
+        | Step::Reset(_) => asked(closed, outcome, uses),
         Step::Collect(_) => collected(closed, next, outcome, uses),
         Step::Stream(_) => streamed(closed, outcome, uses),
         Step::Unstream(_) => let_go(outcome, uses),

@@ -103,6 +103,7 @@ fn polled(outcome: &Outcome) -> Act
         | Outcome::NoSet
         | Outcome::Row(_)
         | Outcome::Prepared(_)
+        | Outcome::Flag(_)
         | Outcome::Failed(_) => Act::Polls(Status::Idle),
         _ => Act::Wrong,
     }

@@ -2,7 +2,7 @@
 use Rattle.std.specs.Prelude.{ℕ, List, codes, if◌then◌else◌}
 use Rattle.std.specs.Str.{bytes_eq}
 use Rattle.my_script.specs.declared.reading.keyword.Keyword.{Keyword}
-use Rattle.my_script.specs.declared.reading.keyword.Keyword.TheVariants.{Packet, Drip, Bytes, Turn, Wait, Fail, End, Accept, WriteWait, WriteFail, Dial, Conn, Query, Prepare, Execute, ExecuteNamed, CloseStatement, Next, Collect, Stream, StreamItem, Unstream, Drop, Ping, Quit, Fields, Poll, Cancel, Advance, Random, Unknown}
+use Rattle.my_script.specs.declared.reading.keyword.Keyword.TheVariants.{Packet, Drip, Bytes, Turn, Wait, Fail, End, Accept, WriteWait, WriteFail, Dial, Conn, Query, Prepare, Execute, ExecuteNamed, CloseStatement, Next, Collect, Stream, StreamItem, Unstream, Drop, Ping, Reset, Quit, Fields, Poll, Cancel, Advance, Random, Unknown}
 
 -- the words of steps that move the world
 abbrev pub moving_keyword_of : List ℕ → Keyword
@@ -32,6 +32,7 @@ step_keyword_of word =
     else if bytes_eq word (codes "unstream") then Unstream
     else if bytes_eq word (codes "drop") then Drop
     else if bytes_eq word (codes "ping") then Ping
+    else if bytes_eq word (codes "reset") then Reset
     else if bytes_eq word (codes "quit") then Quit
     else if bytes_eq word (codes "fields") then Fields
     else if bytes_eq word (codes "poll") then Poll

@@ -9,7 +9,7 @@ use Rattle.my_world.specs.declared.line.WorldLine.TheVariants as lines
 use Rattle.my_script.specs.declared.reading.line.Item.{Item}
 use Rattle.my_script.specs.declared.reading.line.Item.TheVariants.{Nothing, Plans, Steps, Wrong}
 use Rattle.my_script.specs.declared.reading.keyword.Keyword.{Keyword}
-use Rattle.my_script.specs.declared.reading.keyword.Keyword.TheVariants.{Packet, Drip, Bytes, Turn, Wait, Fail, End, Accept, WriteWait, WriteFail, Dial, Conn, Query, Prepare, Execute, ExecuteNamed, CloseStatement, Next, Collect, Stream, StreamItem, Unstream, Drop, Ping, Quit, Fields, Poll, Cancel, Advance, Random, Unknown}
+use Rattle.my_script.specs.declared.reading.keyword.Keyword.TheVariants.{Packet, Drip, Bytes, Turn, Wait, Fail, End, Accept, WriteWait, WriteFail, Dial, Conn, Query, Prepare, Execute, ExecuteNamed, CloseStatement, Next, Collect, Stream, StreamItem, Unstream, Drop, Ping, Reset, Quit, Fields, Poll, Cancel, Advance, Random, Unknown}
 use Rattle.my_script.specs.declared.reading.line.PacketParts.{PacketParts}
 use Rattle.my_script.specs.declared.reading.line.LinkParts.{LinkParts}
 use Rattle.my_script.specs.declared.reading.line.AcceptParts.{AcceptParts}
@@ -178,6 +178,7 @@ connection_item StreamItem (Some connection) = Steps (steps.Item connection)
 connection_item Unstream (Some connection) = Steps (steps.Unstream connection)
 connection_item Drop (Some connection) = Steps (steps.Drop connection)
 connection_item Ping (Some connection) = Steps (steps.Ping connection)
+connection_item Reset (Some connection) = Steps (steps.Reset connection)
 connection_item Quit (Some connection) = Steps (steps.Quit connection)
 connection_item Fields (Some connection) = Steps (steps.Fields connection)
 connection_item Poll (Some connection) = Steps (steps.Poll connection)
@@ -221,6 +222,7 @@ item_with StreamItem rest = connection_item StreamItem (number_of rest)
 item_with Unstream rest = connection_item Unstream (number_of rest)
 item_with Drop rest = connection_item Drop (number_of rest)
 item_with Ping rest = connection_item Ping (number_of rest)
+item_with Reset rest = connection_item Reset (number_of rest)
 item_with Quit rest = connection_item Quit (number_of rest)
 item_with Fields rest = connection_item Fields (number_of rest)
 item_with Poll rest = connection_item Poll (number_of rest)

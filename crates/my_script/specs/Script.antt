@@ -9,6 +9,7 @@ use Rattle.my_script.specs.declared.reading.line.Item.TheVariants.{Nothing, Plan
 use Rattle.my_script.specs.declared.reading.script.BadLine.{BadLine}
 use Rattle.my_script.specs.declared.reading.script.Read.{Read}
 use Rattle.my_script.specs.declared.reading.script.Read.TheVariants as reads
+use Rattle.my_script.specs.declared.reading.script.Script.{Script as LinesRead}
 use Rattle.my_script.specs.declared.reading.script.Sofar.{Sofar}
 use Rattle.my_script.specs.Line.{line_of}
 
@@ -76,6 +77,6 @@ read_as (reads.Good s) = Good s.plan.items s.steps.items
 read_as (reads.Bad line) = Bad line.number line.text
 
 -- the lines that were read, where all read, or the first one that doesn't
-abbrev pub read_into : List WorldLine → List Step → Option BadLine → Script
-read_into plan steps None = Good plan steps
-read_into plan steps (Some line) = Bad line.number line.text
+abbrev pub read_into : LinesRead → Option BadLine → Script
+read_into lines None = Good lines.plan.items lines.steps.items
+read_into lines (Some line) = Bad line.number line.text

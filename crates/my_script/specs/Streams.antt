@@ -23,6 +23,7 @@ target (steps.Item n) = Some n
 target (steps.Unstream n) = Some n
 target (steps.Drop n) = Some n
 target (steps.Ping n) = Some n
+target (steps.Reset n) = Some n
 target (steps.Quit n) = Some n
 target (steps.Fields n) = Some n
 target (steps.Poll n) = Some n

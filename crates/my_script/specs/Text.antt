@@ -1,11 +1,11 @@
 -- The text of a run: a line for each answer, then what each connection sent and took.
-use Rattle.std.specs.Prelude.{ℕ, ◌+◌, ◌==◌, List, [], ◌∷◌, ◌++◌, length, codes, if◌then◌else◌}
+use Rattle.std.specs.Prelude.{ℕ, ◌+◌, ◌==◌, Bool, true, false, List, [], ◌∷◌, ◌++◌, length, codes, if◌then◌else◌}
 use Rattle.std.specs.Fmt.{decimal}
 use Rattle.hex.specs.Hex.{encode_lower}
 use Rattle.my_handshake.specs.declared.version.ServerVersion.{ServerVersion}
 use Rattle.my_statements.specs.Prepared.{StatementView}
 use Rattle.my_script.specs.declared.transcript.Outcome.{Outcome}
-use Rattle.my_script.specs.declared.transcript.Outcome.TheVariants.{Done, Pending, SetEnd, NoSet, Row, Rows, Prepared, Fields, Connected, Failed, NoSuchHandle}
+use Rattle.my_script.specs.declared.transcript.Outcome.TheVariants.{Done, Pending, SetEnd, NoSet, Row, Rows, Prepared, Flag, Fields, Connected, Failed, NoSuchHandle}
 use Rattle.my_script.specs.declared.transcript.StepAnswer.{StepAnswer}
 use Rattle.my_script.specs.declared.transcript.Tape.{Tape}
 use Rattle.my_script.specs.TextParts.{marked}
@@ -26,6 +26,11 @@ prepared_text number s =
     codes "stmt " ++ decimal number ++ named_text (codes " id=") s.inner.id ++ named_text (codes " params=") s.inner.num_params
     ++ named_text (codes " columns=") s.inner.num_columns
 
+-- `flag 1` or `flag 0`
+abbrev pub flag_text : Bool → List ℕ
+flag_text true = codes "flag 1"
+flag_text false = codes "flag 0"
+
 -- how many statements were prepared up to and with an answer, by how many were before it
 abbrev pub prepared_by : ℕ → Outcome → ℕ
 prepared_by prepared (Prepared statement) = prepared + 1
@@ -40,6 +45,7 @@ outcome_text prepared NoSet = codes "none"
 outcome_text prepared (Row row) = row_text row.cells
 outcome_text prepared (Rows rows) = rows_text rows.items
 outcome_text prepared (Prepared statement) = prepared_text prepared statement
+outcome_text prepared (Flag flag) = flag_text flag
 outcome_text prepared (Fields fields) = fields_text fields
 outcome_text prepared (Connected number id version) = connected_text number id version
 outcome_text prepared (Failed error) = codes "error " ++ error_text error

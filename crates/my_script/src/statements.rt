@@ -20,7 +20,8 @@ pub fn named_statement(step: &Step) -> Option<u64>
     }
 }
 
-/// The statements that were prepared so far: each answer with one takes the next number, and a step that closes it spends it.
+/// The statements that were prepared so far: each answer with one takes the next number, and a step that closes it spends
+/// it.
 ///
 /// Contracts see the list of the statements by their numbers, with nothing at a number that is spent.
 #[derive(Drop)]

@@ -30,6 +30,8 @@ pub enum Step {
     Drop(u64),
     /// Asks whether the server is there.
     Ping(u64),
+    /// Has the server reset this connection's session.
+    Reset(u64),
     /// Leaves the server.
     Quit(u64),
     /// Shows what the server's last OK said.

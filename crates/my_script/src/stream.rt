@@ -34,6 +34,7 @@ pub fn target(step: &Step) -> Option<u64>
         | Step::Unstream(number)
         | Step::Drop(number)
         | Step::Ping(number)
+        | Step::Reset(number)
         | Step::Quit(number)
         | Step::Fields(number)
         | Step::Poll(number)

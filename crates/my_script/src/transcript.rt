@@ -32,6 +32,8 @@ pub enum Outcome {
     Rows(Vec<Row>),
     /// `stmt S id=I params=P columns=K`, where S is how many such answers came before.
     Prepared(Statement),
+    /// `flag 1` or `flag 0`: whether the server has the command of the call.
+    Flag(bool),
     /// `ok affected=A insert=I warnings=W status=F info=b:HEX`, or `ok -` where there is no OK.
     Fields(Option<OkPacket>),
     /// `conn C id=I version=A.B.C`

@@ -29,6 +29,7 @@ pub enum Keyword {
     Unstream,
     Drop,
     Ping,
+    Reset,
     Quit,
     Fields,
     Poll,
@@ -97,6 +98,9 @@ fn step_keyword(word: &[u8]) -> Keyword
     }
     if word == b"ping".as_slice() {
         return Keyword::Ping;
+    }
+    if word == b"reset".as_slice() {
+        return Keyword::Reset;
     }
     if word == b"quit".as_slice() {
         return Keyword::Quit;

@@ -296,6 +296,7 @@ fn connection_line(keyword: Keyword, connection: Option<u64>) -> Item
             Keyword::Unstream => Item::Steps(Step::Unstream(connection)),
             Keyword::Drop => Item::Steps(Step::Drop(connection)),
             Keyword::Ping => Item::Steps(Step::Ping(connection)),
+            Keyword::Reset => Item::Steps(Step::Reset(connection)),
             Keyword::Quit => Item::Steps(Step::Quit(connection)),
             Keyword::Fields => Item::Steps(Step::Fields(connection)),
             Keyword::Poll => Item::Steps(Step::Poll(connection)),
@@ -353,6 +354,7 @@ fn with_arguments(alloc: Global, keyword: Keyword, rest: &[u8]) -> Result<Item, 
         | Keyword::Unstream
         | Keyword::Drop
         | Keyword::Ping
+        | Keyword::Reset
         | Keyword::Quit
         | Keyword::Fields
         | Keyword::Poll

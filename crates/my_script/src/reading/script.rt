@@ -142,7 +142,7 @@ fn read_lines(
 ) -> Result<Option<BadLine>, NoMemory>
     requires plan { script.old.plan.items ≡ [] }
     requires steps { script.old.steps.items ≡ [] }
-    ensures { IfOk result (λ bad. read_into script.new.plan.items script.new.steps.items bad ≡ script_of plans bytes.now) }
+    ensures { IfOk result (λ bad. read_into script.new bad ≡ script_of plans bytes.now) }
 {
     let mut sofar = Sofar {
         stepped: false,

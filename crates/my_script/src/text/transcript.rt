@@ -1,7 +1,7 @@
 //! A transcript as text.
 ghost use Rattle.std.specs.Prelude.{◌≡◌, ◌<◌, ◌≤◌, ◌+◌, ◌-◌, ◌^◌, ◌++◌, ◌∷◌, [], OnOk, IfOk, codes};
 ghost use Rattle.my_script.specs.ErrorText.{error_text};
-ghost use Rattle.my_script.specs.Text.{version_text, connected_text, prepared_text, prepared_by, outcome_text, answer_text, answers_text, hex_text, stream_text, tape_text, tapes_text, text_of};
+ghost use Rattle.my_script.specs.Text.{version_text, connected_text, prepared_text, flag_text, prepared_by, outcome_text, answer_text, answers_text, hex_text, stream_text, tape_text, tapes_text, text_of};
 
 use super::error::push_error;
 use super::ok::{push_fields, push_named};
@@ -64,6 +64,15 @@ fn push_prepared(
     push_named(alloc, out, b" columns=", statement.num_columns() as u64)
 }
 
+fn push_flag(out: &mut Vec<u8>, flag: bool) -> Result<(), AllocError>
+    ensures { OnOk result (out.new.items ≡ out.old.items ++ flag_text flag) }
+{
+    if flag {
+        return out.extend_from_slice(b"flag 1");
+    }
+    out.extend_from_slice(b"flag 0")
+}
+
 // How many statements were prepared up to and with an answer, by how many were before it.
 fn prepared_by(prepared: u64, outcome: &Outcome) -> u64
     requires { prepared < 2 ^ 64 - 1 }
@@ -93,6 +102,7 @@ fn push_outcome(
         Outcome::Row(row) => push_row(alloc, out, row),
         Outcome::Rows(rows) => push_rows(alloc, out, rows),
         Outcome::Prepared(statement) => push_prepared(alloc, out, prepared, statement),
+        Outcome::Flag(flag) => push_flag(out, *flag),
         Outcome::Fields(fields) => push_fields(alloc, out, fields.as_ref()),
         Outcome::Connected(number, id, version) => {
             push_connected(alloc, out, *number, *id, *version)
