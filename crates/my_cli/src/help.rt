@@ -112,6 +112,7 @@ C is a connection; at most 1000 lines connect:
   drop C           discards what is left of the result
   fields C         prints the fields of the server's last OK packet
   ping C           asks whether the server is there
+  reset C          resets the server's session: flag 1, or flag 0 where the server can't
   quit C           leaves the server
   prep C TEXT      prepares the statement TEXT; statements are numbered from 0
   exec C S V V     executes statement S with these values, as many as it has question marks
@@ -133,7 +134,8 @@ C is a connection; at most 1000 lines connect:
   fields 0         9 ok affected=0 insert=- warnings=0 status=2 info=b:
   prep 0 DO ?, ?   10 stmt 0 id=1 params=2 columns=0
   exec 0 0 i:1 b:  11 ok
-  quit 0           12 ok
+  reset 0          12 flag 1
+  quit 0           13 ok
 
 A value V is written as it is printed: NULL, b:HEX, i:N, u:N, f:HEX and d:HEX with the bits of
 a float and of a double, D:Y-M-D_H:M:S.U, T:SIGN_DAYS_H:M:S.U.

@@ -322,6 +322,7 @@ pending_after (after.Answered (answers.Row row)) e = cc
 pending_after (after.Answered answers.SetEnd) e = cc
 pending_after (after.Answered answers.NoSet) e = cc
 pending_after (after.Answered (answers.Stmt s)) e = cc
+pending_after (after.Answered (answers.Flag flag)) e = cc
 pending_after (after.Failed x) e = cc
 
 last_call : (xs : List TapeCall) (x c y : TapeCall) → xs ++ x ∷ [] ≡ c ∷ y ∷ [] → x ≡ y

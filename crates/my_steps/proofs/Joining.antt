@@ -128,6 +128,7 @@ gathers_on More us a end y o t (after.Answered (answers.Row row)) f w j alive r 
 gathers_on More us a end y o t (after.Answered answers.SetEnd) f w j alive r = subst IsJoined (sym r.2) j
 gathers_on More us a end y o t (after.Answered answers.NoSet) f w j alive r = subst IsJoined (sym r.2) j
 gathers_on More us a end y o t (after.Answered (answers.Stmt s)) f w j alive r = subst IsJoined (sym r.2) j
+gathers_on More us a end y o t (after.Answered (answers.Flag flag)) f w j alive r = subst IsJoined (sym r.2) j
 gathers_on More us a end y o t (after.Failed x) f w j alive r = subst IsJoined (sym r.2) j
 
 gathers_joined : (login : Login) (n : ℕ) (us : List Use) (a : Asked) (k : Kept) (x : Looks) (o : Outcome) (t : Handle) → WasJoined k → IsOpen k → Gathers login n us a k x o t → IsJoined t
@@ -279,6 +280,7 @@ step_joined login plans there named hs (steps.Next n) o us ts w r = at_step n _ 
 step_joined login plans there named hs (steps.Collect n) o us ts w r = at_step n _ hs ts o us (λ h t. collects_joined login n o us h t) w r
 step_joined login plans there named hs (steps.Drop n) o us ts w r = at_step n _ hs ts o us (λ h t. calls_joined login n _ o us h t) w r
 step_joined login plans there named hs (steps.Ping n) o us ts w r = at_step n _ hs ts o us (λ h t. calls_joined login n _ o us h t) w r
+step_joined login plans there named hs (steps.Reset n) o us ts w r = at_step n _ hs ts o us (λ h t. calls_joined login n _ o us h t) w r
 step_joined login plans there named hs (steps.Quit n) o us ts w r = at_step n _ hs ts o us (λ h t. calls_joined login n _ o us h t) w r
 step_joined login plans there named hs (steps.Stream n) o us ts w r = at_step n _ hs ts o us (λ h t. streams_joined login n o us h t) w r
 step_joined login plans there named hs (steps.Item n) o us ts w r = at_step n _ hs ts o us (λ h t. items_joined there login n o us h t) w r

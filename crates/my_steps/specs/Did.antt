@@ -105,6 +105,7 @@ order_of there named (steps.CloseStatement n number) = at_place n (close_work na
 order_of there named (steps.Next n) = at_place n (works.Begin calls.NextRow)
 order_of there named (steps.Drop n) = at_place n (works.Begin calls.DropResult)
 order_of there named (steps.Ping n) = at_place n (works.Begin calls.Ping)
+order_of there named (steps.Reset n) = at_place n (works.Begin calls.Reset)
 order_of there named (steps.Quit n) = at_place n (works.Begin calls.Quit)
 order_of there named (steps.Fields n) = at_place n works.Fields
 order_of there named (steps.Cancel n) = at_place n works.Cancel

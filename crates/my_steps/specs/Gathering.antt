@@ -15,7 +15,7 @@ use Rattle.my_client.specs.declared.poll.After.{After}
 use Rattle.my_client.specs.declared.poll.After.TheVariants as after
 use Rattle.my_client.specs.declared.conn.TapedConn.{TapedConn}
 use Rattle.my_script.specs.declared.transcript.Outcome.{Outcome}
-use Rattle.my_script.specs.declared.transcript.Outcome.TheVariants.{Done, Pending, Prepared, Failed}
+use Rattle.my_script.specs.declared.transcript.Outcome.TheVariants.{Done, Pending, Prepared, Flag, Failed}
 use Rattle.my_script.specs.declared.transcript.Use.{Use}
 use Rattle.my_steps.specs.Grows.{Gathers, rows_shown}
 use Rattle.my_steps.specs.Handle.{Handle, Joined}
@@ -34,6 +34,7 @@ Shows rows (after.Answered (answers.Row row)) o = ⊥
 Shows rows (after.Answered answers.SetEnd) o = rows_shown o ≡ Some (unwrap_or rows [])
 Shows rows (after.Answered answers.NoSet) o = rows_shown o ≡ Some (unwrap_or rows [])
 Shows rows (after.Answered (answers.Stmt s)) o = o ≡ Prepared s
+Shows rows (after.Answered (answers.Flag flag)) o = o ≡ Flag flag
 Shows rows (after.Failed e) o = o ≡ Failed e
 
 -- the next row is asked for, with one row more
@@ -58,6 +59,7 @@ GoesNext c d rows (after.Answered (answers.Row row)) = AsksNext c d (unwrap_or r
 GoesNext c d rows (after.Answered answers.SetEnd) = ⊥
 GoesNext c d rows (after.Answered answers.NoSet) = ⊥
 GoesNext c d rows (after.Answered (answers.Stmt s)) = ⊥
+GoesNext c d rows (after.Answered (answers.Flag flag)) = ⊥
 GoesNext c d rows (after.Failed e) = ⊥
 
 abbrev pub Goes : {L : Type 0} → TapedConn L → TapedConn L → Option (List RowParts) → After → Gathering → Type 0

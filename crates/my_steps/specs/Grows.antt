@@ -8,7 +8,7 @@ use Rattle.my_grammar.specs.declared.login.Login.{Login}
 use Rattle.my_reading.specs.declared.answer.Answer.{Answer}
 use Rattle.my_reading.specs.declared.answer.Answer.TheVariants as answers
 use Rattle.my_reading.specs.declared.call.Call.{Call}
-use Rattle.my_reading.specs.declared.call.Call.TheVariants.{Query, Prepare, Execute, CloseStmt, NextRow, DropResult, TakeSet, SkipTaken, Ping, Quit}
+use Rattle.my_reading.specs.declared.call.Call.TheVariants.{Query, Prepare, Execute, CloseStmt, NextRow, DropResult, TakeSet, SkipTaken, Ping, Reset, Quit}
 use Rattle.my_reading.specs.Calls.{kind_of, is_connect}
 use Rattle.my_reading.specs.Endings.{closes_cancelled}
 use Rattle.my_reading.specs.Errors.{connection_closed, io_error}
@@ -26,7 +26,7 @@ use Rattle.my_script.specs.Streams.{is_skip, is_there, stream_by, target}
 use Rattle.my_script.specs.Numbered.{named_statement, statement_named, statements_by}
 use Rattle.my_client.specs.declared.tape.Said.TheVariants as says
 use Rattle.my_script.specs.declared.transcript.Outcome.{Outcome}
-use Rattle.my_script.specs.declared.transcript.Outcome.TheVariants.{Done, Pending, SetEnd, NoSet, Row, Rows, Prepared, Fields, Connected, Failed, NoSuchHandle}
+use Rattle.my_script.specs.declared.transcript.Outcome.TheVariants.{Done, Pending, SetEnd, NoSet, Row, Rows, Prepared, Flag, Fields, Connected, Failed, NoSuchHandle}
 use Rattle.my_script.specs.declared.transcript.Use.{Use}
 use Rattle.my_client.specs.Causes.{IsPolled}
 use Rattle.my_steps.specs.Handle.{Handle, Absent, Dialing, Joined, at_number, put_at}
@@ -61,6 +61,7 @@ answer_shown (answers.Row row) = Row row
 answer_shown answers.SetEnd = SetEnd
 answer_shown answers.NoSet = NoSet
 answer_shown (answers.Stmt s) = Prepared s
+answer_shown (answers.Flag flag) = Flag flag
 
 abbrev pub shown : After → Outcome
 shown after.Pending = Pending
@@ -150,6 +151,7 @@ rows_shown NoSet = None
 rows_shown (Row row) = None
 rows_shown (Rows rows) = Some rows.items
 rows_shown (Prepared s) = None
+rows_shown (Flag flag) = None
 rows_shown (Fields fields) = None
 rows_shown (Connected number id version) = None
 rows_shown (Failed e) = None
@@ -175,6 +177,7 @@ GathersOn more a (after.Answered answers.SetEnd) end y o us t = (rows_shown o �
 GathersOn more a (after.Answered answers.NoSet) end y o us t = (rows_shown o ≡ Some (gathered a)) × (us ≡ [])
     × (t ≡ Joined true end y)
 GathersOn more a (after.Answered (answers.Stmt s)) end y o us t = (o ≡ Prepared s) × (us ≡ []) × (t ≡ Joined true end y)
+GathersOn more a (after.Answered (answers.Flag flag)) end y o us t = (o ≡ Flag flag) × (us ≡ []) × (t ≡ Joined true end y)
 GathersOn more a (after.Failed e) end y o us t = (o ≡ Failed e) × (us ≡ []) × (t ≡ Joined true end y)
 
 -- one poll for each use, row by row
@@ -361,6 +364,7 @@ StepGrows login plans there named hs (steps.Next n) o us ts = At n (Calls login 
 StepGrows login plans there named hs (steps.Collect n) o us ts = At n (CollectsAt login n) hs o us ts
 StepGrows login plans there named hs (steps.Drop n) o us ts = At n (Calls login n DropResult) hs o us ts
 StepGrows login plans there named hs (steps.Ping n) o us ts = At n (Calls login n Ping) hs o us ts
+StepGrows login plans there named hs (steps.Reset n) o us ts = At n (Calls login n Reset) hs o us ts
 StepGrows login plans there named hs (steps.Quit n) o us ts = At n (Calls login n Quit) hs o us ts
 StepGrows login plans there named hs (steps.Stream n) o us ts = At n (StreamsAt login n) hs o us ts
 StepGrows login plans there named hs (steps.Item n) o us ts = At n (ItemsAt there login n) hs o us ts

@@ -114,10 +114,14 @@ fn go_on<L>(
         After::Answered(Answer::NoSet) => {
             Ok(Gathering::Over(Outcome::Rows(rows_so_far(alloc, rows))))
         }
-        // No call that gathers rows is answered so.
+        // No call that gathers rows is answered by a statement, or by a flag.
         After::Answered(Answer::Stmt(statement)) => {
             drop(rows);
             Ok(Gathering::Over(Outcome::Prepared(statement)))
+        }
+        After::Answered(Answer::Flag(flag)) => {
+            drop(rows);
+            Ok(Gathering::Over(Outcome::Flag(flag)))
         }
         After::Answered(Answer::Row(row)) => {
             add_row(alloc, conn, rows, row)?;

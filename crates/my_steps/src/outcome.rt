@@ -31,6 +31,7 @@ fn answer_shown(answer: Answer) -> Outcome
         Answer::SetEnd => Outcome::SetEnd,
         Answer::NoSet => Outcome::NoSet,
         Answer::Stmt(statement) => Outcome::Prepared(statement),
+        Answer::Flag(flag) => Outcome::Flag(flag),
     }
 }
 

@@ -106,6 +106,7 @@ fn order_for(
         Step::Next(number) => Ok(visit(*number, Work::Begin(Call::NextRow))),
         Step::Drop(number) => Ok(visit(*number, Work::Begin(Call::DropResult))),
         Step::Ping(number) => Ok(visit(*number, Work::Begin(Call::Ping))),
+        Step::Reset(number) => Ok(visit(*number, Work::Begin(Call::Reset))),
         Step::Quit(number) => Ok(visit(*number, Work::Begin(Call::Quit))),
         Step::Fields(number) => Ok(visit(*number, Work::Fields)),
         Step::Cancel(number) => Ok(visit(*number, Work::Cancel)),

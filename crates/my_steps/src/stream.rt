@@ -39,6 +39,7 @@ pub(crate) fn is_skipping<L>(conn: &TapedConn<L>) -> bool
             | Call::DropResult
             | Call::TakeSet
             | Call::Ping
+            | Call::Reset
             | Call::Quit => false,
         },
     }

@@ -141,6 +141,7 @@ module _ (login : Login) where
   gathers_on More us a b end u st y o t (after.Answered answers.SetEnd) f w e r = subst IsOnce (sym r.2) w
   gathers_on More us a b end u st y o t (after.Answered answers.NoSet) f w e r = subst IsOnce (sym r.2) w
   gathers_on More us a b end u st y o t (after.Answered (answers.Stmt s)) f w e r = subst IsOnce (sym r.2) w
+  gathers_on More us a b end u st y o t (after.Answered (answers.Flag flag)) f w e r = subst IsOnce (sym r.2) w
   gathers_on More us a b end u st y o t (after.Failed x) f w e r = subst IsOnce (sym r.2) w
 
   gathers_once : (n : ℕ) (us : List Use) (a : Asked) (k : Kept) (x : Looks) (o : Outcome) (t : Handle) → k.pending ≡ Some a → connects_once (kept_calls k) ≡ true → Gathers login n us a k x o t → IsOnce t
@@ -277,6 +278,7 @@ module _ (login : Login) where
   step_once plans there named hs (steps.Collect n) o us ts w r = at_step n _ hs ts o us (λ h t. collects_once n o us h t) w r
   step_once plans there named hs (steps.Drop n) o us ts w r = at_step n _ hs ts o us (λ h t. calls_once n calls.DropResult o us h t refl) w r
   step_once plans there named hs (steps.Ping n) o us ts w r = at_step n _ hs ts o us (λ h t. calls_once n calls.Ping o us h t refl) w r
+  step_once plans there named hs (steps.Reset n) o us ts w r = at_step n _ hs ts o us (λ h t. calls_once n calls.Reset o us h t refl) w r
   step_once plans there named hs (steps.Quit n) o us ts w r = at_step n _ hs ts o us (λ h t. calls_once n calls.Quit o us h t refl) w r
   step_once plans there named hs (steps.Stream n) o us ts w r = at_step n _ hs ts o us (λ h t. streams_once n o us h t) w r
   step_once plans there named hs (steps.Item n) o us ts w r = at_step n _ hs ts o us (λ h t. items_once there n o us h t) w r

@@ -20,6 +20,8 @@ mod play;
 #[cfg(test)]
 mod prepared;
 #[cfg(test)]
+mod resets;
+#[cfg(test)]
 mod scripts;
 #[cfg(test)]
 mod sets;

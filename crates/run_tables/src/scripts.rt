@@ -29,7 +29,7 @@ fn bad_connection(alloc: Global, count: u64) -> Result<Option<u64>, NoMemory> {
 const SCRIPTS: &[(&str, Option<u64>)] = &[
     ("drip 0 0 -\naccept 65535 3\nwwait 0\nwfail 0\nconn\n", None),
     (
-        "collect 0\nstream 0\nitem 0\nunstream 0\ndrop 0\nping 0\nquit 0\nfields 0\npoll 0\ncancel 0\n",
+        "collect 0\nstream 0\nitem 0\nunstream 0\ndrop 0\nping 0\nreset 0\nquit 0\nfields 0\npoll 0\ncancel 0\n",
         None,
     ),
     ("query 0 A\nquery 0 B\nconn\nconn\n", None),
@@ -47,6 +47,8 @@ const SCRIPTS: &[(&str, Option<u64>)] = &[
     ("item 0\nunstream 0 1\n", Some(2)),
     ("ping 0\nwwait 0\n", Some(2)),
     ("cancel 0 1\n", Some(1)),
+    ("reset\n", Some(1)),
+    ("reset 0 1\n", Some(1)),
 ];
 
 // A thousand connections read, and one more doesn't.

@@ -237,6 +237,8 @@ fn other_answers(rt: HostRuntime) -> Result<(), Fail> {
     };
     assert!(rt;
         is_told(alloc)?
+            && is_printed(alloc, Outcome::Flag(true), "flag 1")?
+            && is_printed(alloc, Outcome::Flag(false), "flag 0")?
             && is_failed(alloc, Error::Other(other), "error Other b:6e6f")?
             && is_failed(alloc, Error::NoMemory, "error NoMemory")?
     );

@@ -16,7 +16,7 @@ use Rattle.my_reply.specs.declared.ok.OkPacket.{OkPacket}
 use Rattle.my_reading.specs.Errors.{connection_closed, io_error}
 use Rattle.my_reading.specs.Reading.{reading}
 use Rattle.my_reading.specs.Tape.{Span, TapeCall, Tape as ReadTape}
-use Rattle.my_reading.specs.Told.{Told, ToldReady, ToldRow, ToldEnd, ToldNone, ToldStatement, ToldError, Dropped, told}
+use Rattle.my_reading.specs.Told.{Told, ToldReady, ToldRow, ToldEnd, ToldNone, ToldStatement, ToldFlag, ToldError, Dropped, told}
 use Rattle.my_session.specs.Fits.{may_be}
 use Rattle.my_session.specs.History.{has_closed}
 use Rattle.my_session.specs.Steps.{is_refused}
@@ -28,7 +28,7 @@ use Rattle.my_link.specs.Looks.{Looks}
 use Rattle.my_script.specs.declared.step.Step.{Step}
 use Rattle.my_script.specs.declared.step.Step.TheVariants as steps
 use Rattle.my_script.specs.declared.transcript.Outcome.{Outcome}
-use Rattle.my_script.specs.declared.transcript.Outcome.TheVariants.{Done, Pending, SetEnd, NoSet, Row, Rows, Prepared, Fields, Connected, Failed, NoSuchHandle}
+use Rattle.my_script.specs.declared.transcript.Outcome.TheVariants.{Done, Pending, SetEnd, NoSet, Row, Rows, Prepared, Flag, Fields, Connected, Failed, NoSuchHandle}
 use Rattle.my_script.specs.declared.transcript.StepAnswer.{StepAnswer}
 use Rattle.my_script.specs.declared.transcript.Tape.{Tape}
 use Rattle.my_script.specs.declared.transcript.Use.{Use}
@@ -63,6 +63,7 @@ ending_by NoSet = Some ToldNone
 ending_by (Row row) = Some (ToldRow row)
 ending_by (Rows rows) = None
 ending_by (Prepared statement) = Some (ToldStatement statement)
+ending_by (Flag flag) = Some (ToldFlag flag)
 ending_by (Fields fields) = None
 ending_by (Connected number id version) = Some ToldReady
 ending_by (Failed e) = Some (ToldError e)
@@ -95,6 +96,7 @@ ending_back (Some (ToldRow row)) s = refl
 ending_back (Some ToldEnd) s = refl
 ending_back (Some ToldNone) s = refl
 ending_back (Some (ToldStatement statement)) s = refl
+ending_back (Some (ToldFlag flag)) s = refl
 ending_back (Some (ToldError e)) s = refl
 ending_back (Some (Dropped closing)) s = cc
 
@@ -147,6 +149,7 @@ shown_by (answers.Row row) = refl
 shown_by answers.SetEnd = refl
 shown_by answers.NoSet = refl
 shown_by (answers.Stmt statement) = refl
+shown_by (answers.Flag flag) = refl
 
 once_went : (login : Login) (k : Kept) (call : Call) (x : Looks) (o : Outcome) (us : List Use) (t : Handle) → PolledOnce login 0 (asked_by k call) (asking k call None) x o us t → Went k call o (taken_in us) t
 unfolding ending_by
@@ -254,6 +257,7 @@ module _ (login : Login) (plans : Plans) where
   step_went calls.TakeSet plain k x hs o us ms is rest there statement g = cc
   step_went calls.SkipTaken plain k x hs o us ms is rest there statement g = cc
   step_went calls.Ping plain k x hs o us ms is rest there statement g = at_went calls.Ping k x hs o us ms is rest g.made g.does g.others
+  step_went calls.Reset plain k x hs o us ms is rest there statement g = at_went calls.Reset k x hs o us ms is rest g.made g.does g.others
   step_went calls.Quit plain k x hs o us ms is rest there statement g = at_went calls.Quit k x hs o us ms is rest g.made g.does g.others
 
   through : (ss : List Span) → are_plain ss ≡ true → (k : Kept) (x : Looks) (hs : List Handle) → hs ≡ Joined true k x ∷ [] → (is_last ss ≡ false → k.pending ≡ None) → (vs : List AnswerView) → map (λ b. b.outcome) vs ≡ map (λ s. outcome_of s.ending) ss → map (λ b. taken_in b.uses) vs ≡ map (λ s. length s.taken) ss
@@ -282,6 +286,7 @@ ready_answer (answers.Row row) e = cc
 ready_answer answers.SetEnd e = cc
 ready_answer answers.NoSet e = cc
 ready_answer (answers.Stmt statement) e = cc
+ready_answer (answers.Flag flag) e = cc
 
 connects_went : (login : Login) (x : Looks) (o : Outcome) (us : List Use) (used : Use) (t : Handle) (id : ℕ) (version : ServerVersion) → o ≡ Connected 0 id version → us ≡ quiet 0 ∷ used ∷ [] → Connects login 0 first_asked first_kept x o used t → Went nothing_kept calls.Connect o (taken_in us) t
 unfolding ending_by

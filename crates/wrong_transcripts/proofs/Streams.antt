@@ -13,7 +13,7 @@ use Rattle.my_grammar.specs.Response.{response}
 use Rattle.my_reading.specs.declared.call.Call.{Call}
 use Rattle.my_reading.specs.declared.call.Call.TheVariants as calls
 use Rattle.my_reading.specs.Course.{step, run}
-use Rattle.my_reading.specs.Told.{Told, ToldReady, ToldRow, ToldEnd, ToldNone, ToldStatement, ToldError, Dropped}
+use Rattle.my_reading.specs.Told.{Told, ToldRow}
 use Rattle.my_script.specs.declared.step.Step.{Step}
 use Rattle.my_script.specs.declared.transcript.StepAnswer.{StepAnswer}
 use Rattle.my_run.specs.Headline.{AnswerView, answer_view}
@@ -48,14 +48,8 @@ none_runs ss vs v zero wrong plans before later bs t answered taped h =
     (lines_shown root 0 (seen_view v) 0 nothing_made (start root 0) ss bs (subst (λ (x : TapeSeen). AreLines root 0 x 0 nothing_made (start root 0) ss bs) here lines)))
 
 abbrev pub is_row : Option Told → Bool
-is_row None = false
-is_row (Some ToldReady) = false
 is_row (Some (ToldRow row)) = true
-is_row (Some ToldEnd) = false
-is_row (Some ToldNone) = false
-is_row (Some (ToldStatement statement)) = false
-is_row (Some (ToldError e)) = false
-is_row (Some (Dropped closing)) = false
+is_row _ = false
 
 -- the item's call comes to the set's end
 item_ends : AreShown root 0 (seen_view other_tape) 0 nothing_made (start root 0) other_steps other_answers → ⊥

@@ -9,11 +9,11 @@ use Rattle.my_reading.specs.declared.call.CallKind.{CallKind}
 use Rattle.my_reading.specs.declared.call.CallKind.TheVariants as kinds
 use Rattle.my_reading.specs.Calls.{kind_of}
 use Rattle.my_reading.specs.Tape.{Span}
-use Rattle.my_reading.specs.Told.{Told, ToldReady, ToldRow, ToldEnd, ToldNone, ToldStatement, ToldError, Dropped}
+use Rattle.my_reading.specs.Told.{Told, ToldReady, ToldRow, ToldEnd, ToldNone, ToldStatement, ToldFlag, ToldError, Dropped}
 use Rattle.my_script.specs.declared.step.Step.{Step}
 use Rattle.my_script.specs.declared.step.Step.TheVariants as steps
 use Rattle.my_script.specs.declared.transcript.Outcome.{Outcome}
-use Rattle.my_script.specs.declared.transcript.Outcome.TheVariants.{Done, Pending, SetEnd, NoSet, Row, Prepared, Fields, Connected, Failed, NoSuchHandle}
+use Rattle.my_script.specs.declared.transcript.Outcome.TheVariants.{Done, Pending, SetEnd, NoSet, Row, Prepared, Flag, Fields, Connected, Failed, NoSuchHandle}
 use Rattle.my_script.specs.declared.transcript.StepAnswer.{StepAnswer}
 use Rattle.my_script.specs.declared.transcript.Tape.{Tape}
 use Rattle.my_script.specs.declared.transcript.Use.{Use}
@@ -45,6 +45,7 @@ step_of calls.DropResult = steps.Drop 0
 step_of calls.TakeSet = steps.Conn
 step_of calls.SkipTaken = steps.Conn
 step_of calls.Ping = steps.Ping 0
+step_of calls.Reset = steps.Reset 0
 step_of calls.Quit = steps.Quit 0
 
 -- the answer of a step whose call ended so, or is open
@@ -55,6 +56,7 @@ outcome_of (Some (ToldRow row)) = Row row
 outcome_of (Some ToldEnd) = SetEnd
 outcome_of (Some ToldNone) = NoSet
 outcome_of (Some (ToldStatement statement)) = Prepared statement
+outcome_of (Some (ToldFlag flag)) = Flag flag
 outcome_of (Some (ToldError e)) = Failed e
 outcome_of (Some (Dropped closing)) = NoSuchHandle
 

@@ -1,12 +1,12 @@
 -- Transcripts that no run has.
-use Rattle.std.specs.Prelude.{List, [], ◌∷◌, ◌++◌, codes, None, Some}
+use Rattle.std.specs.Prelude.{List, [], ◌∷◌, ◌++◌, codes, None, Some, true, false}
 use Rattle.my_reading.specs.declared.call.Call.TheVariants.{Query, NextRow, DropResult, Quit}
 use Rattle.my_reading.specs.declared.error.Error.TheVariants.{Server}
 use Rattle.my_reading.specs.declared.error.IoKind.TheVariants.{Link}
 use Rattle.my_reading.specs.Errors.{io_error, unexpected_eof, invalid_data}
 use Rattle.my_reading.specs.Told.{ToldReady, ToldRow, ToldEnd, ToldNone, ToldError}
 use Rattle.my_reading.specs.Tape.{Span}
-use Rattle.wrong_tapes.specs.Bytes.{root, connected, selected, asked, asks, returned, call_with, row, one, end, fine, refusal, head, packet, prepared}
+use Rattle.wrong_tapes.specs.Bytes.{root, connected, selected, asked, asks, returned, call_with, row, one, end, fine, refusal, head, packet, prepared, reset}
 use Rattle.wrong_tapes.specs.Right.{error}
 use Rattle.wrong_transcripts.specs.Shown.{NoFields, NoTranscript}
 
@@ -33,6 +33,9 @@ pub record AreWrong : Type 0 where
   pub querying_quit : NoneShow (returned Quit (asks (codes "SELECT 1")) [] ToldReady ∷ [])
   pub silent_quit : NoneShow (returned Quit [] [] ToldReady ∷ [])
   pub second_quit : NoneShow (returned Quit (packet 0 (1 ∷ [])) [] ToldReady ∷ returned Quit (packet 0 (1 ∷ [])) [] ToldReady ∷ [])
+  -- `reset`: the session was reset, though nothing was sent; and a server that has the command wasn't sent it
+  pub silent_reset : NoneShow (reset [] [] true ∷ [])
+  pub idle_reset : NoneShow (reset [] [] false ∷ [])
   -- `query`: another command was sent
   pub other_command : NoneShow (returned (Query (codes "SELECT 1")) (asks (codes "SELECT 2")) head ToldReady ∷ [])
   -- `query`, `query`: the second returned an earlier error, and sent its command

@@ -6,9 +6,9 @@ ghost use Rattle.wrong_transcripts.specs.Streams.{AreNoStreams};
 ghost use Rattle.wrong_transcripts.specs.Wrong.{AreWrong};
 
 /// No run has one of these transcripts: a row, an end or an error that the bytes don't hold, an answer that comes too
-/// early, a step that stays pending though its answer was received, a command that wasn't sent or is another call's, bytes
-/// on a closed connection, a statement that has another number of parameters than the server said, or that is prepared again
-/// though it is cached.
+/// early, a step that stays pending though its answer was received, a command that wasn't sent or is another call's, a
+/// reset for which nothing was sent, bytes on a closed connection, a statement that has another number of parameters than the
+/// server said, or that is prepared again though it is cached.
 pub fn no_transcript_is_wrong()
     ensures { AreWrong }
 {}

@@ -115,6 +115,7 @@ module _ (plan : Option (List ReadItem)) (items : Option (List DialItem)) where
   gathers_on More us a end y o t (after.Answered answers.SetEnd) more f r = subst (IsFit plan items) (sym r.2) f
   gathers_on More us a end y o t (after.Answered answers.NoSet) more f r = subst (IsFit plan items) (sym r.2) f
   gathers_on More us a end y o t (after.Answered (answers.Stmt s)) more f r = subst (IsFit plan items) (sym r.2) f
+  gathers_on More us a end y o t (after.Answered (answers.Flag flag)) more f r = subst (IsFit plan items) (sym r.2) f
   gathers_on More us a end y o t (after.Failed x) more f r = subst (IsFit plan items) (sym r.2) f
 
   gathers_fits : (login : Login) (n : ℕ) (us : List Use) (a : Asked) (k : Kept) (x : Looks) (o : Outcome) (t : Handle) → FitsLink plan x k.sent k.taken → Gathers login n us a k x o t → IsFit plan items t
@@ -263,6 +264,7 @@ step_fits login plans there named hs (steps.Next n) o us ts w r = at_fits plans 
 step_fits login plans there named hs (steps.Collect n) o us ts w r = at_fits plans n _ hs ts o us (λ h t. collects_fits (plans.reads n) (plans.dials n) login n o us h t) w r
 step_fits login plans there named hs (steps.Drop n) o us ts w r = at_fits plans n _ hs ts o us (λ h t. calls_fits (plans.reads n) (plans.dials n) login n _ o us h t) w r
 step_fits login plans there named hs (steps.Ping n) o us ts w r = at_fits plans n _ hs ts o us (λ h t. calls_fits (plans.reads n) (plans.dials n) login n _ o us h t) w r
+step_fits login plans there named hs (steps.Reset n) o us ts w r = at_fits plans n _ hs ts o us (λ h t. calls_fits (plans.reads n) (plans.dials n) login n _ o us h t) w r
 step_fits login plans there named hs (steps.Quit n) o us ts w r = at_fits plans n _ hs ts o us (λ h t. calls_fits (plans.reads n) (plans.dials n) login n _ o us h t) w r
 step_fits login plans there named hs (steps.Stream n) o us ts w r = at_fits plans n _ hs ts o us (λ h t. streams_fits (plans.reads n) (plans.dials n) login n o us h t) w r
 step_fits login plans there named hs (steps.Item n) o us ts w r = at_fits plans n _ hs ts o us (λ h t. items_fits (plans.reads n) (plans.dials n) there login n o us h t) w r

@@ -56,6 +56,7 @@ next_row e f rows (after.Answered (answers.Row row)) g = (row, refl, g)
 next_row e f rows (after.Answered answers.SetEnd) g = absurd g
 next_row e f rows (after.Answered answers.NoSet) g = absurd g
 next_row e f rows (after.Answered (answers.Stmt s)) g = absurd g
+next_row e f rows (after.Answered (answers.Flag flag)) g = absurd g
 next_row e f rows (after.Failed x) g = absurd g
 
 module _ {L : Type 0} (look : L → Looks) (login : Login) (n : ℕ) (a : Asked) (c d e f : TapedConn L) (us more : List Use) (met : Met) (p : After) (rows : Option (List RowParts)) (so : GatherSoFar look login n a c d us) (w : Drives login so.now e.session.seen (look d.link) (look e.link) (kept_of d) (kept_of e) met p) (r : RowsOf so.now p rows) (is : more ≡ us ++ use_of n met ∷ []) where
@@ -87,6 +88,7 @@ module _ {L : Type 0} (look : L → Looks) (login : Login) (n : ℕ) (a : Asked)
   shows_on (after.Answered answers.SetEnd) o q s = (s ∙ ap (λ (x : Option (List RowParts)). Some (unwrap_or x [])) q, refl, refl)
   shows_on (after.Answered answers.NoSet) o q s = (s ∙ ap (λ (x : Option (List RowParts)). Some (unwrap_or x [])) q, refl, refl)
   shows_on (after.Answered (answers.Stmt x)) o q s = (s, refl, refl)
+  shows_on (after.Answered (answers.Flag flag)) o q s = (s, refl, refl)
   shows_on (after.Failed x) o q s = (s, refl, refl)
 
   pub gather_over : (o : Outcome) → f ≡ e → Shows rows p o → GatherDid look login n a c f o more

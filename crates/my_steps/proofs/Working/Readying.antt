@@ -92,6 +92,7 @@ module _ {L : Type 0} (x y : Looks) (d e : TapedConn L) (met : Met) (p : After) 
       by_after (after.Answered answers.SetEnd) is = tt
       by_after (after.Answered answers.NoSet) is = tt
       by_after (after.Answered (answers.Stmt s)) is = tt
+      by_after (after.Answered (answers.Flag flag)) is = tt
       by_after (after.Failed error) is = tt
 
   pub asked_next : (f : TapedConn L) (rows : Option (List RowParts)) → Goes e f rows p On → AskedReady f
