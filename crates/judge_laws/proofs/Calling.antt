@@ -81,6 +81,9 @@ asks_drop n statement = record { named = refl; begun = λ taken. refl; plain = r
 pub asks_ping : (n : ℕ) (statement : Option StatementView) → Asks n statement (steps.Ping n) calls.Ping
 asks_ping n statement = record { named = refl; begun = λ taken. refl; plain = refl; dialing = refl; idle = λ closed next o uses. ap (λ b. asked b o uses) (closed_and closed); opens = λ next. refl; gathers = λ first next. refl }
 
+pub asks_reset : (n : ℕ) (statement : Option StatementView) → Asks n statement (steps.Reset n) calls.Reset
+asks_reset n statement = record { named = refl; begun = λ taken. refl; plain = refl; dialing = refl; idle = λ closed next o uses. ap (λ b. asked b o uses) (closed_and closed); opens = λ next. refl; gathers = λ first next. refl }
+
 pub asks_quit : (n : ℕ) (statement : Option StatementView) → Asks n statement (steps.Quit n) calls.Quit
 asks_quit n statement = record { named = refl; begun = λ taken. refl; plain = refl; dialing = refl; idle = λ closed next o uses. ap (λ b. asked b o uses) (never_and closed); opens = λ next. refl; gathers = λ first next. refl }
 

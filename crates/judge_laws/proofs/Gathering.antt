@@ -1,10 +1,10 @@
 -- The polls of a line that gathers rows.
 use Rattle.std.proofs.Common.{◌≡◌, ◌≤◌, inl, inr, ℕ, ◌+◌, List, [], ◌∷◌, ◌++◌, length, Bool, true, false, Some, None, Ok, unwrap_or, refl, sym, ap, ◌∙◌, subst, arith, if◌then◌else◌}
 use Rattle.my_value.specs.RowParts.{RowParts}
-use Rattle.my_statements.specs.Prepared.{StatementView}
 use Rattle.my_grammar.specs.declared.login.Login.{Login}
 use Rattle.my_link.specs.Looks.{Looks}
 use Rattle.my_link.specs.Moves.{NoStop}
+use Rattle.my_reading.specs.declared.answer.Answer.{Answer}
 use Rattle.my_reading.specs.declared.answer.Answer.TheVariants as answers
 use Rattle.my_reading.specs.declared.call.Call.TheVariants as calls
 use Rattle.my_reading.specs.Calls.{kind_of}
@@ -111,6 +111,7 @@ module _ (login : Login) (t : Tape) (all : AreCalls login (reading login t).call
   rows_case outcomes.SetEnd xs e before r = cc
   rows_case outcomes.NoSet xs e before r = cc
   rows_case (outcomes.Prepared prepared) xs e before r = cc
+  rows_case (outcomes.Flag flag) xs e before r = cc
   rows_case (outcomes.Row row) xs e before r = cc
   rows_case (outcomes.Rows rows) xs e before r =
       let same : rows.items ≡ xs = cc in
@@ -158,6 +159,7 @@ module _ (login : Login) (t : Tape) (all : AreCalls login (reading login t).call
         by_shown outcomes.SetEnd e = cc
         by_shown outcomes.NoSet e = cc
         by_shown (outcomes.Prepared prepared) e = cc
+        by_shown (outcomes.Flag flag) e = cc
         by_shown (outcomes.Row row) e = cc
         by_shown (outcomes.Rows xs) e = (refl, λ first. refl, λ facts. tt)
         by_shown (outcomes.Fields fields) e = cc
@@ -183,11 +185,11 @@ module _ (login : Login) (t : Tape) (all : AreCalls login (reading login t).call
         last_gathers a rows k end x y u (after.Answered answers.NoSet) o h kp rs polled left has number (λ before r. ((case before r shows).0, (case before r shows).2))
         (λ nr first next r. state_idle (is_pending o) first next told.0 (ap (λ (z : Kept). z.pending) polled.ends.0)) (λ first. acts_idle (is_pending o) first told.0 (told.1 first)) told.2
 
-    -- a call that asks for a row isn't answered by a statement
-    statement_gathers : (prepared : StatementView) (us : List Use) → IsPolled login a k x u.met (after.Answered (answers.Stmt prepared)) end y → h ≡ Joined true end y → GathersSo (u ∷ us) a rows k o h
-    statement_gathers prepared us polled left = record {
-      back = poll_back login t all a k end x y u (after.Answered (answers.Stmt prepared)) kp polled (subst (HasTape t) left has);
-      forth = λ w at nr first low r. absurd (let no : may_be (kind_of calls.NextRow) (told (answers.Stmt prepared)) ≡ true = subst (λ c. may_be (kind_of c) (told (answers.Stmt prepared)) ≡ true) nr polled.ends.2 in cc);
+    -- a call that asks for a row isn't answered by a statement, nor by a flag
+    other_gathers : (answer : Answer) (us : List Use) → may_be (kind_of calls.NextRow) (told answer) ≡ false → IsPolled login a k x u.met (after.Answered answer) end y → h ≡ Joined true end y → GathersSo (u ∷ us) a rows k o h
+    other_gathers answer us never polled left = record {
+      back = poll_back login t all a k end x y u (after.Answered answer) kp polled (subst (HasTape t) left has);
+      forth = λ w at nr first low r. absurd (let no : may_be (kind_of calls.NextRow) (told answer) ≡ true = subst (λ c. may_be (kind_of c) (told answer) ≡ true) nr polled.ends.2 in cc);
     }
 
     -- a row came, and the next one is asked for
@@ -234,7 +236,8 @@ module _ (login : Login) (t : Tape) (all : AreCalls login (reading login t).call
     gathers_by us (after.Answered answers.Ready) polled on more = subst (λ (vs : List Use). GathersSo (u ∷ vs) a rows k o h) (sym on.1) (ready_gathers polled on.0 on.2)
     gathers_by us (after.Answered answers.SetEnd) polled on more = subst (λ (vs : List Use). GathersSo (u ∷ vs) a rows k o h) (sym on.1) (end_gathers polled on.0 on.2)
     gathers_by us (after.Answered answers.NoSet) polled on more = subst (λ (vs : List Use). GathersSo (u ∷ vs) a rows k o h) (sym on.1) (none_gathers polled on.0 on.2)
-    gathers_by us (after.Answered (answers.Stmt prepared)) polled on more = statement_gathers prepared us polled on.2
+    gathers_by us (after.Answered (answers.Stmt prepared)) polled on more = other_gathers (answers.Stmt prepared) us refl polled on.2
+    gathers_by us (after.Answered (answers.Flag flag)) polled on more = other_gathers (answers.Flag flag) us refl polled on.2
     gathers_by us (after.Failed e) polled on more = subst (λ (vs : List Use). GathersSo (u ∷ vs) a rows k o h) (sym on.1) (failed_gathers e polled on.0 on.2)
     gathers_by us (after.Answered (answers.Row row)) polled on more =
         let g = subst (λ (zs : List RowParts). Gathers login n us (next_asked end (zs ++ row ∷ [])) (asking end calls.NextRow (Some (zs ++ row ∷ []))) y o h) got on in

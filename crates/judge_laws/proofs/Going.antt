@@ -7,7 +7,7 @@ use Rattle.my_reading.specs.declared.answer.Answer.TheVariants as answers
 use Rattle.my_reading.specs.declared.call.Call.{Call}
 use Rattle.my_reading.specs.declared.error.Error.{Error}
 use Rattle.my_reading.specs.Tape.{Span, Tape, TapeCall, between, sent_to, taken_to, spans_from}
-use Rattle.my_reading.specs.Told.{Told, ToldReady, ToldRow, ToldEnd, ToldNone, ToldStatement, ToldError, Dropped}
+use Rattle.my_reading.specs.Told.{Told, ToldReady, ToldRow, ToldEnd, ToldNone, ToldStatement, ToldFlag, ToldError, Dropped}
 use Rattle.my_script.specs.declared.transcript.TapeCall.{TapeCall as ShownCall}
 use Rattle.my_client.specs.declared.tape.DoneCall.{DoneCall}
 use Rattle.my_client.specs.declared.tape.Said.{Said}
@@ -52,6 +52,7 @@ answer_of (Some (ToldRow row)) = Some (Ok (answers.Row row))
 answer_of (Some ToldEnd) = Some (Ok answers.SetEnd)
 answer_of (Some ToldNone) = Some (Ok answers.NoSet)
 answer_of (Some (ToldStatement statement)) = Some (Ok (answers.Stmt statement))
+answer_of (Some (ToldFlag flag)) = Some (Ok (answers.Flag flag))
 answer_of (Some (ToldError e)) = Some (Err e)
 answer_of (Some (Dropped closing)) = None
 
@@ -67,6 +68,7 @@ shown_said (says.Answered (answers.Row row)) = refl
 shown_said (says.Answered answers.SetEnd) = refl
 shown_said (says.Answered answers.NoSet) = refl
 shown_said (says.Answered (answers.Stmt statement)) = refl
+shown_said (says.Answered (answers.Flag flag)) = refl
 shown_said (says.Failed e) = refl
 shown_said (says.Cancelled closing) = refl
 

@@ -142,6 +142,7 @@ module _ (u : Met) (stop : Stop) (taken : List ℕ) (of_call : IsOfCall u) (met 
     pending_met (outcomes.Row row) e h = cc
     pending_met (outcomes.Rows rows) e h = cc
     pending_met (outcomes.Prepared statement) e h = cc
+    pending_met (outcomes.Flag flag) e h = cc
     pending_met (outcomes.Fields ok) e h = cc
     pending_met (outcomes.Connected n id version) e h = cc
     pending_met (outcomes.Failed x) e h = cc
@@ -155,6 +156,7 @@ module _ (u : Met) (stop : Stop) (taken : List ℕ) (of_call : IsOfCall u) (met 
     answered_met (outcomes.Row row) before answer e s r = r
     answered_met (outcomes.Rows rows) before answer e s r = r
     answered_met (outcomes.Prepared statement) before answer e s r = r
+    answered_met (outcomes.Flag flag) before answer e s r = r
     answered_met (outcomes.Fields ok) before answer e s r = r
     answered_met (outcomes.Connected n id version) before answer e s r = r
     answered_met (outcomes.Failed x) before answer e s r = cc
@@ -169,6 +171,7 @@ module _ (u : Met) (stop : Stop) (taken : List ℕ) (of_call : IsOfCall u) (met 
     failed_met (outcomes.Rows rows) before x e (inl same, rest) r = cc
     failed_met (outcomes.Rows rows) before x e (inr same, rest) r = cc
     failed_met (outcomes.Prepared statement) before x e s r = cc
+    failed_met (outcomes.Flag flag) before x e s r = cc
     failed_met (outcomes.Fields ok) before x e s r = absurd s
     failed_met (outcomes.Connected n id version) before x e s r = cc
     failed_met (outcomes.Failed y) before x e s r = let same : x ≡ y = cc in subst (λ (z : Error). ErrorMet z u) same r

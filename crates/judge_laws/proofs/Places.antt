@@ -17,7 +17,9 @@ use Rattle.my_reading.specs.declared.call.Call.{Call}
 use Rattle.my_reading.specs.declared.call.Call.TheVariants as calls
 use Rattle.my_reading.specs.declared.facts.Facts.{Facts}
 use Rattle.my_reading.specs.Calls.{id_in, statement_in, text_in}
-use Rattle.my_reading.specs.Course.{Part, All, Head, Item, Set, Rest, Command, Find, Check, Run, Reply, Keep, Give, Learn, Forget, Step, Goes, Stops, checked, executed, closing_of, first_above, found, learned, unless_cached, unless_long, unless_owed, step_of, step, run, enough, parts_of, with_command, with_front, after_payload, after_kind, after_err, is_greeting, is_rows}
+use Rattle.my_reading.specs.Course.{Part, All, Head, Item, Set, Rest, Command, Find, Check, Run, Reply, Keep, Give, Learn, Forget, Offered, Clear, Text, Flag, Step, Goes, Stops, checked, executed, closing_of, first_above, found, learned, offered, unless_cached, unless_long, unless_owed, step_of, step, run, enough, parts_of, with_command, with_front, after_payload, after_kind, after_err, is_greeting, is_rows}
+use Rattle.my_handshake.specs.Version.{version_of}
+use Rattle.my_reading.specs.Commands.{queried}
 use Rattle.my_reading.specs.Executions.{Values, Fitting, Unfitting, values_for}
 use Rattle.my_reading.specs.Facts.{prepared_by}
 use Rattle.my_reading.specs.Place.{Place, exchanges, facts_at, owed, terms_of, with_talk, with_bytes, with_statements, next_exchange}
@@ -26,6 +28,7 @@ use Rattle.my_reading.specs.Rows.{row_of}
 use Rattle.my_reading.specs.Statements.{held_in, is_cached, is_mixed_text, leaving, query_of, with_columns}
 use Rattle.my_reading.specs.Tape.{Span}
 use Rattle.my_reading.specs.Told.{Told, ToldRow}
+use Rattle.my_reading.specs.Versions.{can_reset}
 use Rattle.std.proofs.Common.{nat_lt, length}
 
 -- the step leaves these bytes sent
@@ -88,6 +91,10 @@ module _ (login : Login) (call : Call) where
   checked_keeps parts p (Fitting values) = refl
   checked_keeps parts p (Unfitting e) = refl
 
+  offered_keeps : (parts : List Part) (p : Place) (b : Bool) → Keeps p.sent (offered parts p b)
+  offered_keeps parts p true = refl
+  offered_keeps parts p false = refl
+
   learned_keeps : (p : Place) (facts : Facts) → (learned call p facts).sent ≡ p.sent
   learned_keeps p facts = by_rows (is_rows (context_of p.talk).spot)
     where
@@ -111,6 +118,10 @@ module _ (login : Login) (call : Call) where
   of_keeps (Give ∷ parts) p = refl
   of_keeps (Learn ∷ parts) p = learned_keeps p (facts_at login p)
   of_keeps (Forget ∷ parts) p = refl
+  of_keeps (Offered ∷ parts) p = offered_keeps parts p (can_reset (version_of (facts_at login p).version))
+  of_keeps (Clear ∷ parts) p = refl
+  of_keeps (Text text ∷ parts) p = command_keeps call parts p (Some (queried (terms_of login (exchanges p)) text))
+  of_keeps (Flag flag ∷ parts) p = refl
 
   step_keeps : (parts : List Part) (p : Place) → Keeps p.sent (step login call parts p)
   unfolding step

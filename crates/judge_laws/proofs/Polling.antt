@@ -47,6 +47,7 @@ may_end outcomes.NoSet c e = tt
 may_end (outcomes.Row row) c e = tt
 may_end (outcomes.Rows rows) c e = tt
 may_end (outcomes.Prepared statement) c e = tt
+may_end (outcomes.Flag flag) c e = tt
 may_end (outcomes.Fields ok) c e = tt
 may_end (outcomes.Connected n id version) c e = tt
 may_end (outcomes.Failed error) c e = tt

@@ -88,6 +88,7 @@ is_connecting calls.DropResult e = cc
 is_connecting calls.TakeSet e = cc
 is_connecting calls.SkipTaken e = cc
 is_connecting calls.Ping e = cc
+is_connecting calls.Reset e = cc
 is_connecting calls.Quit e = cc
 
 made_ready : (answer : Answer) → may_be (kind_of calls.Connect) (told answer) ≡ true → answer ≡ answers.Ready
@@ -96,6 +97,7 @@ made_ready (answers.Row row) e = cc
 made_ready answers.SetEnd e = cc
 made_ready answers.NoSet e = cc
 made_ready (answers.Stmt prepared) e = cc
+made_ready (answers.Flag flag) e = cc
 
 module _ (login : Login) (t : Tape) (all : AreCalls login (reading login t).calls) (n : ℕ) (statement : Option StatementView) where
   -- the handshake is polled
@@ -224,6 +226,7 @@ module _ (login : Login) (t : Tape) (all : AreCalls login (reading login t).call
           not_next calls.TakeSet e f = cc
           not_next calls.SkipTaken e f = cc
           not_next calls.Ping e f = cc
+          not_next calls.Reset e f = cc
           not_next calls.Quit e f = cc
   polls_on false k a x made o us kp once con None rs has r = by_skip (is_skip (kind_of a.call)) refl r
     where

@@ -31,7 +31,7 @@ use Rattle.judge_laws.proofs.Going.{shown_tape}
 use Rattle.judge_laws.proofs.Tying.{AtWalk}
 use Rattle.judge_laws.proofs.Gathering.{HasTape}
 use Rattle.judge_laws.proofs.Stepping.{LineSo, OpenAs, Spotted, StepSo, Tied, is_there, same_number}
-use Rattle.judge_laws.proofs.Calling.{asks_close, asks_drop, asks_execute, asks_item, asks_next, asks_ping, asks_prepare, asks_query, asks_quit, calls_so, collects_so, tells_so}
+use Rattle.judge_laws.proofs.Calling.{asks_close, asks_drop, asks_execute, asks_item, asks_next, asks_ping, asks_prepare, asks_query, asks_quit, asks_reset, calls_so, collects_so, tells_so}
 use Rattle.judge_laws.proofs.Streaming.{lets_go_so, streams_so}
 use Rattle.judge_laws.proofs.Resuming.{cancels_so, dials_so, goes_on_so}
 
@@ -144,6 +144,7 @@ names_one (steps.Next n) m e = refl
 names_one (steps.Collect n) m e = refl
 names_one (steps.Drop n) m e = refl
 names_one (steps.Ping n) m e = refl
+names_one (steps.Reset n) m e = refl
 names_one (steps.Quit n) m e = refl
 names_one (steps.Stream n) m e = refl
 names_one (steps.Item n) m e = refl
@@ -392,6 +393,8 @@ module _ (login : Login) (t : Tape) (all : AreCalls login (reading login t).call
       (λ made h d e. subst (λ z. StepSo login t z statement (at_number hs m) made (steps.Drop m) o us) e (calls_so login t all m statement (steps.Drop m) calls.DropResult (asks_drop m statement) (at_number hs m) made o us h d)) r has
   line_so there found statement plans hs ts (steps.Ping m) o us same once r has = named_line there statement m _ (steps.Ping m) (always n there (is_some statement) (steps.Ping m) refl refl refl refl) refl (λ z vs made e. e) hs ts o us
       (λ made h d e. subst (λ z. StepSo login t z statement (at_number hs m) made (steps.Ping m) o us) e (calls_so login t all m statement (steps.Ping m) calls.Ping (asks_ping m statement) (at_number hs m) made o us h d)) r has
+  line_so there found statement plans hs ts (steps.Reset m) o us same once r has = named_line there statement m _ (steps.Reset m) (always n there (is_some statement) (steps.Reset m) refl refl refl refl) refl (λ z vs made e. e) hs ts o us
+      (λ made h d e. subst (λ z. StepSo login t z statement (at_number hs m) made (steps.Reset m) o us) e (calls_so login t all m statement (steps.Reset m) calls.Reset (asks_reset m statement) (at_number hs m) made o us h d)) r has
   line_so there found statement plans hs ts (steps.Quit m) o us same once r has = named_line there statement m _ (steps.Quit m) (always n there (is_some statement) (steps.Quit m) refl refl refl refl) refl (λ z vs made e. e) hs ts o us
       (λ made h d e. subst (λ z. StepSo login t z statement (at_number hs m) made (steps.Quit m) o us) e (calls_so login t all m statement (steps.Quit m) calls.Quit (asks_quit m statement) (at_number hs m) made o us h d)) r has
   line_so there found statement plans hs ts (steps.Stream m) o us same once r has = named_line there statement m _ (steps.Stream m) (always n there (is_some statement) (steps.Stream m) refl refl refl refl) refl (λ z vs made e. e) hs ts o us

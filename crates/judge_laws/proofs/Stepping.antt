@@ -177,6 +177,7 @@ module _ (login : Login) (t : Tape) (all : AreCalls login (reading login t).call
   shown_acts (after.Answered answers.SetEnd) = refl
   shown_acts (after.Answered answers.NoSet) = refl
   shown_acts (after.Answered (answers.Stmt prepared)) = refl
+  shown_acts (after.Answered (answers.Flag flag)) = refl
   shown_acts (after.Failed e) = refl
 
   pub shown_by : (p : After) (before : List ShownCall) → ShownBy (shown p) before p
@@ -186,6 +187,7 @@ module _ (login : Login) (t : Tape) (all : AreCalls login (reading login t).call
   shown_by (after.Answered answers.SetEnd) before = (refl, refl)
   shown_by (after.Answered answers.NoSet) before = (refl, refl)
   shown_by (after.Answered (answers.Stmt prepared)) before = (refl, refl)
+  shown_by (after.Answered (answers.Flag flag)) before = (refl, refl)
   shown_by (after.Failed e) before = (refl, refl)
 
   pub shown_told : (p : After) (facts : Facts) → IsToldBy facts (shown p)
@@ -195,6 +197,7 @@ module _ (login : Login) (t : Tape) (all : AreCalls login (reading login t).call
   shown_told (after.Answered answers.SetEnd) facts = tt
   shown_told (after.Answered answers.NoSet) facts = tt
   shown_told (after.Answered (answers.Stmt prepared)) facts = tt
+  shown_told (after.Answered (answers.Flag flag)) facts = tt
   shown_told (after.Failed e) facts = tt
 
   pub shown_spot : (a : Asked) (f end : Kept) (u : Met) (stop : LinkStop) (p : After) → a.rows ≡ None → f.pending ≡ Some a → PollEnds login a f u stop p end
@@ -207,6 +210,7 @@ module _ (login : Login) (t : Tape) (all : AreCalls login (reading login t).call
   shown_spot a f end u stop (after.Answered answers.SetEnd) nr fp e s = subst (λ q. Spotted t true q (record { status = status.Idle; next = s.next; from = s.from; taken = s.taken })) (sym (ap (λ (z : Kept). z.pending) e.0)) refl
   shown_spot a f end u stop (after.Answered answers.NoSet) nr fp e s = subst (λ q. Spotted t true q (record { status = status.Idle; next = s.next; from = s.from; taken = s.taken })) (sym (ap (λ (z : Kept). z.pending) e.0)) refl
   shown_spot a f end u stop (after.Answered (answers.Stmt prepared)) nr fp e s = subst (λ q. Spotted t true q (record { status = status.Idle; next = s.next; from = s.from; taken = s.taken })) (sym (ap (λ (z : Kept). z.pending) e.0)) refl
+  shown_spot a f end u stop (after.Answered (answers.Flag flag)) nr fp e s = subst (λ q. Spotted t true q (record { status = status.Idle; next = s.next; from = s.from; taken = s.taken })) (sym (ap (λ (z : Kept). z.pending) e.0)) refl
   shown_spot a f end u stop (after.Failed x) nr fp e s = subst (λ q. Spotted t true q (record { status = status.Idle; next = s.next; from = s.from; taken = s.taken })) (sym (ap (λ (z : Kept). z.pending) e.0)) refl
 
   pub record OnceSo (k : Kept) (made : Handle) (o : Outcome) (us : List Use) : Type 0 where

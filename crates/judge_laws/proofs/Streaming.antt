@@ -62,6 +62,7 @@ skip_call calls.DropResult e = cc
 skip_call calls.TakeSet e = cc
 skip_call calls.SkipTaken e = refl
 skip_call calls.Ping e = cc
+skip_call calls.Reset e = cc
 skip_call calls.Quit e = cc
 
 skip_ready : (answer : Answer) → may_be (kind_of calls.SkipTaken) (told answer) ≡ true → answer ≡ answers.Ready
@@ -70,6 +71,7 @@ skip_ready (answers.Row row) e = cc
 skip_ready answers.SetEnd e = cc
 skip_ready answers.NoSet e = cc
 skip_ready (answers.Stmt statement) e = cc
+skip_ready (answers.Flag flag) e = cc
 
 -- the call that takes a set returns that it is done, or that nothing is left
 take_acts : (answer : Answer) → may_be (kind_of calls.TakeSet) (told answer) ≡ true → taking (shown (after.Answered answer)) Polls ≡ polled (shown (after.Answered answer))
@@ -78,6 +80,7 @@ take_acts (answers.Row row) e = cc
 take_acts answers.SetEnd e = cc
 take_acts answers.NoSet e = refl
 take_acts (answers.Stmt statement) e = cc
+take_acts (answers.Flag flag) e = cc
 
 taken_line : (answer : Answer) → may_be (kind_of calls.TakeSet) (told answer) ≡ true → taking (shown (after.Answered answer)) TakesLine ≡ TakesLine status.Idle
 taken_line answers.Ready e = refl
@@ -85,6 +88,7 @@ taken_line (answers.Row row) e = cc
 taken_line answers.SetEnd e = cc
 taken_line answers.NoSet e = refl
 taken_line (answers.Stmt statement) e = cc
+taken_line (answers.Flag flag) e = cc
 
 answered_idle : (answer : Answer) → is_pending (shown (after.Answered answer)) ≡ false
 answered_idle answers.Ready = refl
@@ -92,6 +96,7 @@ answered_idle (answers.Row row) = refl
 answered_idle answers.SetEnd = refl
 answered_idle answers.NoSet = refl
 answered_idle (answers.Stmt statement) = refl
+answered_idle (answers.Flag flag) = refl
 
 module _ (login : Login) where
   one_take : (a : Asked) (f end : Kept) (u : Met) (stop : LinkStop) (p : After) → a.call ≡ calls.TakeSet → PollEnds login a f u stop p end → taking (shown p) Polls ≡ polled (shown p)

@@ -190,6 +190,7 @@ settles false kind p a (says.Answered (answers.Row row)) so = refl
 settles false kind p a (says.Answered answers.SetEnd) so = refl
 settles false kind p a (says.Answered answers.NoSet) so = refl
 settles false kind p a (says.Answered (answers.Stmt statement)) so = refl
+settles false kind p a (says.Answered (answers.Flag flag)) so = refl
 settles false kind p a (says.Failed e) so = refl
 settles false kind p a (says.Cancelled closing) so = absurd so
 settles true kind p a (says.Answered answer) so = absurd so

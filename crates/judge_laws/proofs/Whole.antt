@@ -7,7 +7,6 @@ use Rattle.my_reading.specs.Endings.{AreCalls, IsCall}
 use Rattle.my_reading.specs.Reading.{reading}
 use Rattle.my_reading.specs.Tape.{Span, Tape, between}
 use Rattle.my_script.specs.declared.step.Step.{Step}
-use Rattle.my_script.specs.Numbered.{named_statement}
 use Rattle.my_script.specs.Streams.{is_there, target}
 use Rattle.my_script.specs.declared.transcript.StepAnswer.{StepAnswer}
 use Rattle.my_acts.specs.declared.act.Status.{Status}

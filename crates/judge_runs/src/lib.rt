@@ -7,6 +7,8 @@ mod changes;
 #[cfg(test)]
 mod plans;
 #[cfg(test)]
+mod resets;
+#[cfg(test)]
 mod runs;
 #[cfg(test)]
 mod scripts;

@@ -8,6 +8,10 @@ const GREETING: &str =
 const GREETING_OF_THE_SECOND: &str =
     "packet 1 0 0a382e302e333600070000006162636465666768008ba22d02001f011500000000000000000000696a6b6c6d6e6f7071727374006d7973716c5f6e61746976655f70617373776f726400\nturn 1\npacket 1 2 00000002000000\nturn 1\npacket 1 1 00000002000000\n";
 
+// A server of version 5.7.2.
+const OLD_GREETING: &str =
+    "packet 0 0 0a352e372e3200070000006162636465666768008ba22d02001f011500000000000000000000696a6b6c6d6e6f7071727374006d7973716c5f6e61746976655f70617373776f726400\nturn 0\npacket 0 2 00000002000000\nturn 0\n";
+
 // The head of a result with one column.
 const HEAD: &str = "packet 0 1 01\npacket 0 2 036465660000000131000c3f0001000000088100000000\n";
 
@@ -57,6 +61,13 @@ const TWO_PREPARED: &str =
 // The reply to a statement to prepare is held.
 const HELD_REPLY: &str =
     "packet 0 1 000100000000000100000000\nwait 0\npacket 0 2 03646566000000013f000c3f0001000000088100000000\nturn 0\npacket 0 1 00000002000000\nturn 0\n";
+
+// A statement without parameters is prepared, the session is reset, it is prepared again, and a ping is answered.
+const PREPARED_AGAIN: &str =
+    "packet 0 1 000100000000000000000000\nturn 0\npacket 0 1 00000002000000\nturn 0\npacket 0 1 000100000000000000000000\nturn 0\npacket 0 1 00000002000000\nturn 0\n";
+
+// An OK is held, and what answers the next command.
+const HELD_OK: &str = "wait 0\npacket 0 1 00000002000000\nturn 0\nwait 0\n";
 
 /// A script: the word of its options, the lines of its links, and its steps.
 #[derive(Clone, Copy)]
@@ -232,6 +243,25 @@ pub fn prepared() -> [Script; 5] {
         plain(
             [GREETING, PREPARED, ""],
             "conn\nprep 0 SELECT ?\nexec 0 0\nexec 0 0 i:1\n",
+        ),
+    ]
+}
+
+/// Resets: a statement that was cached is prepared again; an older server isn't asked, and a query's row is there still; one is
+/// held and polled, and another one cancelled.
+pub fn reset() -> [Script; 3] {
+    [
+        plain(
+            [GREETING, PREPARED_AGAIN, ""],
+            "conn\nprep 0 DO 1\nreset 0\nprep 0 DO 1\nping 0\n",
+        ),
+        plain(
+            [OLD_GREETING, HEAD, ROW_AND_END],
+            "conn\nquery 0 SELECT 1\nreset 0\nnext 0\nnext 0\n",
+        ),
+        plain(
+            [GREETING, HELD_OK, ""],
+            "conn\nreset 0\npoll 0\nreset 0\ncancel 0\nping 0\n",
         ),
     ]
 }

@@ -24,7 +24,7 @@ pub struct Counts {
 /// Of transcripts, and of plans, of which lines that no read or write came to may be others, and one that is missing where
 /// the next one begins with the bytes that were read.
 #[derive(Clone, Copy, Debug, PartialEq, Eq)]
-struct Sums {
+pub struct Sums {
     transcripts: Counts,
     plans: Counts,
 }
@@ -277,7 +277,8 @@ fn count_run(rt: &impl Abort, alloc: Global, run: &mut Run, sums: &mut Sums) -> 
     Ok(())
 }
 
-fn count_all(rt: &impl Abort, alloc: Global, scripts: &[Script]) -> Result<Sums, Fail> {
+/// What is found of the changes of these scripts' runs.
+pub fn count_all(rt: &impl Abort, alloc: Global, scripts: &[Script]) -> Result<Sums, Fail> {
     let mut sums = refuted(0, counted(0, 0));
     for script in scripts {
         if let Some(mut run) = run_of(alloc, script)? {
@@ -289,11 +290,12 @@ fn count_all(rt: &impl Abort, alloc: Global, scripts: &[Script]) -> Result<Sums,
     Ok(sums)
 }
 
-fn counted(refuted: usize, allowed: usize) -> Counts {
+pub fn counted(refuted: usize, allowed: usize) -> Counts {
     Counts { refuted, allowed }
 }
 
-fn refuted(refuted: usize, plans: Counts) -> Sums {
+/// So many changes of transcripts, and these of plans.
+pub fn refuted(refuted: usize, plans: Counts) -> Sums {
     Sums {
         transcripts: counted(refuted, 0),
         plans,

@@ -23,6 +23,7 @@ dialed_one (steps.Next n) = omega arith
 dialed_one (steps.Collect n) = omega arith
 dialed_one (steps.Drop n) = omega arith
 dialed_one (steps.Ping n) = omega arith
+dialed_one (steps.Reset n) = omega arith
 dialed_one (steps.Quit n) = omega arith
 dialed_one (steps.Stream n) = omega arith
 dialed_one (steps.Item n) = omega arith

@@ -19,7 +19,7 @@ use Rattle.my_reading.specs.Place.{Place, facts_at, is_taken}
 use Rattle.my_script.specs.declared.step.Step.{Step}
 use Rattle.my_script.specs.Streams.{is_skip, is_there}
 use Rattle.my_script.specs.declared.transcript.Outcome.{Outcome}
-use Rattle.my_script.specs.declared.transcript.Outcome.TheVariants.{Done, Pending, SetEnd, NoSet, Row, Rows, Prepared, Fields, Connected, Failed, NoSuchHandle}
+use Rattle.my_script.specs.declared.transcript.Outcome.TheVariants.{Done, Pending, SetEnd, NoSet, Row, Rows, Prepared, Flag, Fields, Connected, Failed, NoSuchHandle}
 use Rattle.my_script.specs.declared.transcript.StepAnswer.{StepAnswer}
 use Rattle.my_run_judge.specs.declared.made.Made.{Made}
 use Rattle.my_run_judge.specs.Made.{made_by, statement_for}
@@ -66,6 +66,7 @@ IsShown NoSet answer before = answer ≡ Some (Ok answers.NoSet)
 IsShown (Row row) answer before = answer ≡ Some (Ok (answers.Row row))
 IsShown (Rows rows) answer before = IsGathered rows.items answer before
 IsShown (Prepared statement) answer before = answer ≡ Some (Ok (answers.Stmt statement))
+IsShown (Flag flag) answer before = answer ≡ Some (Ok (answers.Flag flag))
 IsShown (Fields ok) answer before = ⊥
 IsShown (Connected n id version) answer before = answer ≡ Some (Ok answers.Ready)
 IsShown (Failed e) answer before = answer ≡ Some (Err e)

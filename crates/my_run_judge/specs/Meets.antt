@@ -11,7 +11,7 @@ use Rattle.my_reading.specs.declared.error.IoError.TheVariants as ios
 use Rattle.my_reading.specs.declared.error.IoKind.{IoKind}
 use Rattle.my_reading.specs.declared.error.IoKind.TheVariants as kinds
 use Rattle.my_script.specs.declared.transcript.Outcome.{Outcome}
-use Rattle.my_script.specs.declared.transcript.Outcome.TheVariants.{Done, Pending, SetEnd, NoSet, Row, Rows, Prepared, Fields, Connected, Failed, NoSuchHandle}
+use Rattle.my_script.specs.declared.transcript.Outcome.TheVariants.{Done, Pending, SetEnd, NoSet, Row, Rows, Prepared, Flag, Fields, Connected, Failed, NoSuchHandle}
 
 -- these counts of bytes, faults, holds and ends; a poll counts nothing else
 abbrev pub met_at : ℕ → ℕ → ℕ → ℕ → Met
@@ -80,6 +80,7 @@ ShownMet NoSet m = IsReady m
 ShownMet (Row row) m = IsReady m
 ShownMet (Rows rows) m = IsReady m
 ShownMet (Prepared statement) m = IsReady m
+ShownMet (Flag flag) m = IsReady m
 ShownMet (Fields ok) m = IsReady m
 ShownMet (Connected n id version) m = IsReady m
 ShownMet (Failed e) m = ErrorMet e m

@@ -1,6 +1,7 @@
 //! Whether a transcript is right: the plain program of what the theorem on runs says of its answers and its tapes.
 #![tactic(auto)]
 
+mod answered;
 mod judging;
 mod line;
 mod made;

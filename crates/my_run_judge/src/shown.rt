@@ -1,16 +1,14 @@
 //! What a line shows of calls, and what the tape says of them.
 
-ghost use Rattle.std.specs.Prelude.{◌≡◌, Err, None, Ok, Some};
+ghost use Rattle.std.specs.Prelude.{◌≡◌, None, Some};
 ghost use Rattle.std.specs.Bool.{Decides};
 ghost use Rattle.std.specs.Option.{option_copied};
 ghost use Rattle.my_reading.specs.Calls.{kind_of};
 ghost use Rattle.my_script.specs.Streams.{is_skip};
 ghost use Rattle.my_acts.specs.Acts.{begun_by, closing_call, executing_call, taking_call};
 ghost use Rattle.my_run_judge.specs.Lines.{
-  AreRows,
   IsBegun,
   IsCallOf,
-  IsGathered,
   IsShown,
   IsShownAt,
   IsSkip,
@@ -19,14 +17,15 @@ ghost use Rattle.my_run_judge.specs.Lines.{
   is_unanswered,
 };
 
+use crate::answered::{
+    is_error, is_flag, is_gathered, is_no_set, is_ready, is_row, is_same_statement, is_set_end,
+    is_statement,
+};
 use my_frame::Blob;
-use my_judge::is_same_row;
 use my_params::Params;
 use my_reading::{Answer, Call, Error};
 use my_script::{Outcome, Step, TapeCall};
 use my_statements::Statement;
-use my_statements::laws::equal_statements_are_same;
-use my_value::Row;
 
 fn is_query(text: &Blob, call: &Call) -> bool
     ensures { Decides result (call.now ≡ Call.Query text.now) }
@@ -44,13 +43,6 @@ fn is_prepare(text: &Blob, call: &Call) -> bool
         Call::Prepare(other) => other == text,
         _ => false,
     }
-}
-
-fn is_same_statement(a: &Statement, b: &Statement) -> bool
-    ensures { Decides result (a.now ≡ b.now) }
-{
-    equal_statements_are_same();
-    a == b
 }
 
 fn is_same_params(a: &Params, b: &Params) -> bool
@@ -170,6 +162,15 @@ fn is_ping(call: &Call) -> bool
     }
 }
 
+fn is_reset(call: &Call) -> bool
+    ensures { Decides result (call.now ≡ Call.Reset) }
+{
+    match call {
+        Call::Reset => true,
+        _ => false,
+    }
+}
+
 fn is_quit(call: &Call) -> bool
     ensures { Decides result (call.now ≡ Call.Quit) }
 {
@@ -193,6 +194,7 @@ fn begins(taken: bool, named: Option<&Statement>, step: &Step, call: &Call) -> b
         Step::Stream(_) => is_taking(taken, call),
         Step::Drop(_) => is_drop(call),
         Step::Ping(_) => is_ping(call),
+        Step::Reset(_) => is_reset(call),
         Step::Quit(_) => is_quit(call),
         Step::Unstream(_)
         | Step::Fields(_)
@@ -229,90 +231,6 @@ pub fn is_begun(
     }
 }
 
-// Whether the call returned this row.
-fn is_row(row: &Row, answer: &Option<Result<Answer, Error>>) -> bool
-    ensures { Decides result (answer.now ≡ Some (Ok (Answer.Row row.now))) }
-{
-    match answer {
-        Some(Ok(Answer::Row(other))) => is_same_row(other, row),
-        _ => false,
-    }
-}
-
-fn are_rows(rows: &[Row], calls: &[TapeCall]) -> bool
-    ensures { Decides result (AreRows rows.now calls.now) }
-{
-    let mut left = rows;
-    let mut others = calls;
-    'rows: while let Some((row, later_rows)) = left.split_first() {
-        let Some((call, later_calls)) = others.split_first() else {
-            return false;
-        };
-        if !is_row(row, &call.answer) {
-            return false;
-        }
-        left = later_rows;
-        others = later_calls;
-    }
-    others.is_empty()
-}
-
-// Whether the call returned this statement.
-fn is_statement(statement: &Statement, answer: &Option<Result<Answer, Error>>) -> bool
-    ensures { Decides result (answer.now ≡ Some (Ok (Answer.Stmt statement.now))) }
-{
-    match answer {
-        Some(Ok(Answer::Stmt(other))) => is_same_statement(other, statement),
-        _ => false,
-    }
-}
-
-fn is_ready(answer: &Option<Result<Answer, Error>>) -> bool
-    ensures { Decides result (answer.now ≡ Some (Ok Answer.Ready)) }
-{
-    match answer {
-        Some(Ok(Answer::Ready)) => true,
-        _ => false,
-    }
-}
-
-fn is_set_end(answer: &Option<Result<Answer, Error>>) -> bool
-    ensures { Decides result (answer.now ≡ Some (Ok Answer.SetEnd)) }
-{
-    match answer {
-        Some(Ok(Answer::SetEnd)) => true,
-        _ => false,
-    }
-}
-
-fn is_no_set(answer: &Option<Result<Answer, Error>>) -> bool
-    ensures { Decides result (answer.now ≡ Some (Ok Answer.NoSet)) }
-{
-    match answer {
-        Some(Ok(Answer::NoSet)) => true,
-        _ => false,
-    }
-}
-
-fn is_error(error: &Error, answer: &Option<Result<Answer, Error>>) -> bool
-    ensures { Decides result (answer.now ≡ Some (Err error.now)) }
-{
-    match answer {
-        Some(Err(other)) => other == error,
-        _ => false,
-    }
-}
-
-fn is_gathered(rows: &[Row], answer: &Option<Result<Answer, Error>>, before: &[TapeCall]) -> bool
-    ensures { Decides result (IsGathered rows.now answer.now before.now) }
-{
-    if is_set_end(answer) || is_no_set(answer) {
-        are_rows(rows, before)
-    } else {
-        false
-    }
-}
-
 fn is_shown(outcome: &Outcome, answer: &Option<Result<Answer, Error>>, before: &[TapeCall]) -> bool
     ensures { Decides result (IsShown outcome.now answer.now before.now) }
 {
@@ -323,6 +241,7 @@ fn is_shown(outcome: &Outcome, answer: &Option<Result<Answer, Error>>, before: &
         Outcome::Row(row) => is_row(row, answer),
         Outcome::Rows(rows) => is_gathered(rows.as_slice(), answer, before),
         Outcome::Prepared(statement) => is_statement(statement, answer),
+        Outcome::Flag(flag) => is_flag(*flag, answer),
         Outcome::Failed(error) => is_error(error, answer),
         Outcome::Pending | Outcome::Fields(_) | Outcome::NoSuchHandle => false,
     }

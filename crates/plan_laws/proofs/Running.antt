@@ -225,6 +225,7 @@ module _ (login : Login) (plans : Plans) (reads_of : ℕ → List ReadItem) (wri
     line_so there statement hs ts (steps.Collect m) o us r = named m _ hs o us ts (λ h t. collects_go m (reads_of m) (writes_of m) login o us h t) r
     line_so there statement hs ts (steps.Drop m) o us r = named m _ hs o us ts (λ h t. calls_go m (reads_of m) (writes_of m) login calls.DropResult o us h t) r
     line_so there statement hs ts (steps.Ping m) o us r = named m _ hs o us ts (λ h t. calls_go m (reads_of m) (writes_of m) login calls.Ping o us h t) r
+    line_so there statement hs ts (steps.Reset m) o us r = named m _ hs o us ts (λ h t. calls_go m (reads_of m) (writes_of m) login calls.Reset o us h t) r
     line_so there statement hs ts (steps.Quit m) o us r = named m _ hs o us ts (λ h t. calls_go m (reads_of m) (writes_of m) login calls.Quit o us h t) r
     line_so there statement hs ts (steps.Stream m) o us r = named m _ hs o us ts (λ h t. streams_go m (reads_of m) (writes_of m) login o us h t) r
     line_so there statement hs ts (steps.Item m) o us r = named m _ hs o us ts (λ h t. items_go m (reads_of m) (writes_of m) there login o us h t) r

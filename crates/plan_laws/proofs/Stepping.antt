@@ -110,6 +110,7 @@ module _ (n : ℕ) (is : List ReadItem) (ws : List WriteItem) where
   gathers_on More u us a end x y taken o t (after.Answered answers.SetEnd) more w r = one true end x y taken u (u ∷ us) t (ap (λ (vs : List Use). u ∷ vs) r.1) w r.2
   gathers_on More u us a end x y taken o t (after.Answered answers.NoSet) more w r = one true end x y taken u (u ∷ us) t (ap (λ (vs : List Use). u ∷ vs) r.1) w r.2
   gathers_on More u us a end x y taken o t (after.Answered (answers.Stmt prepared)) more w r = one true end x y taken u (u ∷ us) t (ap (λ (vs : List Use). u ∷ vs) r.1) w r.2
+  gathers_on More u us a end x y taken o t (after.Answered (answers.Flag flag)) more w r = one true end x y taken u (u ∷ us) t (ap (λ (vs : List Use). u ∷ vs) r.1) w r.2
   gathers_on More u us a end x y taken o t (after.Failed e) more w r = one true end x y taken u (u ∷ us) t (ap (λ (vs : List Use). u ∷ vs) r.1) w r.2
 
   gathers : (login : Login) (us : List Use) (a : Asked) (k : Kept) (x : Looks) (o : Outcome) (t : Handle) → Gathers login n us a k x o t → WalksTo n us x k.taken t

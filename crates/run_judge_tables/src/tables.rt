@@ -20,6 +20,18 @@ fn a_dial_that_failed_leaves_no_connection(rt: HostRuntime) -> Result<(), Fail> 
 }
 
 #[test]
+fn no_connection_is_reset(rt: HostRuntime) -> Result<(), Fail> {
+    let alloc = rt.alloc();
+    let mut lines = Lines::new(alloc);
+    lines.line(alloc, Step::Conn, dial_fault(), &[Meets::Fault])?;
+    lines.line(alloc, Step::Reset(0), Outcome::NoSuchHandle, &[])?;
+    assert_eq!(rt; lines.found(alloc, false)?, Found::Right);
+    lines.line(alloc, Step::Reset(0), Outcome::Flag(false), &[])?;
+    assert_eq!(rt; lines.found(alloc, false)?, Found::Wrong(2));
+    Ok(())
+}
+
+#[test]
 fn a_dial_that_was_not_ready_is_tried_again(rt: HostRuntime) -> Result<(), Fail> {
     let alloc = rt.alloc();
     let mut lines = Lines::new(alloc);
