@@ -12,9 +12,10 @@ use Rattle.my_grammar.specs.Growth.{grow}
 use Rattle.my_grammar.specs.Response.{response}
 use Rattle.my_grammar.specs.Talk.{Talk, commands_in, context_of, limit_of, turns, number_of}
 use Rattle.my_reading.specs.declared.call.Call.{Call}
+use Rattle.my_reading.specs.declared.error.DriverError.{DriverError}
 use Rattle.my_reading.specs.declared.call.Call.TheVariants.{Prepare}
 use Rattle.my_reading.specs.Calls.{statement_in, text_in}
-use Rattle.my_reading.specs.Course.{Part, All, Head, Item, Set, Rest, Command, Find, Check, Run, Reply, Keep, Give, Learn, Forget, Offered, Clear, Text, Flag, Stop, Step, Goes, Stops, step, step_of, unless_owed, with_front, reads, after_payload, after_kind, after_err, unless_cached, unless_long_response, with_command, first_above, found, checked, executed, closing_of, learned, offered, is_greeting, is_rows, parts_of, run, halt, enough}
+use Rattle.my_reading.specs.Course.{Part, All, Head, Item, Set, Rest, Command, Find, Check, Run, Reply, Keep, Give, Learn, Forget, Offered, Clear, Text, Flag, Undo, Undone, Refuse, Settle, GiveUp, Stop, Step, Goes, Stops, step, step_of, unless_owed, with_front, reads, after_payload, after_kind, after_err, unless_cached, unless_long_response, with_command, first_above, found, checked, executed, closing_of, learned, offered, undone, unless_refused, is_greeting, is_rows, parts_of, run, halt, enough}
 use Rattle.my_handshake.specs.Version.{version_of}
 use Rattle.my_reading.specs.Commands.{queried}
 use Rattle.my_reading.specs.Executions.{Values, Fitting, Unfitting, values_for}
@@ -27,6 +28,7 @@ use Rattle.my_reply.specs.Replies.{prepare_ok_at}
 use Rattle.my_statements.specs.Cache.{Held}
 use Rattle.my_reading.specs.Rows.{row_of}
 use Rattle.my_reading.specs.Told.{Told, ToldRow}
+use Rattle.my_reading.specs.Transactions.{begin_refusal, is_given_up, rollback_text}
 use Rattle.my_reading.specs.Versions.{can_reset}
 
 -- an end that is left counts as one
@@ -74,6 +76,11 @@ module _ (part : Part) (parts : List Part) (p : Place) (t : Talk) (rest : List �
       by_part Clear k = omega arith
       by_part (Text text) k = omega arith
       by_part (Flag flag) k = omega arith
+      by_part Undo k = omega arith
+      by_part Undone k = omega arith
+      by_part (Refuse opts) k = omega arith
+      by_part (Settle status) k = omega arith
+      by_part GiveUp k = omega arith
       by_part Head (kinds.Good status) = omega arith
       by_part Head (kinds.Greets n) = omega arith
       by_part Head kinds.Failed = omega arith
@@ -184,6 +191,17 @@ unfolding size_of size weight
 offered_size parts p true = omega arith
 offered_size parts p false = omega arith
 
+-- so do those of transactions
+undone_size : (login : Login) (call : Call) (parts : List Part) (p : Place) (b : Bool) → size_of (undone login call parts p b) ≤ size parts p
+unfolding size_of size weight
+undone_size login call parts p true = command_size call parts p (Some (queried (terms_of login (exchanges p)) rollback_text))
+undone_size login call parts p false = omega arith
+
+refused_size : (parts : List Part) (p : Place) (x : Option DriverError) → size_of (unless_refused parts p x) ≤ size parts p
+unfolding size_of size weight
+refused_size parts p None = omega arith
+refused_size parts p (Some e) = omega arith
+
 quiet_size : (parts : List Part) (p : Place) → p.end_left ≡ true → size parts (without_end p) < size parts p
 unfolding size weight
 quiet_size parts p e = let one : weight p.end_left ≡ 1 = ap weight e in omega (arith, one)
@@ -231,6 +249,11 @@ part_size login call (Offered ∷ parts) p = let here = offered_size parts p (ca
 part_size login call (Clear ∷ parts) p = omega arith
 part_size login call (Text text ∷ parts) p = let here = command_size call parts p (Some (queried (terms_of login (exchanges p)) text)) in omega (arith, here)
 part_size login call (Flag flag ∷ parts) p = omega arith
+part_size login call (Undo ∷ parts) p = let here = undone_size login call parts p (is_given_up p.status) in omega (arith, here)
+part_size login call (Undone ∷ parts) p = omega arith
+part_size login call (Refuse opts ∷ parts) p = let here = refused_size parts p (begin_refusal opts (version_of (facts_at login p).version) p.status) in omega (arith, here)
+part_size login call (Settle status ∷ parts) p = omega arith
+part_size login call (GiveUp ∷ parts) p = omega arith
 
 some_size : (parts : List Part) (p : Place) → 0 < size parts p
 unfolding size

@@ -13,9 +13,10 @@ use Rattle.my_grammar.specs.Growth.{grow}
 use Rattle.my_grammar.specs.Response.{response}
 use Rattle.my_grammar.specs.Talk.{Talk, commands_in, context_of, limit_of, turns, number_of}
 use Rattle.my_reading.specs.declared.call.Call.{Call}
+use Rattle.my_reading.specs.declared.error.DriverError.{DriverError}
 use Rattle.my_reading.specs.declared.call.Call.TheVariants.{Prepare}
 use Rattle.my_reading.specs.Calls.{statement_in, text_in}
-use Rattle.my_reading.specs.Course.{Part, All, Head, Item, Set, Rest, Command, Find, Check, Run, Reply, Keep, Give, Learn, Forget, Offered, Clear, Text, Flag, Step, Goes, Stops, return, step, step_of, unless_owed, with_front, reads, after_payload, after_kind, after_err, unless_cached, unless_long_response, with_command, first_above, found, checked, executed, closing_of, learned, offered, is_greeting, is_rows}
+use Rattle.my_reading.specs.Course.{Part, All, Head, Item, Set, Rest, Command, Find, Check, Run, Reply, Keep, Give, Learn, Forget, Offered, Clear, Text, Flag, Undo, Undone, Refuse, Settle, GiveUp, Step, Goes, Stops, return, step, step_of, unless_owed, with_front, reads, after_payload, after_kind, after_err, unless_cached, unless_long_response, with_command, first_above, found, checked, executed, closing_of, learned, offered, undone, unless_refused, is_greeting, is_rows}
 use Rattle.my_handshake.specs.Version.{version_of}
 use Rattle.my_reading.specs.Commands.{queried}
 use Rattle.my_reading.specs.Executions.{Values, Fitting, Unfitting, values_for}
@@ -28,6 +29,7 @@ use Rattle.my_reply.specs.Replies.{prepare_ok_at}
 use Rattle.my_statements.specs.Cache.{Held}
 use Rattle.my_reading.specs.Rows.{row_of}
 use Rattle.my_reading.specs.Told.{Told, ToldRow}
+use Rattle.my_reading.specs.Transactions.{begin_refusal, is_given_up, rollback_text}
 use Rattle.my_reading.specs.Versions.{can_reset}
 
 -- the same step, with more bytes
@@ -76,6 +78,11 @@ module _ (login : Login) (sent taken : List ℕ) where
   kind_more Clear parts k new row = refl
   kind_more (Text text) parts k new row = refl
   kind_more (Flag flag) parts k new row = refl
+  kind_more Undo parts k new row = refl
+  kind_more Undone parts k new row = refl
+  kind_more (Refuse opts) parts k new row = refl
+  kind_more (Settle status) parts k new row = refl
+  kind_more GiveUp parts k new row = refl
   kind_more Head parts (kinds.Good status) new row = refl
   kind_more Head parts (kinds.Greets n) new row = refl
   kind_more Head parts kinds.Failed new row = refl
@@ -202,6 +209,18 @@ module _ (login : Login) (sent taken : List ℕ) where
   offered_more parts p true = refl
   offered_more parts p false = refl
 
+  undone_more : (call : Call) (parts : List Part) (p : Place) (b : Bool)
+      → undone login call parts (more p) b ≡ lift sent taken (undone login call parts p b)
+  unfolding lift
+  undone_more call parts p true = command_more call parts p (Some (queried (terms_of login (exchanges p)) rollback_text))
+  undone_more call parts p false = refl
+
+  refused_more : (parts : List Part) (p : Place) (x : Option DriverError)
+      → unless_refused parts (more p) x ≡ lift sent taken (unless_refused parts p x)
+  unfolding lift
+  refused_more parts p None = refl
+  refused_more parts p (Some e) = refl
+
   learned_more : (call : Call) (p : Place) → learned call (more p) (facts_at login (more p)) ≡ more (learned call p (facts_at login p))
   learned_more call p = by_rows (is_rows (context_of p.talk).spot) refl
     where
@@ -257,6 +276,12 @@ module _ (login : Login) (sent taken : List ℕ) where
     part_more (Clear ∷ parts) e = ap (lift sent taken) e
     part_more (Text text ∷ parts) e = command_more call parts p (Some (queried (terms_of login (exchanges p)) text)) ∙ ap (lift sent taken) e
     part_more (Flag flag ∷ parts) e = cc
+    part_more (Undo ∷ parts) e = undone_more call parts p (is_given_up p.status) ∙ ap (lift sent taken) e
+    part_more (Undone ∷ parts) e = ap (lift sent taken) e
+    part_more (Refuse opts ∷ parts) e =
+        refused_more parts p (begin_refusal opts (version_of (facts_at login p).version) p.status) ∙ ap (lift sent taken) e
+    part_more (Settle status ∷ parts) e = ap (lift sent taken) e
+    part_more (GiveUp ∷ parts) e = ap (lift sent taken) e
 
 pub step_stays : StepStays
 unfolding step

@@ -1,12 +1,13 @@
 -- Calls: which one it is, and what it carries.
 use Rattle.std.specs.Prelude.{ℕ, List, [], Bool, true, false}
+use Rattle.my_opts_parts.specs.TransactionOptions.{TxView, default_tx}
 use Rattle.my_params.specs.declared.params.Params.{Params}
 use Rattle.my_params.specs.declared.params.Params.TheVariants.{Empty}
 use Rattle.my_statements.specs.Prepared.{StatementView}
 use Rattle.my_reading.specs.declared.call.Call.{Call}
 use Rattle.my_reading.specs.declared.call.Call.TheVariants as calls
 use Rattle.my_reading.specs.declared.call.CallKind.{CallKind}
-use Rattle.my_reading.specs.declared.call.CallKind.TheVariants.{Connect, Query, Prepare, Execute, Batch, CloseStmt, NextRow, DropResult, TakeSet, SkipTaken, Ping, Reset, Quit}
+use Rattle.my_reading.specs.declared.call.CallKind.TheVariants.{Connect, Query, Prepare, Execute, Batch, CloseStmt, NextRow, DropResult, TakeSet, SkipTaken, Ping, Reset, Begin, Rollback, ForgetTransaction, Quit}
 
 abbrev pub kind_of : Call → CallKind
 kind_of calls.Connect = Connect
@@ -21,6 +22,9 @@ kind_of calls.TakeSet = TakeSet
 kind_of calls.SkipTaken = SkipTaken
 kind_of calls.Ping = Ping
 kind_of calls.Reset = Reset
+kind_of (calls.Begin opts) = Begin
+kind_of calls.Rollback = Rollback
+kind_of calls.ForgetTransaction = ForgetTransaction
 kind_of calls.Quit = Quit
 
 -- a statement of no text
@@ -28,7 +32,8 @@ abbrev pub blank : StatementView
 blank = record { inner = record { id = 0; connection_id = 0; num_params = 0; num_columns = 0; params = [] }; names = [] }
 
 -- what a call carries: the text of a query or of a statement to prepare, the statement that is executed with its parameters, and the id of
--- the one that is closed; nothing where it doesn't carry it. A batch carries parameters for each execution of its statement.
+-- the one that is closed, and how a transaction begins; nothing where it doesn't carry it. A batch carries parameters for each execution of
+-- its statement.
 abbrev pub text_in : Call → List ℕ
 text_in (calls.Query text) = text
 text_in (calls.Prepare text) = text
@@ -53,6 +58,10 @@ id_in (calls.Batch statement lists) = statement.inner.id
 id_in (calls.CloseStmt id) = id
 id_in _ = 0
 
+abbrev pub opts_in : Call → TxView
+opts_in (calls.Begin opts) = opts
+opts_in _ = default_tx
+
 -- the call of this kind, with what another call carries
 abbrev pub call_of : CallKind → Call → Call
 call_of Connect call = calls.Connect
@@ -67,6 +76,9 @@ call_of TakeSet call = calls.TakeSet
 call_of SkipTaken call = calls.SkipTaken
 call_of Ping call = calls.Ping
 call_of Reset call = calls.Reset
+call_of Begin call = calls.Begin (opts_in call)
+call_of Rollback call = calls.Rollback
+call_of ForgetTransaction call = calls.ForgetTransaction
 call_of Quit call = calls.Quit
 
 -- the calls that send a command of their own
@@ -78,6 +90,8 @@ asks Batch = true
 asks CloseStmt = true
 asks Ping = true
 asks Reset = true
+asks Begin = true
+asks Rollback = true
 asks Quit = true
 asks _ = false
 
@@ -88,3 +102,9 @@ is_connect _ = false
 abbrev pub is_quit : CallKind → Bool
 is_quit Quit = true
 is_quit _ = false
+
+-- the calls that have nothing to do on a closed session, which refuses all others
+abbrev pub is_unrefused : CallKind → Bool
+is_unrefused Quit = true
+is_unrefused ForgetTransaction = true
+is_unrefused _ = false

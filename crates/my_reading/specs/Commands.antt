@@ -12,7 +12,7 @@ use Rattle.my_grammar.specs.Talk.{Talk, Start, Queried, Preparing, Asked, Silent
 use Rattle.my_params.specs.LongData.{ahead_of}
 use Rattle.my_params.specs.Parameters.{body_of}
 use Rattle.my_reading.specs.declared.call.Call.{Call}
-use Rattle.my_reading.specs.declared.call.Call.TheVariants.{Connect, Query, Prepare, Execute, Batch, CloseStmt, NextRow, DropResult, TakeSet, SkipTaken, Ping, Reset, Quit}
+use Rattle.my_reading.specs.declared.call.Call.TheVariants.{Connect, Query, Prepare, Execute, Batch, CloseStmt, NextRow, DropResult, TakeSet, SkipTaken, Ping, Reset, Begin, Rollback, ForgetTransaction, Quit}
 use Rattle.my_reading.specs.Executions.{Values, Fitting, Unfitting, values_for}
 use Rattle.my_reading.specs.Statements.{Statements, known_in, query_of}
 
@@ -71,7 +71,8 @@ connecting login terms zero = Some (Start login)
 connecting login terms (suc n) = arranging terms (slice_get (arranging_texts login) n)
 
 -- The exchange that a call begins, if it begins one: connecting begins several, and n of them came before. Those of a batch are told by
--- the parts of the call, which have the parameters of each, and so are the queries that follow a reset, of which this is the first command.
+-- the parts of the call, which have the parameters of each, and so are the queries that follow a reset, of which this is the first command,
+-- and those of a transaction.
 abbrev pub opening : Login → Terms → Statements → Call → ℕ → Option Talk
 opening login terms st Connect n = connecting login terms n
 opening login terms st (Query text) n = command_of terms st (Query text)
@@ -85,4 +86,7 @@ opening login terms st TakeSet n = None
 opening login terms st SkipTaken n = None
 opening login terms st Ping n = command_of terms st Ping
 opening login terms st Reset n = command_of terms st Reset
+opening login terms st (Begin opts) n = None
+opening login terms st Rollback n = None
+opening login terms st ForgetTransaction n = None
 opening login terms st Quit n = command_of terms st Quit

@@ -19,22 +19,27 @@ use Rattle.my_handshake.specs.Version.{version_of}
 use Rattle.my_grammar.specs.declared.spot.Terms.{Terms}
 use Rattle.my_grammar.specs.Talk.{Talk, commands_in, context_of, limit_of}
 use Rattle.my_statements.specs.Cache.{Held}
+use Rattle.my_opts_parts.specs.TransactionOptions.{TxView}
 use Rattle.my_params.specs.declared.params.Params.{Params}
 use Rattle.my_reading.specs.declared.call.Call.{Call}
 use Rattle.my_reading.specs.declared.call.Call.TheVariants as calls
+use Rattle.my_reading.specs.declared.error.DriverError.{DriverError}
 use Rattle.my_reading.specs.declared.error.Error.{Error}
 use Rattle.my_reading.specs.declared.error.Error.TheVariants.{Driver, Server}
 use Rattle.my_reading.specs.declared.facts.Facts.{Facts}
+use Rattle.my_reading.specs.declared.transaction.TxStatus.{TxStatus}
+use Rattle.my_reading.specs.declared.transaction.TxStatus.TheVariants as txs
 use Rattle.my_reading.specs.Calls.{id_in, statement_in, text_in}
 use Rattle.my_reading.specs.Commands.{arranging_texts, closing, execution, queried, setup_texts}
 use Rattle.my_reading.specs.Errors.{codec_error, invalid_data, mixed_params, server_error}
 use Rattle.my_reading.specs.Executions.{Values, Fitting, Unfitting, values_for}
 use Rattle.my_reading.specs.Facts.{prepared_by}
-use Rattle.my_reading.specs.Place.{Place, exchanges, facts_at, owed, terms_of, without_end, with_end, with_statements, with_taken, with_talk, with_exchange, next_exchange}
+use Rattle.my_reading.specs.Place.{Place, exchanges, facts_at, owed, terms_of, without_end, with_end, with_statements, with_status, with_taken, with_talk, with_exchange, next_exchange}
 use Rattle.my_reading.specs.Statements.{cleared, held_in, is_cached, is_mixed_text, leaving, names_of, query_of, statement_with, with_columns, with_fetched, with_prepared, without_statement}
 pub use Rattle.my_reading.specs.Place.{is_rows}
 use Rattle.my_reading.specs.Rows.{row_of}
 use Rattle.my_reading.specs.Told.{Told, ToldReady, ToldRow, ToldEnd, ToldNone, ToldStatement, ToldFlag, ToldError}
+use Rattle.my_reading.specs.Transactions.{begin_refusal, begin_texts, given_up, is_given_up, rollback_text, rolled_back}
 use Rattle.my_reading.specs.Versions.{can_reset}
 
 -- A part of a call: the rest of the newest exchange is read; it is read to the head of its first set, or to its next row or end; a stream
@@ -42,7 +47,8 @@ use Rattle.my_reading.specs.Versions.{can_reset}
 -- sent. Of prepared statements: the statement of the text is looked for; parameters are looked at; the statement of a batch is executed
 -- with parameters; the reply to a statement to prepare is read; its statement is kept, and the one that has to go for it is closed; it is
 -- returned; the columns of an execution's rows are learned; or a statement isn't kept any more. Of a reset: the server has the command, or
--- nothing is sent and `false` is returned; no statement is kept any more; a query of the client's own is sent; or a flag is returned.
+-- nothing is sent and `false` is returned; no statement is kept any more; a query of the client's own is sent; or a flag is returned. Of
+-- transactions: one that was given up is rolled back, and then there is none; one is refused; it stands so from now on; or it is given up.
 pub data Part : Type 0 where
   All : Part
   Head : Part
@@ -62,16 +68,29 @@ pub data Part : Type 0 where
   Clear : Part
   Text : (text : List ℕ) → Part
   Flag : (flag : Bool) → Part
+  Undo : Part
+  Undone : Part
+  Refuse : (opts : TxView) → Part
+  Settle : (status : TxStatus) → Part
+  GiveUp : Part
 
 -- each query that sets a connection up is sent, and its response read whole
 abbrev pub parts_of_texts : List (List ℕ) → List Part
 parts_of_texts [] = []
 parts_of_texts (text ∷ texts) = Command ∷ All ∷ parts_of_texts texts
 
+-- Before its first command a call reads the rest of the newest exchange, and rolls a transaction back that was given up.
+abbrev pub clean : List Part → List Part
+clean parts = All ∷ Undo ∷ All ∷ Undone ∷ parts
+
 -- the statement is executed with each of these parameters, and each response is read whole before the next ones are looked at
 abbrev pub parts_of_lists : List Params → List Part
 parts_of_lists [] = []
 parts_of_lists (params ∷ lists) = Check params ∷ All ∷ Run params ∷ Head ∷ Learn ∷ All ∷ parts_of_lists lists
+
+abbrev pub parts_of_batch : List Params → List Part
+parts_of_batch [] = []
+parts_of_batch (params ∷ lists) = Check params ∷ clean (Run params ∷ Head ∷ Learn ∷ All ∷ parts_of_lists lists)
 
 -- Each of these queries of the client's own is sent, once the response before it was read whole, and so is the response to the last; then
 -- come further parts.
@@ -82,18 +101,21 @@ parts_of_queries (text ∷ texts) parts = All ∷ Text text ∷ parts_of_queries
 -- the command table: the parts of each call, in order
 abbrev pub parts_of : Login → Call → List Part
 parts_of login calls.Connect = All ∷ parts_of_texts (arranging_texts login)
-parts_of login (calls.Query text) = All ∷ Command ∷ Head ∷ []
-parts_of login (calls.Prepare text) = Find ∷ All ∷ Command ∷ Reply ∷ Keep ∷ Give ∷ []
-parts_of login (calls.Execute statement params) = Check params ∷ All ∷ Command ∷ Head ∷ Learn ∷ []
-parts_of login (calls.Batch statement lists) = parts_of_lists lists
-parts_of login (calls.CloseStmt id) = Forget ∷ All ∷ Command ∷ []
+parts_of login (calls.Query text) = clean (Command ∷ Head ∷ [])
+parts_of login (calls.Prepare text) = Find ∷ clean (Command ∷ Reply ∷ Keep ∷ Give ∷ [])
+parts_of login (calls.Execute statement params) = Check params ∷ clean (Command ∷ Head ∷ Learn ∷ [])
+parts_of login (calls.Batch statement lists) = parts_of_batch lists
+parts_of login (calls.CloseStmt id) = Forget ∷ clean (Command ∷ [])
 parts_of login calls.NextRow = Item ∷ []
 parts_of login calls.DropResult = All ∷ []
 parts_of login calls.TakeSet = Set ∷ []
 parts_of login calls.SkipTaken = Rest ∷ []
-parts_of login calls.Ping = All ∷ Command ∷ All ∷ []
-parts_of login calls.Reset = Offered ∷ All ∷ Command ∷ All ∷ Clear ∷ parts_of_queries (setup_texts login) (Flag true ∷ [])
-parts_of login calls.Quit = All ∷ Command ∷ []
+parts_of login calls.Ping = clean (Command ∷ All ∷ [])
+parts_of login calls.Reset = Offered ∷ clean (Command ∷ All ∷ Clear ∷ parts_of_queries (setup_texts login) (Flag true ∷ []))
+parts_of login (calls.Begin opts) = clean (Refuse opts ∷ parts_of_queries (begin_texts opts) (Settle txs.InTransaction ∷ []))
+parts_of login calls.Rollback = Settle txs.RequiresRollback ∷ clean []
+parts_of login calls.ForgetTransaction = GiveUp ∷ []
+parts_of login calls.Quit = clean (Command ∷ [])
 
 -- where a call stops: bytes are to be sent, more bytes are awaited, or it returns this
 pub data Stop : Type 0 where
@@ -227,6 +249,16 @@ offered parts p false = return p (ToldFlag false)
 abbrev pub asked : Login → Call → List Part → Place → List ℕ → Step
 asked login call parts p text = with_command call parts p (Some (queried (terms_of login (exchanges p)) text))
 
+-- a transaction that was given up is rolled back
+abbrev pub undone : Login → Call → List Part → Place → Bool → Step
+undone login call parts p true = asked login call parts p rollback_text
+undone login call parts p false = Goes parts p
+
+-- a transaction isn't begun
+abbrev pub unless_refused : List Part → Place → Option DriverError → Step
+unless_refused parts p None = Goes parts p
+unless_refused parts p (Some e) = failure p (Driver e)
+
 -- what the first part comes to where nothing is owed; without a part the call is done
 abbrev pub step_of : Login → Call → List Part → Place → Step
 step_of login call [] p = return p ToldReady
@@ -260,6 +292,11 @@ step_of login call (Offered ∷ parts) p = offered parts p (can_reset (version_o
 step_of login call (Clear ∷ parts) p = Goes parts (with_statements (cleared p.statements) p)
 step_of login call (Text text ∷ parts) p = asked login call parts p text
 step_of login call (Flag flag ∷ parts) p = return p (ToldFlag flag)
+step_of login call (Undo ∷ parts) p = undone login call parts p (is_given_up p.status)
+step_of login call (Undone ∷ parts) p = Goes parts (with_status (rolled_back p.status) p)
+step_of login call (Refuse opts ∷ parts) p = unless_refused parts p (begin_refusal opts (version_of (facts_at login p).version) p.status)
+step_of login call (Settle status ∷ parts) p = Goes parts (with_status status p)
+step_of login call (GiveUp ∷ parts) p = Goes parts (with_status (given_up p.status) p)
 
 -- while bytes are owed nothing else is done
 abbrev pub unless_owed : List ℕ → Place → Step → Step

@@ -2,6 +2,7 @@ pub mod Calls
 pub mod Statements
 pub mod Executions
 pub mod Versions
+pub mod Transactions
 pub mod Commands
 pub mod Errors
 pub mod Told
@@ -14,4 +15,5 @@ pub mod Place
 pub mod Course
 pub mod Reading
 pub mod Endings
+pub mod Clean
 pub mod Leads

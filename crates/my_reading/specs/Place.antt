@@ -9,6 +9,8 @@ use Rattle.my_grammar.specs.Talk.{Talk, Start, turns, client_bytes, context_of, 
 use Rattle.my_reading.specs.declared.call.Call.{Call}
 use Rattle.my_reading.specs.declared.call.Call.TheVariants.{Connect}
 use Rattle.my_reading.specs.declared.facts.Facts.{Facts}
+use Rattle.my_reading.specs.declared.transaction.TxStatus.{TxStatus}
+use Rattle.my_reading.specs.declared.transaction.TxStatus.TheVariants as txs
 use Rattle.my_reading.specs.Calls.{kind_of, is_connect}
 use Rattle.my_reading.specs.Commands.{opening}
 use Rattle.my_reading.specs.Facts.{first_facts, facts_by}
@@ -20,8 +22,8 @@ pub record Exchange : Type 0 where
   pub talk : Talk
 
 -- The newest exchange, and the older ones, the newest first. A lone OK has an end, which may be left for a read to return. A stream may
--- have taken the set that is read or whose end is left. These prepared statements are known. Of the bytes received these are unread; and
--- these are all bytes that were sent.
+-- have taken the set that is read or whose end is left. These prepared statements are known, and a transaction stands so. Of the bytes
+-- received these are unread; and these are all bytes that were sent.
 pub record Place : Type 0 where
   pub call : Call
   pub talk : Talk
@@ -29,6 +31,7 @@ pub record Place : Type 0 where
   pub end_left : Bool
   pub taken : Bool
   pub statements : Statements
+  pub status : TxStatus
   pub unread : List ℕ
   pub sent : List ℕ
 
@@ -36,7 +39,7 @@ abbrev pub exchanges : Place → List Exchange
 exchanges p = record { call = p.call; talk = p.talk } ∷ p.older
 
 abbrev pub first_place : Login → Place
-first_place login = record { call = Connect; talk = Start login; older = []; end_left = false; taken = false; statements = first_statements login; unread = []; sent = [] }
+first_place login = record { call = Connect; talk = Start login; older = []; end_left = false; taken = false; statements = first_statements login; status = txs.None; unread = []; sent = [] }
 
 -- what the server said in exchanges
 abbrev pub facts_of : Login → List Exchange → Facts
@@ -82,24 +85,29 @@ with_bytes sent taken p = record {
   end_left = p.end_left;
   taken = p.taken;
   statements = p.statements;
+  status = p.status;
   unread = p.unread ++ taken;
   sent = p.sent ++ sent;
 }
 
 -- other statements are known
 abbrev pub with_statements : Statements → Place → Place
-with_statements st p = record { call = p.call; talk = p.talk; older = p.older; end_left = p.end_left; taken = p.taken; statements = st; unread = p.unread; sent = p.sent }
+with_statements st p = record { call = p.call; talk = p.talk; older = p.older; end_left = p.end_left; taken = p.taken; statements = st; status = p.status; unread = p.unread; sent = p.sent }
+
+-- the transaction stands so
+abbrev pub with_status : TxStatus → Place → Place
+with_status status p = record { call = p.call; talk = p.talk; older = p.older; end_left = p.end_left; taken = p.taken; statements = p.statements; status = status; unread = p.unread; sent = p.sent }
 
 -- the end that was left is passed over, or is left
 abbrev pub without_end : Place → Place
-without_end p = record { call = p.call; talk = p.talk; older = p.older; end_left = false; taken = p.taken; statements = p.statements; unread = p.unread; sent = p.sent }
+without_end p = record { call = p.call; talk = p.talk; older = p.older; end_left = false; taken = p.taken; statements = p.statements; status = p.status; unread = p.unread; sent = p.sent }
 
 abbrev pub with_end : Place → Place
-with_end p = record { call = p.call; talk = p.talk; older = p.older; end_left = true; taken = p.taken; statements = p.statements; unread = p.unread; sent = p.sent }
+with_end p = record { call = p.call; talk = p.talk; older = p.older; end_left = true; taken = p.taken; statements = p.statements; status = p.status; unread = p.unread; sent = p.sent }
 
 -- a stream takes the set
 abbrev pub with_taken : Place → Place
-with_taken p = record { call = p.call; talk = p.talk; older = p.older; end_left = p.end_left; taken = true; statements = p.statements; unread = p.unread; sent = p.sent }
+with_taken p = record { call = p.call; talk = p.talk; older = p.older; end_left = p.end_left; taken = true; statements = p.statements; status = p.status; unread = p.unread; sent = p.sent }
 
 -- between the columns and the end of a set
 abbrev pub is_rows : Spot → Bool
@@ -115,13 +123,14 @@ with_talk p t rest = record {
   end_left = false;
   taken = p.taken && is_rows (context_of t).spot;
   statements = p.statements;
+  status = p.status;
   unread = rest;
   sent = p.sent;
 }
 
 -- an exchange begins
 abbrev pub with_exchange : Place → Call → Talk → Place
-with_exchange p call t = record { call = call; talk = t; older = exchanges p; end_left = false; taken = false; statements = p.statements; unread = p.unread; sent = p.sent }
+with_exchange p call t = record { call = call; talk = t; older = exchanges p; end_left = false; taken = false; statements = p.statements; status = p.status; unread = p.unread; sent = p.sent }
 
 -- whether a stream took the set that is read, or whose end is left
 abbrev pub is_taken : Place → Bool

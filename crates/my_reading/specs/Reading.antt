@@ -2,7 +2,7 @@
 use Rattle.std.specs.Prelude.{List, [], ◌∷◌, Option, Some, None, Bool, true, false, ◌||◌, if◌then◌else◌}
 use Rattle.my_grammar.specs.declared.login.Login.{Login}
 use Rattle.my_reading.specs.declared.call.Call.{Call}
-use Rattle.my_reading.specs.Calls.{kind_of, is_quit}
+use Rattle.my_reading.specs.Calls.{kind_of, is_unrefused}
 use Rattle.my_reading.specs.Course.{Halt, halt, Returns, course}
 use Rattle.my_reading.specs.Errors.{connection_closed}
 use Rattle.my_reading.specs.Place.{Place, first_place, with_bytes}
@@ -11,7 +11,7 @@ use Rattle.my_reading.specs.Told.{Told, ToldReady, ToldError, closes}
 
 -- what a call on a closed session returns
 abbrev pub closed_answer : Call → Told
-closed_answer call = if is_quit (kind_of call) then ToldReady else ToldError connection_closed
+closed_answer call = if is_unrefused (kind_of call) then ToldReady else ToldError connection_closed
 
 -- what a call comes to from the place before it, on a closed session and on an open one
 abbrev pub halt_of : Login → Bool → Span → Place → Halt

@@ -30,11 +30,13 @@ told NoSet = ToldNone
 told (Stmt statement) = ToldStatement statement
 told (Flag flag) = ToldFlag flag
 
--- the refusal of a closed session changes nothing, and neither does that of a text with named parameters and marks; all other driver's
--- errors close the session
+-- the refusal of a closed session changes nothing, and neither does that of a text with named parameters and marks, or of a transaction
+-- that isn't begun; all other driver's errors close the session
 abbrev pub closes_driver : DriverError → Bool
 closes_driver drivers.ConnectionClosed = false
 closes_driver drivers.MixedParams = false
+closes_driver drivers.NestedTransaction = false
+closes_driver drivers.ReadOnlyTransNotSupported = false
 closes_driver e = true
 
 -- a server's error closes a session that isn't connected

@@ -3,6 +3,7 @@
 ghost use Rattle.std.specs.Prelude.{◌≡◌, IfOk};
 
 use my_frame::{Blob, Listed, NoMemory};
+use my_opts_parts::TxOpts;
 use my_params::Params;
 use my_statements::Statement;
 use std::alloc::Global;
@@ -33,6 +34,12 @@ pub enum Call {
     Ping,
     /// The server's session is reset, where the server can, and the queries that set a connection up are sent again.
     Reset,
+    /// A transaction begins.
+    Begin(TxOpts),
+    /// The transaction is rolled back.
+    Rollback,
+    /// The transaction is given up, and rolled back before the next command. Nothing is sent.
+    ForgetTransaction,
     Quit,
 }
 
@@ -51,6 +58,9 @@ pub enum CallKind {
     SkipTaken,
     Ping,
     Reset,
+    Begin,
+    Rollback,
+    ForgetTransaction,
     Quit,
 }
 
@@ -74,6 +84,9 @@ impl Call {
             Call::SkipTaken => CallKind::SkipTaken,
             Call::Ping => CallKind::Ping,
             Call::Reset => CallKind::Reset,
+            Call::Begin(_) => CallKind::Begin,
+            Call::Rollback => CallKind::Rollback,
+            Call::ForgetTransaction => CallKind::ForgetTransaction,
             Call::Quit => CallKind::Quit,
         }
     }
@@ -99,6 +112,9 @@ impl Call {
             Call::SkipTaken => Ok(Call::SkipTaken),
             Call::Ping => Ok(Call::Ping),
             Call::Reset => Ok(Call::Reset),
+            Call::Begin(opts) => Ok(Call::Begin(*opts)),
+            Call::Rollback => Ok(Call::Rollback),
+            Call::ForgetTransaction => Ok(Call::ForgetTransaction),
             Call::Quit => Ok(Call::Quit),
         }
     }

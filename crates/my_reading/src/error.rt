@@ -16,6 +16,12 @@ pub enum DriverError {
     /// A text to prepare has both named parameters and `?`.
     #[error("named and positional parameters in one text")]
     MixedParams,
+    /// A transaction was to begin while there is one.
+    #[error("nested transaction")]
+    NestedTransaction,
+    /// The server is too old to be told whether a transaction only reads: it is below 5.6.5.
+    #[error("the server has no read-only transactions")]
+    ReadOnlyTransNotSupported,
     /// The parameters don't fit the statement's names, or one of them can't be sent.
     #[error(transparent)]
     Params(ParamsError),
@@ -52,6 +58,8 @@ impl DriverError {
         match self {
             DriverError::ConnectionClosed => Ok(DriverError::ConnectionClosed),
             DriverError::MixedParams => Ok(DriverError::MixedParams),
+            DriverError::NestedTransaction => Ok(DriverError::NestedTransaction),
+            DriverError::ReadOnlyTransNotSupported => Ok(DriverError::ReadOnlyTransNotSupported),
             DriverError::Params(error) => Ok(DriverError::Params(error.copy(alloc)?)),
             DriverError::StmtParamsMismatch { required, supplied } => {
                 Ok(DriverError::StmtParamsMismatch {

@@ -10,6 +10,7 @@ mod law;
 mod row;
 mod settings;
 mod statements;
+mod transaction;
 mod version;
 
 pub use answer::Answer;
@@ -25,4 +26,5 @@ pub use my_statements::SetColumns;
 pub use row::read_row;
 pub use settings::{Settings, Stage};
 pub use statements::Statements;
-pub use version::can_reset;
+pub use transaction::{TxStatus, begin_refusal, begin_text, rollback_text};
+pub use version::{can_reset, can_set_access};

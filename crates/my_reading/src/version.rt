@@ -1,7 +1,7 @@
 //! Which versions of a server have which commands.
 
 ghost use Rattle.std.specs.Prelude.{◌≡◌};
-ghost use Rattle.my_reading.specs.Versions.{can_reset, is_from};
+ghost use Rattle.my_reading.specs.Versions.{can_reset, can_set_access, is_from};
 
 use my_handshake::ServerVersion;
 
@@ -23,4 +23,11 @@ pub fn can_reset(version: ServerVersion) -> bool
     } else {
         is_from(5, 7, 3, version)
     }
+}
+
+/// Whether a server of this version can be told that a transaction only reads: from 5.6.5 on.
+pub fn can_set_access(version: ServerVersion) -> bool
+    ensures { result ≡ can_set_access version }
+{
+    is_from(5, 6, 5, version)
 }
