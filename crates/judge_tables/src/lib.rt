@@ -17,4 +17,6 @@ mod tables;
 #[cfg(test)]
 mod tapes;
 #[cfg(test)]
+mod transactions;
+#[cfg(test)]
 mod wrong;

@@ -89,6 +89,22 @@ const RESET: &[u8] = b"\x01\x00\x00\x00\x1f";
 
 pub const QUIT: &[u8] = b"\x01\x00\x00\x00\x01";
 
+// `START TRANSACTION`, and `ROLLBACK` alone and before a ping.
+pub const START: &[u8] = b"\x12\x00\x00\x00\x03START TRANSACTION";
+
+pub const ROLLBACK: &[u8] = b"\x09\x00\x00\x00\x03ROLLBACK";
+
+const ROLLBACK_AND_PING: &[u8] = b"\x09\x00\x00\x00\x03ROLLBACK\x01\x00\x00\x00\x0e";
+
+/// How a transaction begins: nothing is set; it only reads; or it only reads, at the level READ COMMITTED and with a
+/// snapshot.
+#[derive(Clone, Copy, PartialEq, Eq)]
+pub enum Tx {
+    Plain,
+    Reading,
+    Full,
+}
+
 /// A call.
 #[derive(Clone, Copy)]
 pub enum Said<'a> {
@@ -106,6 +122,9 @@ pub enum Said<'a> {
     SkipTaken,
     Ping,
     Reset,
+    Begin(Tx),
+    Rollback,
+    Forget,
     Quit,
 }
 
@@ -125,6 +144,9 @@ pub enum Told<'a> {
     /// ERR 1064 42000 X.
     Server,
     Closed,
+    /// A transaction isn't begun, since there is one, or the server is too old.
+    Nested,
+    TooOld,
     /// So many values, where statement 1 takes one.
     Mismatch(u64),
     /// Faults after `n` packets.
@@ -177,8 +199,8 @@ pub const WAITS: Line<'static> = Line {
     ..RETURNS
 };
 
-// A call on a closed connection.
-const CLOSED: Line<'static> = Line {
+/// A call on a closed connection.
+pub const CLOSED: Line<'static> = Line {
     needs: Needs::Nothing,
     ..RETURNS
 };
@@ -289,6 +311,35 @@ pub const RESETS: Line<'static> = Line {
     taken: [OK, b""],
     ending: Told::Flag(true),
     ..RETURNS
+};
+
+/// A transaction that has begun.
+pub const BEGINS: Line<'static> = Line {
+    call: Said::Begin(Tx::Plain),
+    sent: START,
+    taken: [OK, b""],
+    ..RETURNS
+};
+
+/// It is rolled back.
+pub const ROLLS_BACK: Line<'static> = Line {
+    call: Said::Rollback,
+    sent: ROLLBACK,
+    taken: [OK, b""],
+    ..RETURNS
+};
+
+/// It is given up.
+pub const FORGETS: Line<'static> = Line {
+    call: Said::Forget,
+    ..RETURNS
+};
+
+/// A ping that rolls it back first.
+pub const UNDOES: Line<'static> = Line {
+    sent: ROLLBACK_AND_PING,
+    taken: [OK, OK],
+    ..PINGS
 };
 
 /// A read on a closed connection.

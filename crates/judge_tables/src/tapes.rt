@@ -1,8 +1,9 @@
 //! Tapes from calls, and changes of them.
 
-use crate::rows::{Line, Said, Told};
+use crate::rows::{Line, Said, Told, Tx};
 use my_frame::{Blob, CodecFault, Listed, NoMemory, Text};
 use my_judge::{Ending, Tape, TapeCall};
+use my_opts_parts::{IsolationLevel, TxOpts};
 use my_params::Params;
 use my_reading::{Answer, Call, DriverError, Error, IoError, IoFault, IoKind, ServerError};
 use my_reply::Column;
@@ -73,6 +74,18 @@ fn lists(alloc: Global, all: &[&[i64]]) -> Result<Listed<Params>, NoMemory> {
     Ok(lists)
 }
 
+fn opts_of(tx: Tx) -> TxOpts {
+    let mut opts = TxOpts::new();
+    if tx != Tx::Plain {
+        let _ = opts.with_readonly(Some(true));
+    }
+    if tx == Tx::Full {
+        let _ = opts.with_isolation_level(Some(IsolationLevel::ReadCommitted));
+        let _ = opts.with_consistent_snapshot(true);
+    }
+    opts
+}
+
 fn call_of(alloc: Global, said: Said) -> Result<Call, NoMemory> {
     Ok(match said {
         Said::Connect => Call::Connect,
@@ -87,6 +100,9 @@ fn call_of(alloc: Global, said: Said) -> Result<Call, NoMemory> {
         Said::SkipTaken => Call::SkipTaken,
         Said::Ping => Call::Ping,
         Said::Reset => Call::Reset,
+        Said::Begin(tx) => Call::Begin(opts_of(tx)),
+        Said::Rollback => Call::Rollback,
+        Said::Forget => Call::ForgetTransaction,
         Said::Quit => Call::Quit,
     })
 }
@@ -97,6 +113,10 @@ fn server_error(alloc: Global) -> Result<Error, NoMemory> {
         state: Text::from_str(alloc, "42000")?,
         message: Text::from_str(alloc, "X")?,
     }))
+}
+
+fn refused(refusal: DriverError) -> Option<Ending> {
+    Some(Ending::Failed(Error::Driver(refusal)))
 }
 
 fn fault(kind: IoKind, place: u64) -> Option<Ending> {
@@ -116,14 +136,13 @@ fn ending_of(alloc: Global, told: Told) -> Result<Option<Ending>, NoMemory> {
         Told::SetEnd => Some(Ending::Answered(Answer::SetEnd)),
         Told::NoSet => Some(Ending::Answered(Answer::NoSet)),
         Told::Server => Some(Ending::Failed(server_error(alloc)?)),
-        Told::Closed => Some(Ending::Failed(Error::Driver(DriverError::ConnectionClosed))),
-        Told::Mismatch(supplied) => {
-            let refusal = DriverError::StmtParamsMismatch {
-                required: 1,
-                supplied,
-            };
-            Some(Ending::Failed(Error::Driver(refusal)))
-        }
+        Told::Closed => refused(DriverError::ConnectionClosed),
+        Told::Nested => refused(DriverError::NestedTransaction),
+        Told::TooOld => refused(DriverError::ReadOnlyTransNotSupported),
+        Told::Mismatch(supplied) => refused(DriverError::StmtParamsMismatch {
+            required: 1,
+            supplied,
+        }),
         Told::Link(place) => fault(IoKind::Link, place),
         Told::Eof(place) => fault(IoKind::UnexpectedEof, place),
         Told::Unfit(place) => fault(IoKind::InvalidData, place),

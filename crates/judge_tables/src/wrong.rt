@@ -1,12 +1,14 @@
-//! Wrong tapes of sets that streams take, of prepared statements and of resets, each of which the judge refutes.
+//! Wrong tapes of sets that streams take, of prepared statements, resets and transactions, each of which the judge refutes.
 
 use crate::changes::judged;
 use crate::logins::SetUp;
 use crate::rows::{
-    BATCHES, CONNECTS, DO, DO_ONE, END, EXECUTE, EXECUTE_SWAPPED, EXECUTES, FINDS, HEAD, LOGGED_IN,
-    Line, OK_AND_MORE, PREPARES, RESETS, RETURNS, ROW, SELECTS, SET, Said, Told,
+    BATCHES, BEGINS, CONNECTS, DO, DO_ONE, END, EXECUTE, EXECUTE_SWAPPED, EXECUTES, FINDS, FORGETS,
+    HEAD, LOGGED_IN, Line, OK, OK_AND_MORE, PINGS, PREPARES, RESETS, RETURNS, ROLLBACK, ROLLS_BACK,
+    ROW, SELECTS, SET, Said, Told, Tx, UNDOES,
 };
 use crate::tapes::{Change, changed};
+use crate::transactions::{BEGINS_FULLY, BEGINS_READING, CONNECTS_TO_OLD};
 use my_frame::NoMemory;
 use my_judge::Verdict;
 use std::alloc::Global;
@@ -16,13 +18,19 @@ use std::test::Fail;
 // a set is; a set is passed over before its end; a row that was passed over is returned; the next set is passed over, too;
 // a statement is prepared again, though it is cached; a row of an execution is read as text; a close isn't sent; of a batch
 // the second execution isn't sent, or is sent first; it is ready before its last response is read whole; a statement is
-// found in the cache after a reset.
+// found in the cache after a reset; a transaction begins in another one, or is refused for none; one that was given up isn't
+// rolled back by the next ping, or is so by the two next; it is given up and rolled back at once; its queries are sent in
+// another order; it has begun before its OK; a server that is too old is told that it only reads; a rollback sends nothing.
 //
 // A call is its name, its answer and what it received. `c` connects, `s` is a query that begins a set, `d` one that has
 // none, `t` takes a set, `k` passes over the rest of one, `r` reads, `p` prepares a statement, `x` executes it, and `z`
 // closes it without a byte. Batches of the values 1 and 2: `h` sends the first execution alone, `o` sends them in the other
-// order, `u` reads no more than the head of the last response. `b` resets, and `n` finds the statement in the cache. `R` is
-// ready, `N` that no set is left, `1` a row. Received are `m` an OK that another set follows, `o` a row, `e` a set's end, `f` an OK with the next sequence id.
+// order, `u` reads no more than the head of the last response. `b` resets, and `n` finds the statement in the cache. `O`
+// connects to a server of version 5.6.4, `B` begins a transaction, `I` is refused, `E` reads nothing, and `A` begins one that
+// only reads; `L` sets the level of one after it has begun, and `W` after it has said that it only reads. `G` gives one up,
+// `g` sends a ROLLBACK at once, `Q` rolls one back and sends nothing, `q` is a ping, and `U` one after a ROLLBACK. `R` is
+// ready, `N` that no set is left, `1` a row. Received are `m` an OK that another set follows, `o` a row, `e` a set's end, `f`
+// an OK with the next sequence id.
 const WRONG: &str = "\
 c tR 1
 c s tN 2
@@ -35,7 +43,17 @@ c p zR 2
 c p h 2
 c p o 2
 c p u 2
-c p b n 3";
+c p b n 3
+c B B 2
+c I 1
+c B G q 3
+c B G U U 4
+c B g 2
+c L 1
+c W 1
+c E 1
+O A 1
+c B Q 2";
 
 // Batches that are refuted.
 const FIRST_ALONE: Line<'static> = Line {
@@ -51,6 +69,44 @@ const OTHER_ORDER: Line<'static> = Line {
 const UNREAD: Line<'static> = Line {
     taken: [SET, HEAD],
     ..BATCHES
+};
+
+// Transactions that are refuted, and a server of version 5.6.4.
+const NEVER_NESTED: Line<'static> = Line {
+    call: Said::Begin(Tx::Plain),
+    ending: Told::Nested,
+    ..RETURNS
+};
+
+const EARLY: Line<'static> = Line {
+    taken: [b"", b""],
+    ..BEGINS
+};
+
+const LATE_LEVEL: Line<'static> = Line {
+    sent: b"\x1a\x00\x00\x00\x03SET TRANSACTION READ ONLY\
+        \x2b\x00\x00\x00\x03START TRANSACTION WITH CONSISTENT SNAPSHOT\
+        \x2f\x00\x00\x00\x03SET TRANSACTION ISOLATION LEVEL READ COMMITTED",
+    ..BEGINS_FULLY
+};
+
+const ACCESS_FIRST: Line<'static> = Line {
+    sent: b"\x1a\x00\x00\x00\x03SET TRANSACTION READ ONLY\
+        \x2f\x00\x00\x00\x03SET TRANSACTION ISOLATION LEVEL READ COMMITTED\
+        \x2b\x00\x00\x00\x03START TRANSACTION WITH CONSISTENT SNAPSHOT",
+    ..BEGINS_FULLY
+};
+
+const FORGETS_AND_SENDS: Line<'static> = Line {
+    sent: ROLLBACK,
+    taken: [OK, b""],
+    ..FORGETS
+};
+
+const SENDS_NO_ROLLBACK: Line<'static> = Line {
+    sent: b"",
+    taken: [b"", b""],
+    ..ROLLS_BACK
 };
 
 fn letter(word: &str, at: usize) -> u8 {
@@ -89,6 +145,18 @@ fn line(word: &str) -> Line<'static> {
         b'u' => return UNREAD,
         b'b' => return RESETS,
         b'n' => return FINDS,
+        b'O' => return CONNECTS_TO_OLD,
+        b'B' => return BEGINS,
+        b'I' => return NEVER_NESTED,
+        b'E' => return EARLY,
+        b'A' => return BEGINS_READING,
+        b'L' => return LATE_LEVEL,
+        b'W' => return ACCESS_FIRST,
+        b'G' => return FORGETS,
+        b'g' => return FORGETS_AND_SENDS,
+        b'Q' => return SENDS_NO_ROLLBACK,
+        b'q' => return PINGS,
+        b'U' => return UNDOES,
         b'z' => Said::CloseStmt(1),
         b'd' => DO_ONE,
         b't' => Said::TakeSet,

@@ -36,17 +36,19 @@ use Rattle.std.proofs.lemmas.List.{append_assoc}
 use Rattle.my_grammar.specs.Talk.{Talk, Asked, Preparing, Queried, Silent, commands_bytes, commands_in, turns, number_of, context_of, limit_of, Fits, login_in}
 use Rattle.my_reading.specs.declared.call.Call.{Call}
 use Rattle.my_reading.specs.declared.call.Call.TheVariants as calls
+use Rattle.my_reading.specs.declared.error.DriverError.{DriverError}
 use Rattle.my_reading.specs.Calls.{id_in, is_connect, kind_of as call_kind, statement_in, text_in}
 use Rattle.my_reading.specs.Commands.{arranging, arranging_texts, closing, connecting, execution, queried}
 use Rattle.my_reading.specs.Executions.{Values, Fitting, Unfitting, values_for}
 use Rattle.my_reading.specs.Facts.{prepared_by}
 use Rattle.my_reading.specs.Statements.{Statements, cleared, held_in, is_cached, is_mixed_text, known_in, leaving, names_of, query_of, statement_with, with_columns, with_fetched, with_prepared, without_statement}
-use Rattle.my_reading.specs.Course.{Step, Goes, Stops, step, step_of, unless_owed, reads, with_front, after_payload, after_kind, after_err, checked, closing_of, executed as executed_by, first_above, found, looked_for, offered, unless_cached, unless_long, with_command, failure, is_greeting, is_rows}
+use Rattle.my_reading.specs.Course.{Step, Goes, Stops, step, step_of, unless_owed, reads, with_front, after_payload, after_kind, after_err, checked, closing_of, executed as executed_by, first_above, found, looked_for, offered, undone, unless_cached, unless_long, unless_refused, with_command, failure, is_greeting, is_rows}
 use Rattle.my_reading.specs.Errors.{codec_error}
 use Rattle.my_reading.proofs.Described.{kind_known}
 use Rattle.my_reading.specs.Place.{Place, exchanges, facts_at, facts_of, client_side, connects_in, terms_of, owed, next_exchange, with_end, with_statements, with_taken, with_talk, with_exchange}
 use Rattle.my_reading.specs.Rows.{row_of}
 use Rattle.my_reading.specs.Told.{ToldRow}
+use Rattle.my_reading.specs.Transactions.{begin_refusal, given_up, is_given_up, rollback_text, rolled_back}
 use Rattle.my_reading.specs.Versions.{can_reset}
 use Rattle.my_judge.specs.declared.part.Part.{Part as CodePart}
 use Rattle.my_judge.specs.declared.part.Part.TheVariants as parts
@@ -54,11 +56,11 @@ use Rattle.my_judge.specs.declared.stand.Stand.{Stand}
 use Rattle.my_judge.specs.declared.step.Step.{Step as CodeStep}
 use Rattle.my_judge.specs.declared.step.Step.TheVariants as steps
 use Rattle.my_judge.specs.declared.step.Stop.TheVariants as code_stops
-use Rattle.my_judge.specs.Parts.{part_of}
-use Rattle.my_judge.specs.Stands.{IsAt, Turn, stand_of, heard, asked, asks, turn, with_end as with_left, with_taken as with_mark, after_kind as code_kind, after_err as code_err, after_greeting as code_greeting, after_payload as code_payload, after_prepared as code_prepared, with_front as code_front, with_known, reads as code_reads, arranges, begins, checks, checks_for, closes_one, commands, executed, executed_in, executes, executes_one, finds, finds_so, offers, queries, unless_above, steps as code_step}
+use Rattle.my_judge.specs.Parts.{part_of, start_at}
+use Rattle.my_judge.specs.Stands.{IsAt, Turn, stand_of, heard, asked, asks, turn, with_end as with_left, with_taken as with_mark, after_kind as code_kind, after_err as code_err, after_greeting as code_greeting, after_payload as code_payload, after_prepared as code_prepared, with_front as code_front, with_known, reads as code_reads, arranges, begins, checks, checks_for, closes_one, commands, executed, executed_in, executes, executes_one, finds, finds_so, offers, queries, refuses, undoes, unless_above, steps as code_step}
 use Rattle.my_judge.specs.Tapes.{stop_of}
 use Rattle.my_judge.proofs.Suiting.{Suit}
-use Rattle.my_judge.proofs.Places.{limit_is, at_here, at_end, at_known, at_no_end, at_taken, at_end_taken, at_heard}
+use Rattle.my_judge.proofs.Places.{limit_is, at_here, at_end, at_known, at_no_end, at_status, at_taken, at_end_taken, at_heard}
 
 -- a step of a call of which these parts are left
 abbrev pub Follows : Login → List CodePart → Stand → CodeStep → Step → Type 0
@@ -118,7 +120,13 @@ module _ (login : Login) (part : CodePart) (more : List CodePart) (new : Place) 
       by_part parts.Offered k = (refl, at)
       by_part parts.Clear k = (refl, at)
       by_part (parts.Text text) k = (refl, at)
+      by_part (parts.Start opts place) k = (refl, at)
       by_part (parts.Flag flag) k = (refl, at)
+      by_part parts.Undo k = (refl, at)
+      by_part parts.Undone k = (refl, at)
+      by_part (parts.Refuse opts) k = (refl, at)
+      by_part (parts.Settle status) k = (refl, at)
+      by_part parts.GiveUp k = (refl, at)
 
 -- commands are sent, unless one of them is above the limit
 unless_follows : (login : Login) (part : CodePart) (more : List CodePart) (q r : Place) (old new : Stand) → IsAt login q old → IsAt login r new → (x : Option ℕ)
@@ -218,7 +226,7 @@ module _ (login : Login) (p : Place) (n : ℕ) (arranged : connects_in (exchange
   executed_at call other ahead command known =
       let base : Stand = executed ahead command s in
       record {
-        stand_is = ap (λ (bytes : List ℕ). let x : Stand = record { context = base.context; number = base.number; facts = base.facts; texts = base.texts; arranged = base.arranged; end_left = base.end_left; taken = base.taken; statements = base.statements; unread = base.unread; said = bytes; sent = base.sent } in x)
+        stand_is = ap (λ (bytes : List ℕ). let x : Stand = record { context = base.context; number = base.number; facts = base.facts; texts = base.texts; arranged = base.arranged; end_left = base.end_left; taken = base.taken; statements = base.statements; status = base.status; unread = base.unread; said = bytes; sent = base.sent } in x)
             (append_assoc (client_side (exchanges p)) (commands_bytes ahead) (chunks command 0) ∙ ap (λ bs. client_side (exchanges p) ++ bs) (sym (ahead_then ahead command)));
         arranged_is = ap (λ b. cond b (suc (connects_in (exchanges p))) (connects_in (exchanges p))) other ∙ arranged;
         fits = record { kinds = tt; within = tt };
@@ -270,6 +278,9 @@ module _ (login : Login) (p : Place) (n : ℕ) (arranged : connects_in (exchange
   commands_follow calls.TakeSet more = (refl, here)
   commands_follow calls.SkipTaken more = (refl, here)
   commands_follow calls.Ping more = simple_follows calls.Ping refl parts.Command more (packet_bytes packets.Ping)
+  commands_follow (calls.Begin opts) more = (refl, here)
+  commands_follow calls.Rollback more = (refl, here)
+  commands_follow calls.ForgetTransaction more = (refl, here)
   commands_follow calls.Reset more = simple_follows calls.Reset refl parts.Command more (packet_bytes packets.ResetConnection)
   commands_follow calls.Quit more =
       let talk : Talk = Silent terms (packet_bytes packets.Quit) in
@@ -309,6 +320,9 @@ module _ (login : Login) (p : Place) (n : ℕ) (arranged : connects_in (exchange
   runs_follow part params calls.SkipTaken more e = cc
   runs_follow part params calls.Ping more e = cc
   runs_follow part params calls.Reset more e = cc
+  runs_follow part params (calls.Begin opts) more e = cc
+  runs_follow part params calls.Rollback more e = cc
+  runs_follow part params calls.ForgetTransaction more e = cc
   runs_follow part params calls.Quit more e = cc
 
   keeps_follow : (text : List ℕ) (more : List CodePart) (st : Statements) (x : Option ℕ)
@@ -323,6 +337,14 @@ module _ (login : Login) (p : Place) (n : ℕ) (arranged : connects_in (exchange
   offers_follow : (part : CodePart) (more : List CodePart) (b : Bool) → TurnIs login (part ∷ more) (offers b s) (offered (map part_of more) p b)
   offers_follow part more true = (refl, here)
   offers_follow part more false = (refl, here)
+
+  undoes_follow : (call : Call) → is_connect (call_kind call) ≡ false → (more : List CodePart) (b : Bool) → TurnIs login (parts.Undo ∷ more) (undoes b s) (undone login call (map part_of more) p b)
+  undoes_follow call other more true = queries_follow call other parts.Undo more rollback_text
+  undoes_follow call other more false = (refl, here)
+
+  refuses_follow : (part : CodePart) (more : List CodePart) (x : Option DriverError) → TurnIs login (part ∷ more) (refuses x s) (unless_refused (map part_of more) p x)
+  refuses_follow part more None = (refl, here)
+  refuses_follow part more (Some e) = (refl, here)
 
   begins_follow : (call : Call) (left : List CodePart) → Suit call (map part_of left) → TurnIs login left (begins login call left s) (step_of login call (map part_of left) p)
   begins_follow call [] w = (refl, here)
@@ -355,7 +377,13 @@ module _ (login : Login) (p : Place) (n : ℕ) (arranged : connects_in (exchange
   begins_follow call (parts.Offered ∷ more) w = offers_follow parts.Offered more (can_reset (version_of (facts_at login p).version))
   begins_follow call (parts.Clear ∷ more) w = (refl, at_known login p n arranged fits same (cleared p.statements))
   begins_follow call (parts.Text text ∷ more) w = queries_follow call w.0 (parts.Text text) more text.now
+  begins_follow call (parts.Start opts place ∷ more) w = queries_follow call w.0 (parts.Start opts place) more (start_at opts.now place)
   begins_follow call (parts.Flag flag ∷ more) w = (refl, here)
+  begins_follow call (parts.Undo ∷ more) w = undoes_follow call w.0 more (is_given_up p.status)
+  begins_follow call (parts.Undone ∷ more) w = (refl, at_status login p n arranged fits same (rolled_back p.status))
+  begins_follow call (parts.Refuse opts ∷ more) w = refuses_follow (parts.Refuse opts) more (begin_refusal opts.now (version_of (facts_at login p).version) p.status)
+  begins_follow call (parts.Settle status ∷ more) w = (refl, at_status login p n arranged fits same status)
+  begins_follow call (parts.GiveUp ∷ more) w = (refl, at_status login p n arranged fits same (given_up p.status))
 
   -- while bytes are owed the call waits
   owing : (left : List CodePart) (x : Step) (bytes : List ℕ) (b : ℕ) (more : List ℕ) → bytes ≡ b ∷ more → TurnIs login left (turn (steps.Stops code_stops.Owes) s) (unless_owed bytes p x)

@@ -12,11 +12,12 @@ use Rattle.my_grammar.specs.Growth.{grow, replies, said, Grows, Reads}
 use Rattle.my_grammar.specs.Talk.{Talk, Start, Unwelcome, Greeted, Settled, Asked, Replied, Queried, Preparing, Silent, Server, turns, number_of, client_bytes, context_of, limit_of, Fits, login_in}
 use Rattle.my_reading.specs.Commands.{arranging_texts}
 use Rattle.my_reading.specs.declared.facts.Facts.{Facts}
+use Rattle.my_reading.specs.declared.transaction.TxStatus.{TxStatus}
 use Rattle.my_reading.specs.Facts.{facts_by}
-use Rattle.my_reading.specs.Place.{Place, exchanges, facts_at, facts_of, client_side, connects_in, with_bytes, with_end, without_end, with_statements, with_taken, with_talk, is_rows}
+use Rattle.my_reading.specs.Place.{Place, exchanges, facts_at, facts_of, client_side, connects_in, with_bytes, with_end, without_end, with_statements, with_status, with_taken, with_talk, is_rows}
 use Rattle.my_reading.specs.Statements.{Statements}
 use Rattle.my_judge.specs.declared.stand.Stand.{Stand}
-use Rattle.my_judge.specs.Stands.{IsAt, stand_of, heard, with_bytes as with_more, with_end as with_left, with_known, with_taken as with_mark}
+use Rattle.my_judge.specs.Stands.{IsAt, stand_of, heard, with_bytes as with_more, with_end as with_left, with_known, with_status as with_standing, with_taken as with_mark}
 
 pub limit_is : (t : Talk) → (context_of t).terms.limit ≡ limit_of t
 limit_is (Start login) = refl
@@ -32,13 +33,13 @@ limit_is (Silent terms c) = refl
 -- a stand whose fields are these
 same_stand : (login : Login) (p : Place) (n : ℕ) (c : Context) (m : ℕ) (f : Facts) (bytes : List ℕ) (mark : Bool)
     → c ≡ context_of p.talk → m ≡ number_of (turns p.talk) → f ≡ facts_at login p → bytes ≡ client_side (exchanges p) → mark ≡ p.taken
-    → (let s : Stand = record { context = c; number = m; facts = f; texts = arranging_texts login; arranged = n; end_left = p.end_left; taken = mark; statements = p.statements; unread = p.unread; said = bytes; sent = p.sent } in s) ≡ stand_of login p n
+    → (let s : Stand = record { context = c; number = m; facts = f; texts = arranging_texts login; arranged = n; end_left = p.end_left; taken = mark; statements = p.statements; status = p.status; unread = p.unread; said = bytes; sent = p.sent } in s) ≡ stand_of login p n
 same_stand login p n c m f bytes mark ec em ef eb ek =
-    ap (λ (x : Context). let s : Stand = record { context = x; number = m; facts = f; texts = arranging_texts login; arranged = n; end_left = p.end_left; taken = mark; statements = p.statements; unread = p.unread; said = bytes; sent = p.sent } in s) ec
-    ∙ ap (λ (x : ℕ). let s : Stand = record { context = context_of p.talk; number = x; facts = f; texts = arranging_texts login; arranged = n; end_left = p.end_left; taken = mark; statements = p.statements; unread = p.unread; said = bytes; sent = p.sent } in s) em
-    ∙ ap (λ (x : Facts). let s : Stand = record { context = context_of p.talk; number = number_of (turns p.talk); facts = x; texts = arranging_texts login; arranged = n; end_left = p.end_left; taken = mark; statements = p.statements; unread = p.unread; said = bytes; sent = p.sent } in s) ef
-    ∙ ap (λ (x : List ℕ). let s : Stand = record { context = context_of p.talk; number = number_of (turns p.talk); facts = facts_at login p; texts = arranging_texts login; arranged = n; end_left = p.end_left; taken = mark; statements = p.statements; unread = p.unread; said = x; sent = p.sent } in s) eb
-    ∙ ap (λ (x : Bool). let s : Stand = record { context = context_of p.talk; number = number_of (turns p.talk); facts = facts_at login p; texts = arranging_texts login; arranged = n; end_left = p.end_left; taken = x; statements = p.statements; unread = p.unread; said = client_side (exchanges p); sent = p.sent } in s) ek
+    ap (λ (x : Context). let s : Stand = record { context = x; number = m; facts = f; texts = arranging_texts login; arranged = n; end_left = p.end_left; taken = mark; statements = p.statements; status = p.status; unread = p.unread; said = bytes; sent = p.sent } in s) ec
+    ∙ ap (λ (x : ℕ). let s : Stand = record { context = context_of p.talk; number = x; facts = f; texts = arranging_texts login; arranged = n; end_left = p.end_left; taken = mark; statements = p.statements; status = p.status; unread = p.unread; said = bytes; sent = p.sent } in s) em
+    ∙ ap (λ (x : Facts). let s : Stand = record { context = context_of p.talk; number = number_of (turns p.talk); facts = x; texts = arranging_texts login; arranged = n; end_left = p.end_left; taken = mark; statements = p.statements; status = p.status; unread = p.unread; said = bytes; sent = p.sent } in s) ef
+    ∙ ap (λ (x : List ℕ). let s : Stand = record { context = context_of p.talk; number = number_of (turns p.talk); facts = facts_at login p; texts = arranging_texts login; arranged = n; end_left = p.end_left; taken = mark; statements = p.statements; status = p.status; unread = p.unread; said = x; sent = p.sent } in s) eb
+    ∙ ap (λ (x : Bool). let s : Stand = record { context = context_of p.talk; number = number_of (turns p.talk); facts = facts_at login p; texts = arranging_texts login; arranged = n; end_left = p.end_left; taken = x; statements = p.statements; status = p.status; unread = p.unread; said = client_side (exchanges p); sent = p.sent } in s) ek
 
 module _ (login : Login) (p : Place) (n : ℕ) (arranged : connects_in (exchanges p) ≡ suc n) (fits : Fits p.talk) (same : login_in login p.talk ≡ login) where
   pub at_here : IsAt login p (stand_of login p n)
@@ -58,6 +59,9 @@ module _ (login : Login) (p : Place) (n : ℕ) (arranged : connects_in (exchange
 
   pub at_known : (st : Statements) → IsAt login (with_statements st p) (with_known st (stand_of login p n))
   at_known st = record { stand_is = refl; arranged_is = arranged; fits = fits; login_is = same }
+
+  pub at_status : (status : TxStatus) → IsAt login (with_status status p) (with_standing status (stand_of login p n))
+  at_status status = record { stand_is = refl; arranged_is = arranged; fits = fits; login_is = same }
 
   -- a payload that fits is read
   pub at_heard : (payload rest : List ℕ) (next : ℕ) → front_of p.talk p.unread ≡ Whole payload rest next → is_bad (kind_of p.talk payload) ≡ false

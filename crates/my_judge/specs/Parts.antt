@@ -1,8 +1,15 @@
 -- The parts of a call in the program.
-use Rattle.std.specs.Prelude.{ℕ, List, [], ◌∷◌, reverse, true}
-use Rattle.my_reading.specs.Course.{Part, All, Head, Item, Set, Rest, Command, Find, Check, Run, Reply, Keep, Give, Learn, Forget, Offered, Clear, Text, Flag, parts_of_queries, parts_of_texts}
+use Rattle.std.specs.Prelude.{ℕ, List, [], ◌∷◌, get_or, reverse, true}
+use Rattle.my_opts_parts.specs.TransactionOptions.{TxView}
+use Rattle.my_reading.specs.declared.transaction.TxStatus.TheVariants as txs
+use Rattle.my_reading.specs.Course.{Part, All, Head, Item, Set, Rest, Command, Find, Check, Run, Reply, Keep, Give, Learn, Forget, Offered, Clear, Text, Flag, Undo, Undone, Refuse, Settle, GiveUp, clean, parts_of_queries, parts_of_texts}
+use Rattle.my_reading.specs.Transactions.{begin_texts}
 use Rattle.my_judge.specs.declared.part.Part.{Part as CodePart}
 use Rattle.my_judge.specs.declared.part.Part.TheVariants as parts
+
+-- the query that begins such a transaction after as many others
+abbrev pub start_at : TxView → ℕ → List ℕ
+start_at opts place = get_or (begin_texts opts) place []
 
 abbrev pub part_of : CodePart → Part
 part_of parts.All = All
@@ -22,7 +29,13 @@ part_of parts.Forget = Forget
 part_of parts.Offered = Offered
 part_of parts.Clear = Clear
 part_of (parts.Text text) = Text text.now
+part_of (parts.Start opts place) = Text (start_at opts.now place)
 part_of (parts.Flag flag) = Flag flag
+part_of parts.Undo = Undo
+part_of parts.Undone = Undone
+part_of (parts.Refuse opts) = Refuse opts.now
+part_of (parts.Settle status) = Settle status
+part_of parts.GiveUp = GiveUp
 
 -- connecting, with these queries that set the connection up
 abbrev pub connecting_parts : List (List ℕ) → List Part
@@ -30,4 +43,8 @@ connecting_parts texts = All ∷ parts_of_texts texts
 
 -- a reset, after which these queries are sent from the last to the first
 abbrev pub reset_parts : List (List ℕ) → List Part
-reset_parts setup = Offered ∷ All ∷ Command ∷ All ∷ Clear ∷ parts_of_queries (reverse setup) (Flag true ∷ [])
+reset_parts setup = Offered ∷ clean (Command ∷ All ∷ Clear ∷ parts_of_queries (reverse setup) (Flag true ∷ []))
+
+-- the beginning of a transaction
+abbrev pub begin_parts : TxView → List Part
+begin_parts opts = clean (Refuse opts ∷ parts_of_queries (begin_texts opts) (Settle txs.InTransaction ∷ []))

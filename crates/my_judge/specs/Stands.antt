@@ -31,8 +31,10 @@ use Rattle.my_grammar.specs.Talk.{turns, number_of, commands_bytes, context_of, 
 use Rattle.my_reading.specs.declared.answer.Answer.TheVariants as answers
 use Rattle.my_reading.specs.declared.call.Call.{Call}
 use Rattle.my_reading.specs.declared.call.Call.TheVariants as calls
+use Rattle.my_reading.specs.declared.error.DriverError.{DriverError}
 use Rattle.my_reading.specs.declared.error.Error.{Error}
 use Rattle.my_reading.specs.declared.error.Error.TheVariants as errors
+use Rattle.my_reading.specs.declared.transaction.TxStatus.{TxStatus}
 use Rattle.my_reading.specs.Commands.{arranging_texts}
 use Rattle.my_reading.specs.Calls.{id_in, text_in}
 use Rattle.my_reading.specs.Course.{first_above, is_greeting, is_rows}
@@ -42,11 +44,13 @@ use Rattle.my_reading.specs.Errors.{codec_error, invalid_data, mixed_params, ser
 use Rattle.my_reading.specs.Facts.{facts_after, prepared_by}
 use Rattle.my_reading.specs.Place.{Place, exchanges, facts_at, client_side, connects_in}
 use Rattle.my_reading.specs.Rows.{row_of}
+use Rattle.my_reading.specs.Transactions.{begin_refusal, given_up, is_given_up, rollback_text, rolled_back}
 use Rattle.my_reading.specs.Versions.{can_reset}
 use Rattle.my_judge.specs.declared.part.Part.{Part}
 use Rattle.my_judge.specs.declared.part.Part.TheVariants as parts
 use Rattle.my_judge.specs.declared.stand.Stand.{Stand}
 use Rattle.my_judge.specs.declared.step.Step.{Step}
+use Rattle.my_judge.specs.Parts.{start_at}
 use Rattle.my_judge.specs.declared.step.Step.TheVariants.{Stays, Passes, Stops}
 use Rattle.my_judge.specs.declared.step.Stop.TheVariants.{Owes, Awaits, Returns}
 use Rattle.my_judge.specs.declared.tape.Ending.TheVariants.{Answered, Failed}
@@ -62,6 +66,7 @@ stand_of login p n = record {
   end_left = p.end_left;
   taken = p.taken;
   statements = p.statements;
+  status = p.status;
   unread = p.unread;
   said = client_side (exchanges p);
   sent = p.sent;
@@ -85,6 +90,7 @@ with_bytes sent taken s = record {
   end_left = s.end_left;
   taken = s.taken;
   statements = s.statements;
+  status = s.status;
   unread = s.unread ++ taken;
   said = s.said;
   sent = s.sent ++ sent;
@@ -101,6 +107,7 @@ with_end left s = record {
   end_left = left;
   taken = s.taken;
   statements = s.statements;
+  status = s.status;
   unread = s.unread;
   said = s.said;
   sent = s.sent;
@@ -117,6 +124,7 @@ with_taken s = record {
   end_left = s.end_left;
   taken = true;
   statements = s.statements;
+  status = s.status;
   unread = s.unread;
   said = s.said;
   sent = s.sent;
@@ -133,6 +141,24 @@ with_known st s = record {
   end_left = s.end_left;
   taken = s.taken;
   statements = st;
+  status = s.status;
+  unread = s.unread;
+  said = s.said;
+  sent = s.sent;
+}
+
+-- the transaction stands so
+abbrev pub with_status : TxStatus → Stand → Stand
+with_status status s = record {
+  context = s.context;
+  number = s.number;
+  facts = s.facts;
+  texts = s.texts;
+  arranged = s.arranged;
+  end_left = s.end_left;
+  taken = s.taken;
+  statements = s.statements;
+  status = status;
   unread = s.unread;
   said = s.said;
   sent = s.sent;
@@ -149,6 +175,7 @@ heard login k payload rest s = record {
   end_left = false;
   taken = s.taken && is_rows (context_after s.context k).spot;
   statements = s.statements;
+  status = s.status;
   unread = rest;
   said = s.said ++ said login k payload s.number;
   sent = s.sent;
@@ -165,6 +192,7 @@ asked spot command arranged s = record {
   end_left = false;
   taken = false;
   statements = s.statements;
+  status = s.status;
   unread = s.unread;
   said = s.said ++ chunks command 0;
   sent = s.sent;
@@ -181,6 +209,7 @@ executed ahead command s = record {
   end_left = false;
   taken = false;
   statements = s.statements;
+  status = s.status;
   unread = s.unread;
   said = (s.said ++ commands_bytes ahead) ++ chunks command 0;
   sent = s.sent;
@@ -307,6 +336,9 @@ commands calls.TakeSet s = turn Passes s
 commands calls.SkipTaken s = turn Passes s
 commands calls.Ping s = asks spots.Single (packet_bytes packets.Ping) s.arranged s
 commands calls.Reset s = asks spots.Single (packet_bytes packets.ResetConnection) s.arranged s
+commands (calls.Begin opts) s = turn Passes s
+commands calls.Rollback s = turn Passes s
+commands calls.ForgetTransaction s = turn Passes s
 commands calls.Quit s = asks spots.Idle (packet_bytes packets.Quit) s.arranged s
 
 -- a statement that is cached is returned
@@ -353,6 +385,16 @@ abbrev pub offers : Bool → Stand → Turn
 offers true s = turn Passes s
 offers false s = turn (Stops (Returns (Answered (answers.Flag false)))) s
 
+-- a transaction that was given up is rolled back
+abbrev pub undoes : Bool → Stand → Turn
+undoes true s = queries rollback_text s
+undoes false s = turn Passes s
+
+-- a transaction isn't begun
+abbrev pub refuses : Option DriverError → Stand → Turn
+refuses None s = turn Passes s
+refuses (Some e) s = turn (failure (errors.Driver e)) s
+
 -- the first part, where nothing is owed
 abbrev pub begins : Login → Call → List Part → Stand → Turn
 begins login call [] s = turn (Stops (Returns (Answered answers.Ready))) s
@@ -385,7 +427,13 @@ begins login call (parts.Forget ∷ more) s = turn Passes (with_known (without_s
 begins login call (parts.Offered ∷ more) s = offers (can_reset (version_of s.facts.version)) s
 begins login call (parts.Clear ∷ more) s = turn Passes (with_known (cleared s.statements) s)
 begins login call (parts.Text text ∷ more) s = queries text.now s
+begins login call (parts.Start opts place ∷ more) s = queries (start_at opts.now place) s
 begins login call (parts.Flag flag ∷ more) s = turn (Stops (Returns (Answered (answers.Flag flag)))) s
+begins login call (parts.Undo ∷ more) s = undoes (is_given_up s.status) s
+begins login call (parts.Undone ∷ more) s = turn Passes (with_status (rolled_back s.status) s)
+begins login call (parts.Refuse opts ∷ more) s = refuses (begin_refusal opts.now (version_of s.facts.version) s.status) s
+begins login call (parts.Settle status ∷ more) s = turn Passes (with_status status s)
+begins login call (parts.GiveUp ∷ more) s = turn Passes (with_status (given_up s.status) s)
 
 -- a step of a call with these parts
 abbrev pub steps : Login → Call → List Part → Stand → Turn

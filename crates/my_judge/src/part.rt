@@ -1,14 +1,15 @@
 //! The parts of a call.
 
-ghost use Rattle.std.specs.Prelude.{◌≡◌, IfOk, drop, map};
+ghost use Rattle.std.specs.Prelude.{◌≡◌, ◌++◌, IfOk, OnOk, drop, map};
 ghost use Rattle.my_reading.specs.Commands.{arranging_texts};
-ghost use Rattle.my_reading.specs.Course.{parts_of, parts_of_lists};
-ghost use Rattle.my_judge.specs.Parts.{connecting_parts, part_of, reset_parts};
+ghost use Rattle.my_reading.specs.Course.{clean, parts_of, parts_of_batch, parts_of_lists};
+ghost use Rattle.my_judge.specs.Parts.{begin_parts, connecting_parts, part_of, reset_parts};
 
 use my_frame::{Blob, NoMemory};
 use my_grammar::Login;
+use my_opts_parts::TxOpts;
 use my_params::Params;
-use my_reading::Call;
+use my_reading::{Call, TxStatus, begin_text};
 use std::alloc::Global;
 
 /// A part of a call.
@@ -48,8 +49,36 @@ pub enum Part<'a> {
     Clear,
     /// This query of the client's own is sent.
     Text(&'a Blob),
+    /// The query is sent that begins such a transaction after as many others.
+    Start(&'a TxOpts, usize),
     /// This flag is returned.
     Flag(bool),
+    /// A transaction that was given up is rolled back.
+    Undo,
+    /// Then there is none.
+    Undone,
+    /// A transaction that may not begin so is refused.
+    Refuse(&'a TxOpts),
+    /// The transaction stands so from now on.
+    Settle(TxStatus),
+    /// It is given up.
+    GiveUp,
+}
+
+// These parts come first, and those follow once the call has cleaned.
+fn cleaned<'a>(
+    alloc: Global,
+    first: &[Part<'a>],
+    then: &[Part<'a>],
+) -> Result<Vec<Part<'a>>, NoMemory>
+    ensures { IfOk result (λ parts.
+        map part_of parts.items ≡ map part_of first.now ++ clean (map part_of then.now)) }
+{
+    let mut parts = Vec::new(alloc);
+    parts.extend_from_slice(first)?;
+    parts.extend_from_slice(&[Part::All, Part::Undo, Part::All, Part::Undone])?;
+    parts.extend_from_slice(then)?;
+    Ok(parts)
 }
 
 // The parts of connecting, with these queries that set the connection up.
@@ -65,19 +94,37 @@ fn connecting_parts<'a>(alloc: Global, texts: &[Blob]) -> Result<Vec<Part<'a>>, 
     Ok(parts)
 }
 
-// The parts of a batch with these lists of parameters.
-fn parts_of_lists(alloc: Global, lists: &[Params]) -> Result<Vec<Part<'_>>, NoMemory>
-    ensures { IfOk result (λ parts. map part_of parts.items ≡ parts_of_lists lists.now) }
+// Adds the parts of a batch with these further lists of parameters.
+fn add_lists<'a>(parts: &mut Vec<Part<'a>>, lists: &'a [Params]) -> Result<(), NoMemory>
+    ensures { let before = map part_of parts.old.items in
+        OnOk result (map part_of parts.new.items ≡ before ++ parts_of_lists lists.now) }
 {
-    let mut parts = Vec::new(alloc);
     for params in lists {
-        parts.push(Part::Check(params))?;
-        parts.push(Part::All)?;
-        parts.push(Part::Run(params))?;
-        parts.push(Part::Head)?;
-        parts.push(Part::Learn)?;
-        parts.push(Part::All)?;
+        parts.extend_from_slice(&[
+            Part::Check(params),
+            Part::All,
+            Part::Run(params),
+            Part::Head,
+            Part::Learn,
+            Part::All,
+        ])?;
     }
+    Ok(())
+}
+
+// The parts of a batch with these lists of parameters.
+fn parts_of_batch(alloc: Global, lists: &[Params]) -> Result<Vec<Part<'_>>, NoMemory>
+    ensures { IfOk result (λ parts. map part_of parts.items ≡ parts_of_batch lists.now) }
+{
+    let Some((params, after)) = lists.split_first() else {
+        return Ok(Vec::new(alloc));
+    };
+    let mut parts = cleaned(
+        alloc,
+        &[Part::Check(params)],
+        &[Part::Run(params), Part::Head, Part::Learn, Part::All],
+    )?;
+    add_lists(&mut parts, after)?;
     Ok(parts)
 }
 
@@ -85,13 +132,11 @@ fn parts_of_lists(alloc: Global, lists: &[Params]) -> Result<Vec<Part<'_>>, NoMe
 fn parts_of_reset(alloc: Global, setup: &[Blob]) -> Result<Vec<Part<'_>>, NoMemory>
     ensures { IfOk result (λ parts. map part_of parts.items ≡ reset_parts setup.now) }
 {
-    let mut parts = vec![in alloc;
-        Part::Offered,
-        Part::All,
-        Part::Command,
-        Part::All,
-        Part::Clear,
-    ]?;
+    let mut parts = cleaned(
+        alloc,
+        &[Part::Offered],
+        &[Part::Command, Part::All, Part::Clear],
+    )?;
     let mut left = setup;
     'texts: while let Some((text, before)) = left.split_last() {
         parts.push(Part::All)?;
@@ -100,6 +145,22 @@ fn parts_of_reset(alloc: Global, setup: &[Blob]) -> Result<Vec<Part<'_>>, NoMemo
     }
     parts.push(Part::All)?;
     parts.push(Part::Flag(true))?;
+    Ok(parts)
+}
+
+// The parts of the beginning of such a transaction.
+fn parts_of_begin(alloc: Global, opts: &TxOpts) -> Result<Vec<Part<'_>>, NoMemory>
+    ensures { IfOk result (λ parts. map part_of parts.items ≡ begin_parts opts.now) }
+{
+    let mut parts = cleaned(alloc, &[], &[Part::Refuse(opts)])?;
+    let mut place = 0;
+    'texts: while begin_text(*opts, place).is_some() {
+        parts.push(Part::All)?;
+        parts.push(Part::Start(opts, place))?;
+        place += 1;
+    }
+    parts.push(Part::All)?;
+    parts.push(Part::Settle(TxStatus::InTransaction))?;
     Ok(parts)
 }
 
@@ -115,31 +176,29 @@ pub fn parts_of<'a>(
 {
     match call {
         Call::Connect => connecting_parts(alloc, texts),
-        Call::Query(_) => Ok(vec![in alloc; Part::All, Part::Command, Part::Head]?),
-        Call::Prepare(_) => Ok(vec![in alloc;
-            Part::Find,
-            Part::All,
-            Part::Command,
-            Part::Reply,
-            Part::Keep,
-            Part::Give,
-        ]?),
-        Call::Execute(_, params) => Ok(vec![in alloc;
-            Part::Check(params),
-            Part::All,
-            Part::Command,
-            Part::Head,
-            Part::Learn,
-        ]?),
-        Call::Batch(_, lists) => parts_of_lists(alloc, lists.as_slice()),
-        Call::CloseStmt(_) => Ok(vec![in alloc; Part::Forget, Part::All, Part::Command]?),
+        Call::Query(_) => cleaned(alloc, &[], &[Part::Command, Part::Head]),
+        Call::Prepare(_) => cleaned(
+            alloc,
+            &[Part::Find],
+            &[Part::Command, Part::Reply, Part::Keep, Part::Give],
+        ),
+        Call::Execute(_, params) => cleaned(
+            alloc,
+            &[Part::Check(params)],
+            &[Part::Command, Part::Head, Part::Learn],
+        ),
+        Call::Batch(_, lists) => parts_of_batch(alloc, lists.as_slice()),
+        Call::CloseStmt(_) => cleaned(alloc, &[Part::Forget], &[Part::Command]),
         Call::NextRow => Ok(vec![in alloc; Part::Item]?),
         Call::DropResult => Ok(vec![in alloc; Part::All]?),
         Call::TakeSet => Ok(vec![in alloc; Part::Set]?),
         Call::SkipTaken => Ok(vec![in alloc; Part::Rest]?),
-        Call::Ping => Ok(vec![in alloc; Part::All, Part::Command, Part::All]?),
+        Call::Ping => cleaned(alloc, &[], &[Part::Command, Part::All]),
         Call::Reset => parts_of_reset(alloc, login.setup.as_slice()),
-        Call::Quit => Ok(vec![in alloc; Part::All, Part::Command]?),
+        Call::Begin(opts) => parts_of_begin(alloc, opts),
+        Call::Rollback => cleaned(alloc, &[Part::Settle(TxStatus::RequiresRollback)], &[]),
+        Call::ForgetTransaction => Ok(vec![in alloc; Part::GiveUp]?),
+        Call::Quit => cleaned(alloc, &[], &[Part::Command]),
     }
 }
 

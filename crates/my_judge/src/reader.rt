@@ -2,12 +2,12 @@
 
 ghost use Rattle.std.specs.Prelude.{◌≡◌, ◌&&◌, ◌||◌, IfOk, map, not};
 ghost use Rattle.std.specs.Option.{option_map};
-ghost use Rattle.my_reading.specs.Calls.{is_connect, is_quit, kind_of};
+ghost use Rattle.my_reading.specs.Calls.{is_connect, is_quit, is_unrefused, kind_of};
 ghost use Rattle.my_reading.specs.Commands.{arranging_texts};
 ghost use Rattle.my_reading.specs.Endings.{is_empty};
 ghost use Rattle.my_reading.specs.Reading.{closed_answer, is_closing};
 ghost use Rattle.my_reading.specs.Tape.{between, sent_to, taken_to};
-ghost use Rattle.my_reading.specs.Told.{closes, closes_by};
+ghost use Rattle.my_reading.specs.Told.{closes, closes_by, closes_driver};
 ghost use Rattle.my_judge.specs.Reads.{IsRead, IsTaken, StopIs, may_stand, span_of, with_span};
 ghost use Rattle.my_judge.specs.Settled.{IsSettled, span_with};
 ghost use Rattle.my_judge.specs.Stands.{with_bytes};
@@ -28,13 +28,24 @@ pub struct Reader {
     pub closed: bool,
 }
 
+// Whether the call has nothing to do on a closed connection.
+fn is_unrefused(kind: CallKind) -> bool
+    ensures { result ≡ is_unrefused kind }
+{
+    match kind {
+        CallKind::Quit | CallKind::ForgetTransaction => true,
+        _ => false,
+    }
+}
+
 // What a call on a closed connection returns.
 fn closed_answer(call: &Call) -> Ending
     ensures { told_of result ≡ closed_answer call.now }
 {
-    match call {
-        Call::Quit => Ending::Answered(Answer::Ready),
-        _ => Ending::Failed(Error::Driver(DriverError::ConnectionClosed)),
+    if is_unrefused(call.kind()) {
+        Ending::Answered(Answer::Ready)
+    } else {
+        Ending::Failed(Error::Driver(DriverError::ConnectionClosed))
     }
 }
 
@@ -56,13 +67,26 @@ fn is_connect(kind: CallKind) -> bool
     }
 }
 
+// Whether the refusal closes a connection.
+fn closes_driver(refusal: &DriverError) -> bool
+    ensures { result ≡ closes_driver refusal.now }
+{
+    match refusal {
+        DriverError::ConnectionClosed
+        | DriverError::MixedParams
+        | DriverError::NestedTransaction
+        | DriverError::ReadOnlyTransNotSupported => false,
+        _ => true,
+    }
+}
+
 // Whether the error closes a connection.
 fn closes_by(error: &Error, kind: CallKind) -> bool
     ensures { result ≡ closes_by error.now kind }
 {
     match error {
-        Error::Driver(DriverError::ConnectionClosed | DriverError::MixedParams) => false,
-        Error::Driver(_) | Error::Io(_) | Error::Url(_) | Error::Other(_) | Error::NoMemory => true,
+        Error::Driver(refusal) => closes_driver(refusal),
+        Error::Io(_) | Error::Url(_) | Error::Other(_) | Error::NoMemory => true,
         Error::Server(_) => is_connect(kind),
     }
 }

@@ -10,12 +10,13 @@ mod ending;
 mod preparing;
 mod reading;
 mod stepping;
+mod transacting;
 
 use crate::texts::arranging_texts;
 pub use ending::is_same_row;
 use my_frame::{Blob, Listed, NoMemory};
 use my_grammar::{Context, Login, Queue};
-use my_reading::{Facts, Statements};
+use my_reading::{Facts, Statements, TxStatus};
 use std::alloc::Global;
 
 /// Where the reading stands.
@@ -37,6 +38,8 @@ pub struct Stand {
     pub taken: bool,
     /// The prepared statements that are known.
     pub statements: Statements,
+    /// Whether the server has a transaction.
+    pub status: TxStatus,
     /// Bytes that were received and not read.
     pub unread: Queue,
     /// What the client says in the exchanges.
@@ -75,6 +78,7 @@ impl Stand {
             end_left: false,
             taken: false,
             statements,
+            status: TxStatus::None,
             unread: Queue::new(alloc),
             said: Queue::new(alloc),
             sent: Queue::new(alloc),

@@ -18,14 +18,17 @@ use Rattle.my_grammar.proofs.Cutting.Fronts.{takes_whole}
 use Rattle.my_reading.specs.declared.call.Call.{Call}
 use Rattle.my_reading.specs.declared.facts.Facts.{Facts}
 use Rattle.my_reading.specs.Calls.{id_in, statement_in}
-use Rattle.my_reading.specs.Commands.{execution}
-use Rattle.my_reading.specs.Course.{Part, All, Head, Command, Check, Run, Learn, Step, Goes, Stops, Stop, Returns, step, step_of, unless_owed, unless_long, reads, with_front, after_payload, after_kind, after_err, unfit, unless_cached, with_command, first_above, checked, executed, learned, is_greeting, is_rows}
+use Rattle.my_reading.specs.declared.transaction.TxStatus.{TxStatus}
+use Rattle.my_reading.specs.declared.transaction.TxStatus.TheVariants as txs
+use Rattle.my_reading.specs.Commands.{execution, queried}
+use Rattle.my_reading.specs.Course.{Part, All, Head, Command, Check, Run, Learn, Undo, Undone, Step, Goes, Stops, Stop, Returns, step, step_of, unless_owed, unless_long, reads, with_front, after_payload, after_kind, after_err, unfit, unless_cached, with_command, first_above, checked, executed, learned, undone, is_greeting, is_rows}
 use Rattle.my_reading.specs.Errors.{invalid_data}
 use Rattle.my_reading.specs.Executions.{Values, Fitting, Unfitting, values_for}
 use Rattle.my_reading.specs.Facts.{facts_by}
 use Rattle.my_reading.specs.Place.{Exchange, Place, client_side, exchanges, facts_at, facts_of, next_exchange, owed, terms_of, with_exchange, with_statements, with_talk, without_end}
 use Rattle.my_reading.specs.Statements.{Statements, is_cached, with_columns}
 use Rattle.my_reading.specs.Told.{Told, ToldReady, ToldError}
+use Rattle.my_reading.specs.Transactions.{is_given_up, rollback_text, rolled_back}
 use Rattle.statement_laws.specs.Batches.{AlikePlaces}
 
 -- a step that goes on leaves less of this
@@ -40,15 +43,30 @@ size parts p = suc (length p.unread + 2 * length parts + weight p.end_left)
 pub data Pair (c d : Call) : Part → Part → Type 0 where
   BothAll : Pair c d All All
   BothHead : Pair c d Head Head
+  BothUndo : Pair c d Undo Undo
   BothLearn : id_in c ≡ id_in d → Pair c d Learn Learn
   BothCheck : (params : Params) → statement_in c ≡ statement_in d → Pair c d (Check params) (Check params)
   BothRun : (params : Params) → statement_in c ≡ statement_in d → id_in c ≡ id_in d → Pair c d (Run params) (Run params)
   Sent : (params : Params) → ((login : Login) (p : Place) → next_exchange login c p ≡ executed login d p params) → Pair c d Command (Run params)
 
--- after the parts of the first call these are left of the second one
-pub data Pairs (c d : Call) (tail : List Part) : List Part → List Part → Type 0 where
-  End : Pairs c d tail [] tail
-  More : (x y : Part) (xs ys : List Part) → Pair c d x y → Pairs c d tail xs ys → Pairs c d tail (x ∷ xs) (y ∷ ys)
+-- After the parts of the first call these are left of the second one. Where both clean no transaction is given up afterwards; from then on the
+-- first call may clean where the second one doesn't.
+pub data Pairs (c d : Call) (tail : List Part) : Bool → List Part → List Part → Type 0 where
+  End : Pairs c d tail true [] tail
+  More : (calm : Bool) (x y : Part) (xs ys : List Part) → Pair c d x y → Pairs c d tail calm xs ys → Pairs c d tail calm (x ∷ xs) (y ∷ ys)
+  Calms : (xs ys : List Part) → Pairs c d tail true xs ys → Pairs c d tail false (Undone ∷ xs) (Undone ∷ ys)
+  Alone : (xs ys : List Part) → Pairs c d tail true xs ys → Pairs c d tail true (All ∷ Undo ∷ All ∷ Undone ∷ xs) (All ∷ ys)
+
+-- no transaction is given up, where that is known
+abbrev pub Calm : Bool → TxStatus → Type 0
+Calm true status = is_given_up status ≡ false
+Calm false status = Unit {0}
+
+-- The parts at the first call's place: its cleaning is left where nothing is left to be read.
+pub data Placed (c d : Call) (tail : List Part) (p : Place) : List Part → List Part → Type 0 where
+  Paired : (calm : Bool) (xs ys : List Part) → Pairs c d tail calm xs ys → Calm calm p.status → Placed c d tail p xs ys
+  Resting : (xs ys : List Part) → Pairs c d tail true xs ys → p.end_left ≡ false → is_over p.talk ≡ true → is_given_up p.status ≡ false
+      → Placed c d tail p (Undo ∷ All ∷ Undone ∷ xs) ys
 
 abbrev pub is_ready : Stop → Bool
 is_ready (Returns ToldReady) = true
@@ -57,7 +75,7 @@ is_ready s = false
 -- a step of each, where both go on with less or stop alike, but for the first call's end
 module _ (c d : Call) (tail : List Part) where
   abbrev pub Beside : ℕ → Step → Step → Type 0
-  Beside n (Goes xs p) (Goes ys q) = Pairs c d tail xs ys × AlikePlaces q p × (size xs p < n)
+  Beside n (Goes xs p) (Goes ys q) = Placed c d tail p xs ys × AlikePlaces q p × (size xs p < n)
   Beside n (Goes xs p) (Stops q t) = ⊥
   Beside n (Stops p s) (Goes ys q) = ⊥
   Beside n (Stops p s) (Stops q t) = AlikePlaces q p × (t ≡ s) × (is_ready s ≡ false)
@@ -85,9 +103,15 @@ side_same (x ∷ a) (y ∷ b) e =
     let more : map (λ (e : Exchange). e.talk) a ≡ map (λ (e : Exchange). e.talk) b = cc in
     ap (λ t. client_side a ++ client_bytes (turns t)) first ∙ ap (λ bytes. bytes ++ client_bytes (turns y.talk)) (side_same a b more)
 
+-- a transaction that was given up isn't so any more once it was rolled back
+pub is_calm : (status : TxStatus) → is_given_up (rolled_back status) ≡ false
+is_calm txs.None = refl
+is_calm txs.InTransaction = refl
+is_calm txs.RequiresRollback = refl
+
 -- a place with other calls
 abbrev pub placed : Call → List Exchange → Place → Place
-placed call older p = record { call = call; talk = p.talk; older = older; end_left = p.end_left; taken = p.taken; statements = p.statements; unread = p.unread; sent = p.sent }
+placed call older p = record { call = call; talk = p.talk; older = older; end_left = p.end_left; taken = p.taken; statements = p.statements; status = p.status; unread = p.unread; sent = p.sent }
 
 module _ (login : Login) (c d : Call) (tail : List Part) (p : Place) (call : Call) (older : List Exchange) (same : map (λ (e : Exchange). e.talk) older ≡ map (λ (e : Exchange). e.talk) p.older) where
   abbrev q : Place
@@ -107,7 +131,7 @@ module _ (login : Login) (c d : Call) (tail : List Part) (p : Place) (call : Cal
 
   -- places with the same exchanges
   like : (r : Place) → r.older ≡ p.older → AlikePlaces (placed call older r) r
-  like r e = record { talk = refl; older = same ∙ ap (map (λ (e : Exchange). e.talk)) (sym e); end_left = refl; taken = refl; statements = refl; unread = refl; sent = refl }
+  like r e = record { talk = refl; older = same ∙ ap (map (λ (e : Exchange). e.talk)) (sym e); end_left = refl; taken = refl; statements = refl; status = refl; unread = refl; sent = refl }
 
   here : AlikePlaces q p
   here = like p refl
@@ -116,7 +140,7 @@ module _ (login : Login) (c d : Call) (tail : List Part) (p : Place) (call : Cal
   unfit_beside n = (here, ap (λ (f : Facts). Returns (ToldError (invalid_data f.place))) facts_are, refl)
 
   -- a payload that is read
-  module _ (part : Part) (xs ys : List Part) (pair : Pair c d part part) (pairs : Pairs c d tail xs ys) (payload rest : List ℕ) (shorter : length rest < length p.unread) where
+  module _ (part : Part) (xs ys : List Part) (payload rest : List ℕ) (stays : (k : Kind) → Placed c d tail (with_talk p (grow k p.talk payload) rest) (part ∷ xs) (part ∷ ys)) (shorter : length rest < length p.unread) where
     abbrev most : ℕ
     most = size (part ∷ xs) p
 
@@ -124,7 +148,7 @@ module _ (login : Login) (c d : Call) (tail : List Part) (p : Place) (call : Cal
     new k = with_talk p (grow k p.talk payload) rest
 
     again : (k : Kind) → Steps most (Goes (part ∷ xs) (new k)) (Goes (part ∷ ys) (with_talk q (grow k p.talk payload) rest))
-    again k = (More part part xs ys pair pairs, like (new k) refl, omega (arith, shorter))
+    again k = (stays k, like (new k) refl, omega (arith, shorter))
 
     err_beside : (o : Option ErrPacket) → Steps most (after_err login p (new kinds.Failed) o) (after_err login q (with_talk q (grow kinds.Failed p.talk payload) rest) o)
     err_beside None = unfit_beside most
@@ -149,116 +173,146 @@ module _ (login : Login) (c d : Call) (tail : List Part) (p : Place) (call : Cal
     payload_beside by_kind kinds.Parameter = by_kind kinds.Parameter _ _
     payload_beside by_kind kinds.Field = by_kind kinds.Field _ _
 
-  reads_beside : (part : Part) (xs ys : List Part) → Pair c d part part → Pairs c d tail xs ys
+  reads_beside : (part : Part) (xs ys : List Part) → ((k : Kind) (payload rest : List ℕ) → Placed c d tail (with_talk p (grow k p.talk payload) rest) (part ∷ xs) (part ∷ ys))
       → ((k : Kind) (payload rest : List ℕ) (row other : Told) → length rest < length p.unread
       → Steps (size (part ∷ xs) p) (after_kind part xs k (with_talk p (grow k p.talk payload) rest) row) (after_kind part ys k (with_talk q (grow k p.talk payload) rest) other))
       → Steps (size (part ∷ xs) p) (reads login part xs p) (reads login part ys q)
-  reads_beside part xs ys pair pairs by_kind = by_front (front_of p.talk p.unread) refl
+  reads_beside part xs ys stays by_kind = by_front (front_of p.talk p.unread) refl
     where
       by_front : (x : Front) → front_of p.talk p.unread ≡ x → Steps (size (part ∷ xs) p) (with_front login part xs p x) (with_front login part ys q x)
       by_front Waiting e = (here, refl, refl)
       by_front (Broken fault) e = (here, refl, refl)
       by_front (Whole payload rest next) e =
           let shorter : length rest < length p.unread = (takes_whole (number_of (turns p.talk)) (limit_of p.talk) p.unread payload rest next e).shorter in
-          payload_beside part xs ys pair pairs payload rest shorter (λ k row other. by_kind k payload rest row other shorter) (kind_of p.talk payload)
+          payload_beside part xs ys payload rest (λ k. stays k payload rest) shorter (λ k row other. by_kind k payload rest row other shorter) (kind_of p.talk payload)
 
-  all_kind : (xs ys : List Part) → Pairs c d tail xs ys → (k : Kind) (payload rest : List ℕ) (row other : Told) → length rest < length p.unread
-      → Steps (size (All ∷ xs) p) (after_kind All xs k (with_talk p (grow k p.talk payload) rest) row) (after_kind All ys k (with_talk q (grow k p.talk payload) rest) other)
-  all_kind xs ys pairs k payload rest row other shorter =
-      (More All All xs ys BothAll pairs, like (with_talk p (grow k p.talk payload) rest) refl, omega (arith, shorter))
+  all_kind : (xs ys : List Part) → ((k : Kind) (payload rest : List ℕ) → Placed c d tail (with_talk p (grow k p.talk payload) rest) (All ∷ xs) (All ∷ ys))
+      → (k : Kind) (payload rest : List ℕ) (row other : Told) → length rest < length p.unread → Steps (size (All ∷ xs) p) (after_kind All xs k (with_talk p (grow k p.talk payload) rest) row) (after_kind All ys k (with_talk q (grow k p.talk payload) rest) other)
+  all_kind xs ys stays k payload rest row other shorter = (stays k payload rest, like (with_talk p (grow k p.talk payload) rest) refl, omega (arith, shorter))
 
-  head_kind : (xs ys : List Part) → Pairs c d tail xs ys → (k : Kind) (payload rest : List ℕ) (row other : Told) → length rest < length p.unread
-      → Steps (size (Head ∷ xs) p) (after_kind Head xs k (with_talk p (grow k p.talk payload) rest) row) (after_kind Head ys k (with_talk q (grow k p.talk payload) rest) other)
-  head_kind xs ys pairs (kinds.Good status) payload rest row other shorter =
-      (pairs, record { talk = refl; older = same; end_left = refl; taken = refl; statements = refl; unread = refl; sent = refl }, omega (arith, shorter))
-  head_kind xs ys pairs k payload rest row other shorter =
-      (More Head Head xs ys BothHead pairs, like (with_talk p (grow k p.talk payload) rest) refl, omega (arith, shorter))
-
-  -- a command that is sent
-  long_beside : (xs ys : List Part) → Pairs c d tail xs ys → (n : ℕ) → size xs p < n → (t : Talk) (o : Option ℕ)
-      → Steps n (unless_long p (limit_of t) o (Goes xs (with_exchange p c t))) (unless_long q (limit_of t) o (Goes ys (with_exchange q d t)))
-  long_beside xs ys pairs n less t None =
-      (pairs, record { talk = refl; older = ap (λ ts. p.talk ∷ ts) same; end_left = refl; taken = refl; statements = refl; unread = refl; sent = refl }, omega (arith, less))
-  long_beside xs ys pairs n less t (Some len) = (here, refl, refl)
-
-  command_beside : (xs ys : List Part) → Pairs c d tail xs ys → (n : ℕ) → size xs p < n → (o u : Option Talk) → u ≡ o
-      → Steps n (with_command c xs p o) (with_command d ys q u)
-  command_beside xs ys pairs n less o u e = subst (λ z. Steps n (with_command c xs p o) (with_command d ys q z)) (sym e) (by_talk o)
-    where
-      by_talk : (o : Option Talk) → Steps n (with_command c xs p o) (with_command d ys q o)
-      by_talk None = (pairs, here, less)
-      by_talk (Some t) = long_beside xs ys pairs n less t (first_above (limit_of t) (commands_in t))
-
-  checked_beside : (xs ys : List Part) → Pairs c d tail xs ys → (n : ℕ) → size xs p < n → (v w : Values) → w ≡ v → Steps n (checked xs p v) (checked ys q w)
-  checked_beside xs ys pairs n less v w e = subst (λ z. Steps n (checked xs p v) (checked ys q z)) (sym e) (by_values v)
-    where
-      by_values : (v : Values) → Steps n (checked xs p v) (checked ys q v)
-      by_values (Fitting values) = (pairs, here, less)
-      by_values (Unfitting x) = (here, refl, refl)
-
-  learned_beside : (xs ys : List Part) → Pairs c d tail xs ys → (n : ℕ) → size xs p < n → id_in c ≡ id_in d
-      → Steps n (Goes xs (learned c p (facts_at login p))) (Goes ys (learned d q (facts_at login q)))
-  learned_beside xs ys pairs n less e = by_rows (is_rows (context_of p.talk).spot)
-    where
-      by_rows : (b : Bool)
-          → Steps n (Goes xs (cond b (with_statements (with_columns (id_in c) (facts_at login p).columns p.statements) p) p))
-          (Goes ys (cond b (with_statements (with_columns (id_in d) (facts_at login q).columns p.statements) q) q))
-      by_rows true = (
-        pairs,
-        record {
-          talk = refl;
-          older = same;
-          end_left = refl;
-          taken = refl;
-          statements = ap (λ i. with_columns i (facts_at login q).columns p.statements) (sym e) ∙ ap (λ (f : Facts). with_columns (id_in c) f.columns p.statements) facts_are;
-          unread = refl;
-          sent = refl;
-        },
-        less,
-      )
-      by_rows false = (pairs, here, less)
+  all_beside : (xs ys : List Part) → ((r : Place) → r.status ≡ p.status → Placed c d tail r (All ∷ xs) (All ∷ ys))
+      → (p.end_left ≡ false → is_over p.talk ≡ true → Placed c d tail p xs ys)
+      → Steps (size (All ∷ xs) p) (step_of login c (All ∷ xs) p) (step_of login d (All ∷ ys) q)
+  all_beside xs ys stays over = either c d tail (size (All ∷ xs) p) p.end_left _ _ _ _
+      (λ e. let one : weight p.end_left ≡ 1 = ap weight e in (stays (without_end p) refl, like (without_end p) refl, omega (arith, one)))
+      (λ e. either c d tail (size (All ∷ xs) p) (is_over p.talk) _ _ _ _ (λ f. (over e f, here, omega arith))
+      (λ _. reads_beside All xs ys (λ k payload rest. stays (with_talk p (grow k p.talk payload) rest) refl) (all_kind xs ys (λ k payload rest. stays (with_talk p (grow k p.talk payload) rest) refl))))
 
   -- the statement is executed at both places
   executed_is : (params : Params) → executed login d q params ≡ executed login d p params
   executed_is params = ap (λ t. execution t p.statements (id_in d) (values_for (statement_in d) params)) terms_are
 
-  part_beside : (x y : Part) (xs ys : List Part) → Pair c d x y → Pairs c d tail xs ys
-      → Steps (size (x ∷ xs) p) (step_of login c (x ∷ xs) p) (step_of login d (y ∷ ys) q)
-  part_beside x y xs ys BothAll pairs = either c d tail (size (All ∷ xs) p) p.end_left _ _ _ _
-      (λ e. let one : weight p.end_left ≡ 1 = ap weight e in (More All All xs ys BothAll pairs, like (without_end p) refl, omega (arith, one)))
-      (λ _. either c d tail (size (All ∷ xs) p) (is_over p.talk) _ _ _ _ (λ _. (pairs, here, omega arith)) (λ _. reads_beside All xs ys BothAll pairs (all_kind xs ys pairs)))
-  part_beside x y xs ys BothHead pairs = either c d tail (size (Head ∷ xs) p) (is_rows (context_of p.talk).spot) _ _ _ _
-      (λ _. (pairs, here, omega arith)) (λ _. reads_beside Head xs ys BothHead pairs (head_kind xs ys pairs))
-  part_beside x y xs ys (BothLearn e) pairs = learned_beside xs ys pairs (size (Learn ∷ xs) p) (omega arith) e
-  part_beside x y xs ys (BothCheck params e) pairs =
-      checked_beside xs ys pairs (size (Check params ∷ xs) p) (omega arith) _ _ (ap (λ s. values_for s params) (sym e))
-  part_beside x y xs ys (BothRun params e i) pairs = command_beside xs ys pairs (size (Run params ∷ xs) p) (omega arith) _ _
-      (executed_is params
-      ∙ (ap (λ id. execution (terms_of login (exchanges p)) p.statements id (values_for (statement_in d) params)) (sym i)
-      ∙ ap (λ s. execution (terms_of login (exchanges p)) p.statements (id_in c) (values_for s params)) (sym e)))
-  part_beside x y xs ys (Sent params f) pairs = command_beside xs ys pairs (size (Command ∷ xs) p) (omega arith) _ _ (executed_is params ∙ sym (f login p))
+  -- parts of both calls, where a part of each has gone
+  module _ (calm : Bool) (xs ys : List Part) (pairs : Pairs c d tail calm xs ys) (known : Calm calm p.status) where
+    pairs_at : Placed c d tail p xs ys
+    pairs_at = Paired calm xs ys pairs known
 
-  placed_beside : (x y : Part) (xs ys : List Part) → Pair c d x y → Pairs c d tail xs ys
+    head_kind : (k : Kind) (payload rest : List ℕ) (row other : Told) → length rest < length p.unread
+        → Steps (size (Head ∷ xs) p) (after_kind Head xs k (with_talk p (grow k p.talk payload) rest) row) (after_kind Head ys k (with_talk q (grow k p.talk payload) rest) other)
+    head_kind (kinds.Good status) payload rest row other shorter =
+        (Paired calm xs ys pairs known, record { talk = refl; older = same; end_left = refl; taken = refl; statements = refl; status = refl; unread = refl; sent = refl }, omega (arith, shorter))
+    head_kind k payload rest row other shorter =
+        (Paired calm (Head ∷ xs) (Head ∷ ys) (More calm Head Head xs ys BothHead pairs) known, like (with_talk p (grow k p.talk payload) rest) refl, omega (arith, shorter))
+
+    -- a command that is sent
+    long_beside : (n : ℕ) → size xs p < n → (t : Talk) (o : Option ℕ)
+        → Steps n (unless_long p (limit_of t) o (Goes xs (with_exchange p c t))) (unless_long q (limit_of t) o (Goes ys (with_exchange q d t)))
+    long_beside n less t None =
+        (Paired calm xs ys pairs known, record { talk = refl; older = ap (λ ts. p.talk ∷ ts) same; end_left = refl; taken = refl; statements = refl; status = refl; unread = refl; sent = refl }, omega (arith, less))
+    long_beside n less t (Some len) = (here, refl, refl)
+
+    command_beside : (n : ℕ) → size xs p < n → (o u : Option Talk) → u ≡ o → Steps n (with_command c xs p o) (with_command d ys q u)
+    command_beside n less o u e = subst (λ z. Steps n (with_command c xs p o) (with_command d ys q z)) (sym e) (by_talk o)
+      where
+        by_talk : (o : Option Talk) → Steps n (with_command c xs p o) (with_command d ys q o)
+        by_talk None = (pairs_at, here, less)
+        by_talk (Some t) = long_beside n less t (first_above (limit_of t) (commands_in t))
+
+    undone_beside : (n : ℕ) → size xs p < n → (b : Bool) → Steps n (undone login c xs p b) (undone login d ys q b)
+    undone_beside n less true = command_beside n less _ _ (ap (λ t. Some (queried t rollback_text)) terms_are)
+    undone_beside n less false = (pairs_at, here, less)
+
+    checked_beside : (n : ℕ) → size xs p < n → (v w : Values) → w ≡ v → Steps n (checked xs p v) (checked ys q w)
+    checked_beside n less v w e = subst (λ z. Steps n (checked xs p v) (checked ys q z)) (sym e) (by_values v)
+      where
+        by_values : (v : Values) → Steps n (checked xs p v) (checked ys q v)
+        by_values (Fitting values) = (pairs_at, here, less)
+        by_values (Unfitting x) = (here, refl, refl)
+
+    learned_beside : (n : ℕ) → size xs p < n → id_in c ≡ id_in d
+        → Steps n (Goes xs (learned c p (facts_at login p))) (Goes ys (learned d q (facts_at login q)))
+    learned_beside n less e = by_rows (is_rows (context_of p.talk).spot)
+      where
+        by_rows : (b : Bool)
+            → Steps n (Goes xs (cond b (with_statements (with_columns (id_in c) (facts_at login p).columns p.statements) p) p))
+            (Goes ys (cond b (with_statements (with_columns (id_in d) (facts_at login q).columns p.statements) q) q))
+        by_rows true = (
+          Paired calm xs ys pairs known,
+          record {
+            talk = refl;
+            older = same;
+            end_left = refl;
+            taken = refl;
+            statements = ap (λ i. with_columns i (facts_at login q).columns p.statements) (sym e) ∙ ap (λ (f : Facts). with_columns (id_in c) f.columns p.statements) facts_are;
+            status = refl;
+            unread = refl;
+            sent = refl;
+          },
+          less,
+        )
+        by_rows false = (pairs_at, here, less)
+
+    part_beside : (x y : Part) → Pair c d x y → Steps (size (x ∷ xs) p) (step_of login c (x ∷ xs) p) (step_of login d (y ∷ ys) q)
+    part_beside x y BothAll = all_beside xs ys (λ r e. Paired calm (All ∷ xs) (All ∷ ys) (More calm All All xs ys BothAll pairs) (subst (Calm calm) (sym e) known)) (λ e f. pairs_at)
+    part_beside x y BothHead = either c d tail (size (Head ∷ xs) p) (is_rows (context_of p.talk).spot) _ _ _ _
+        (λ _. (pairs_at, here, omega arith))
+        (λ _. reads_beside Head xs ys (λ k payload rest. Paired calm (Head ∷ xs) (Head ∷ ys) (More calm Head Head xs ys BothHead pairs) known) head_kind)
+    part_beside x y BothUndo = undone_beside (size (Undo ∷ xs) p) (omega arith) (is_given_up p.status)
+    part_beside x y (BothLearn e) = learned_beside (size (Learn ∷ xs) p) (omega arith) e
+    part_beside x y (BothCheck params e) = checked_beside (size (Check params ∷ xs) p) (omega arith) _ _ (ap (λ s. values_for s params) (sym e))
+    part_beside x y (BothRun params e i) = command_beside (size (Run params ∷ xs) p) (omega arith) _ _
+        (executed_is params
+        ∙ (ap (λ id. execution (terms_of login (exchanges p)) p.statements id (values_for (statement_in d) params)) (sym i)
+        ∙ ap (λ s. execution (terms_of login (exchanges p)) p.statements (id_in c) (values_for s params)) (sym e)))
+    part_beside x y (Sent params f) = command_beside (size (Command ∷ xs) p) (omega arith) _ _ (executed_is params ∙ sym (f login p))
+
+  -- after the cleaning of both, and before that of the first call alone
+  calms_beside : (xs ys : List Part) → Pairs c d tail true xs ys → Steps (size (Undone ∷ xs) p) (step_of login c (Undone ∷ xs) p) (step_of login d (Undone ∷ ys) q)
+  calms_beside xs ys pairs = (Paired true xs ys pairs (is_calm p.status), record { talk = refl; older = same; end_left = refl; taken = refl; statements = refl; status = refl; unread = refl; sent = refl }, omega arith)
+
+  alone_beside : (xs ys : List Part) → Pairs c d tail true xs ys → is_given_up p.status ≡ false
+      → Steps (size (All ∷ Undo ∷ All ∷ Undone ∷ xs) p) (step_of login c (All ∷ Undo ∷ All ∷ Undone ∷ xs) p) (step_of login d (All ∷ ys) q)
+  alone_beside xs ys pairs known = all_beside (Undo ∷ All ∷ Undone ∷ xs) ys
+      (λ r e. Paired true (All ∷ Undo ∷ All ∷ Undone ∷ xs) (All ∷ ys) (Alone xs ys pairs) (subst (Calm true) (sym e) known)) (λ e f. Resting xs ys pairs e f known)
+
+  parts_beside : (calm : Bool) (x y : Part) (xs ys : List Part) → Pairs c d tail calm (x ∷ xs) (y ∷ ys) → Calm calm p.status
+      → Steps (size (x ∷ xs) p) (step_of login c (x ∷ xs) p) (step_of login d (y ∷ ys) q)
+  parts_beside calm x y xs ys (More b u v us vs pair pairs) known = part_beside b us vs pairs known u v pair
+  parts_beside calm x y xs ys (Calms us vs pairs) known = calms_beside us vs pairs
+  parts_beside calm x y xs ys (Alone us vs pairs) known = alone_beside us vs pairs known
+
+  placed_beside : (calm : Bool) (x y : Part) (xs ys : List Part) → Pairs c d tail calm (x ∷ xs) (y ∷ ys) → Calm calm p.status
       → Steps (size (x ∷ xs) p) (step login c (x ∷ xs) p) (step login d (y ∷ ys) q)
   unfolding step
-  placed_beside x y xs ys pair pairs =
+  placed_beside calm x y xs ys pairs known =
       subst (λ bytes. Steps (size (x ∷ xs) p) (step login c (x ∷ xs) p) (unless_owed bytes q (step_of login d (y ∷ ys) q))) (sym owed_is) (by_owed (owed p))
     where
       by_owed : (bytes : List ℕ) → Steps (size (x ∷ xs) p) (unless_owed bytes p (step_of login c (x ∷ xs) p)) (unless_owed bytes q (step_of login d (y ∷ ys) q))
-      by_owed [] = part_beside x y xs ys pair pairs
+      by_owed [] = parts_beside calm x y xs ys pairs known
       by_owed (b ∷ bytes) = (here, refl, refl)
 
 -- a place like another is it, with other calls
 pub is_placed : (q p : Place) → AlikePlaces q p → placed q.call q.older p ≡ q
 is_placed q p w =
-    ap (λ (x : Talk). let r : Place = record { call = q.call; talk = x; older = q.older; end_left = p.end_left; taken = p.taken; statements = p.statements; unread = p.unread; sent = p.sent } in r) (sym w.talk)
-    ∙ ap (λ (x : Bool). let r : Place = record { call = q.call; talk = q.talk; older = q.older; end_left = x; taken = p.taken; statements = p.statements; unread = p.unread; sent = p.sent } in r) (sym w.end_left)
-    ∙ ap (λ (x : Bool). let r : Place = record { call = q.call; talk = q.talk; older = q.older; end_left = q.end_left; taken = x; statements = p.statements; unread = p.unread; sent = p.sent } in r) (sym w.taken)
-    ∙ ap (λ (x : Statements). let r : Place = record { call = q.call; talk = q.talk; older = q.older; end_left = q.end_left; taken = q.taken; statements = x; unread = p.unread; sent = p.sent } in r) (sym w.statements)
-    ∙ ap (λ (x : List ℕ). let r : Place = record { call = q.call; talk = q.talk; older = q.older; end_left = q.end_left; taken = q.taken; statements = q.statements; unread = x; sent = p.sent } in r) (sym w.unread)
-    ∙ ap (λ (x : List ℕ). let r : Place = record { call = q.call; talk = q.talk; older = q.older; end_left = q.end_left; taken = q.taken; statements = q.statements; unread = q.unread; sent = x } in r) (sym w.sent)
+    ap (λ (x : Talk). let r : Place = record { call = q.call; talk = x; older = q.older; end_left = p.end_left; taken = p.taken; statements = p.statements; status = p.status; unread = p.unread; sent = p.sent } in r) (sym w.talk)
+    ∙ ap (λ (x : Bool). let r : Place = record { call = q.call; talk = q.talk; older = q.older; end_left = x; taken = p.taken; statements = p.statements; status = p.status; unread = p.unread; sent = p.sent } in r) (sym w.end_left)
+    ∙ ap (λ (x : Bool). let r : Place = record { call = q.call; talk = q.talk; older = q.older; end_left = q.end_left; taken = x; statements = p.statements; status = p.status; unread = p.unread; sent = p.sent } in r) (sym w.taken)
+    ∙ ap (λ (x : Statements). let r : Place = record { call = q.call; talk = q.talk; older = q.older; end_left = q.end_left; taken = q.taken; statements = x; status = p.status; unread = p.unread; sent = p.sent } in r) (sym w.statements)
+    ∙ ap (λ (x : TxStatus). let r : Place = record { call = q.call; talk = q.talk; older = q.older; end_left = q.end_left; taken = q.taken; statements = q.statements; status = x; unread = p.unread; sent = p.sent } in r) (sym w.status)
+    ∙ ap (λ (x : List ℕ). let r : Place = record { call = q.call; talk = q.talk; older = q.older; end_left = q.end_left; taken = q.taken; statements = q.statements; status = q.status; unread = x; sent = p.sent } in r) (sym w.unread)
+    ∙ ap (λ (x : List ℕ). let r : Place = record { call = q.call; talk = q.talk; older = q.older; end_left = q.end_left; taken = q.taken; statements = q.statements; status = q.status; unread = q.unread; sent = x } in r) (sym w.sent)
 
-pub steps_beside : (login : Login) (c d : Call) (tail : List Part) (p q : Place) (x y : Part) (xs ys : List Part) → Pair c d x y → Pairs c d tail xs ys → AlikePlaces q p
+pub steps_beside : (login : Login) (c d : Call) (tail : List Part) (calm : Bool) (p q : Place) (x y : Part) (xs ys : List Part) → Pairs c d tail calm (x ∷ xs) (y ∷ ys) → Calm calm p.status → AlikePlaces q p
     → Beside c d tail (size (x ∷ xs) p) (step login c (x ∷ xs) p) (step login d (y ∷ ys) q)
-steps_beside login c d tail p q x y xs ys pair pairs w =
-    subst (λ r. Beside c d tail (size (x ∷ xs) p) (step login c (x ∷ xs) p) (step login d (y ∷ ys) r)) (is_placed q p w) (placed_beside login c d tail p q.call q.older w.older x y xs ys pair pairs)
+steps_beside login c d tail calm p q x y xs ys pairs known w =
+    subst (λ r. Beside c d tail (size (x ∷ xs) p) (step login c (x ∷ xs) p) (step login d (y ∷ ys) r)) (is_placed q p w) (placed_beside login c d tail p q.call q.older w.older calm x y xs ys pairs known)

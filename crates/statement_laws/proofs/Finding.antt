@@ -8,22 +8,23 @@ use Rattle.my_grammar.specs.Talk.{Talk}
 use Rattle.my_statements.specs.Cache.{Held}
 use Rattle.my_reading.specs.declared.call.Call.TheVariants.{Prepare}
 use Rattle.my_reading.specs.Commands.{closing}
-use Rattle.my_reading.specs.Course.{Part, All, Command, Find, Reply, Keep, Give, Step, Goes, Stops, step, step_of, unless_owed, found, looked_for, return, failure, with_command, closing_of, enough, run}
+use Rattle.my_reading.specs.Course.{Part, clean, Command, Find, Reply, Keep, Give, Step, Goes, Stops, step, step_of, unless_owed, found, looked_for, return, failure, with_command, closing_of, enough, run}
 use Rattle.my_reading.specs.Errors.{mixed_params}
 use Rattle.my_reading.specs.Facts.{prepared_by}
 use Rattle.my_reading.specs.Leads.{Here}
-use Rattle.my_reading.specs.Place.{Place, exchanges, facts_at, next_exchange, owed, terms_of, with_exchange, with_statements, with_talk, without_end}
+use Rattle.my_reading.specs.Place.{Place, exchanges, facts_at, next_exchange, owed, terms_of, with_exchange, with_statements, with_talk}
 use Rattle.my_reading.specs.Statements.{held_in, is_mixed_text, leaving, names_of, query_of, statement_with, with_fetched, with_prepared}
 use Rattle.my_reading.specs.Told.{ToldStatement}
 use Rattle.my_reading.proofs.Leading.{leads_to_course}
 use Rattle.statement_laws.specs.Found.{CachedIsReturned, OthersAreAskedFor}
 use Rattle.statement_laws.specs.Kept.{is_answered}
 use Rattle.statement_laws.proofs.Phases.{answer_leaves_open}
+use Rattle.statement_laws.proofs.Cleaning.{Cleans, Reads, cleans_have}
 use Rattle.statement_laws.proofs.Having.{StopsHave, begun_has, either, reads_have}
 
 -- what follows the looking for it
 abbrev rest : List Part
-rest = All ∷ Command ∷ Reply ∷ Keep ∷ Give ∷ []
+rest = clean (Command ∷ Reply ∷ Keep ∷ Give ∷ [])
 
 found_at_once : (login : Login) (text : List ℕ) (p : Place) (h : Held) → owed p ≡ [] → is_mixed_text text ≡ false → held_in p.statements (query_of text) ≡ Some h
     → step login (Prepare text) (Find ∷ rest) p
@@ -41,7 +42,7 @@ cached_is_returned login text p h none plain there =
 -- n exchanges are there before the command, and more after it
 data Asks (text : List ℕ) (n : ℕ) : List Part → Place → Type 0 where
   Looks : (p : Place) → held_in p.statements (query_of text) ≡ None → n ≤ length (exchanges p) → Asks text n (Find ∷ rest) p
-  Clears : (p : Place) → n ≤ length (exchanges p) → Asks text n rest p
+  Clears : (parts : List Part) (p : Place) → Cleans (Command ∷ Reply ∷ Keep ∷ Give ∷ []) parts → n ≤ length (exchanges p) → Asks text n parts p
   Sends : (p : Place) → n ≤ length (exchanges p) → Asks text n (Command ∷ Reply ∷ Keep ∷ Give ∷ []) p
   Hears : (p : Place) → n < length (exchanges p) → Asks text n (Reply ∷ Keep ∷ Give ∷ []) p
   Keeps : (p : Place) → n < length (exchanges p) → Asks text n (Keep ∷ Give ∷ []) p
@@ -59,7 +60,7 @@ module _ (login : Login) (text : List ℕ) (n : ℕ) where
   stops p s e h = let open_left = answer_leaves_open s h in absurd (cc)
 
   found_has : (p : Place) (o : Option Held) → o ≡ None → n ≤ length (exchanges p) → Has (found rest p text o)
-  found_has p None e low = Clears p low
+  found_has p None e low = Clears rest p Reads low
   found_has p (Some h) e low = absurd (cc)
 
   sent_has : (p : Place) (o : Option Talk) → next_exchange login (Prepare text) p ≡ o → n ≤ length (exchanges p) → Has (with_command (Prepare text) (Reply ∷ Keep ∷ Give ∷ []) p o)
@@ -74,11 +75,21 @@ module _ (login : Login) (text : List ℕ) (n : ℕ) where
       let more : n < length (exchanges (with_exchange p (Prepare text) (closing terms id))) = omega (arith, low) in
       begun_has Has p (stops p) (Prepare text) (Give ∷ []) (closing terms id) (Gives (with_exchange p (Prepare text) (closing terms id)) more)
 
+  clears_have : (parts : List Part) (p : Place) → Cleans (Command ∷ Reply ∷ Keep ∷ Give ∷ []) parts → n ≤ length (exchanges p) → Has (step_of login (Prepare text) parts p)
+  clears_have parts p left low = cleans_have login (Prepare text) (Command ∷ Reply ∷ Keep ∷ Give ∷ []) (λ q. n ≤ length (exchanges q)) Has
+      (λ q h. stops q)
+      (λ more q here h. Clears more q here h)
+      (λ q h. Sends q h)
+      (λ q k bytes more h. h)
+      (λ q bytes more x h e. absurd (cc))
+      (λ q h. h)
+      (λ q terms h. omega (arith, h))
+      (λ q status h. h)
+      parts p left low
+
   part_has : (parts : List Part) (p : Place) → Asks text n parts p → Has (step_of login (Prepare text) parts p)
   part_has parts p (Looks q none low) = either Has (is_mixed_text text) _ _ (λ h. absurd (cc)) (found_has q (held_in q.statements (query_of text)) none low)
-  part_has parts p (Clears q low) = either Has q.end_left _ _ (Clears (without_end q) low) (either Has (is_over q.talk) _ _ (Sends q low)
-      (reads_have Has q (stops q) login All (Command ∷ Reply ∷ Keep ∷ Give ∷ [])
-      (λ k b more _. Clears (with_talk q (grow k q.talk b) more) low) (λ k b more row _. Clears (with_talk q (grow k q.talk b) more) low) (λ b more x h. absurd (cc))))
+  part_has parts p (Clears more q left low) = clears_have more q left low
   part_has parts p (Sends q low) = sent_has q (next_exchange login (Prepare text) q) refl low
   part_has parts p (Hears q low) = either Has (is_over q.talk) _ _ (Keeps q low)
       (reads_have Has q (stops q) login Reply (Keep ∷ Give ∷ [])

@@ -2,6 +2,7 @@ pub mod Lists
 pub mod Talks
 pub mod Having
 pub mod Holding
+pub mod Cleaning
 pub mod Phases
 pub mod Resetting
 pub mod Stepping

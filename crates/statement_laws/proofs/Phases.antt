@@ -8,11 +8,12 @@ use Rattle.my_grammar.specs.Talk.{Talk, Asked}
 use Rattle.my_reading.specs.declared.call.Call.{Call}
 use Rattle.my_reading.specs.declared.call.Call.TheVariants.{Prepare, CloseStmt, Reset}
 use Rattle.my_reading.specs.Commands.{closing}
-use Rattle.my_reading.specs.Course.{Part, All, Command, Find, Reply, Keep, Give, Forget, Offered, Clear, Step, Goes, Stops, Stop, Owes, Awaits, Returns}
+use Rattle.my_reading.specs.Course.{Part, All, Command, Find, Reply, Keep, Give, Forget, Offered, Clear, clean, Step, Goes, Stops, Stop, Owes, Awaits, Returns}
 use Rattle.my_reading.specs.Place.{Place}
 use Rattle.my_reading.specs.Statements.{held_in, query_of}
 use Rattle.my_reading.specs.Told.{ToldReady, ToldRow, ToldEnd, ToldNone, ToldStatement, ToldFlag, ToldError, Dropped}
 use Rattle.statement_laws.specs.Kept.{Resets, is_answered, is_settled, leaves_open}
+use Rattle.statement_laws.proofs.Cleaning.{Cleans}
 use Rattle.statement_laws.proofs.Having.{StopsHave}
 use Rattle.statement_laws.proofs.Holding.{Holds, HoldsBefore, HoldsBut}
 
@@ -41,17 +42,17 @@ IsResetting t = ((terms : Terms) × (t ≡ Asked terms (packet_bytes packets.Res
 -- What holds before each of a call's parts.
 pub data Phase : Call → List Part → Place → Type 0 where
   Steady : (call : Call) (parts : List Part) (p : Place) → is_plain parts ≡ true → prepares call ≡ false → Holds p → Phase call parts p
-  Finding : (text : List ℕ) (p : Place) → Holds p → Phase (Prepare text) (Find ∷ All ∷ Command ∷ Reply ∷ Keep ∷ Give ∷ []) p
-  Clearing : (text : List ℕ) (p : Place) → Holds p → held_in p.statements (query_of text) ≡ None → Phase (Prepare text) (All ∷ Command ∷ Reply ∷ Keep ∷ Give ∷ []) p
+  Finding : (text : List ℕ) (p : Place) → Holds p → Phase (Prepare text) (Find ∷ clean (Command ∷ Reply ∷ Keep ∷ Give ∷ [])) p
+  Clearing : (text : List ℕ) (parts : List Part) (p : Place) → Cleans (Command ∷ Reply ∷ Keep ∷ Give ∷ []) parts → Holds p → held_in p.statements (query_of text) ≡ None → Phase (Prepare text) parts p
   Asking : (text : List ℕ) (p : Place) → Holds p → held_in p.statements (query_of text) ≡ None → Phase (Prepare text) (Command ∷ Reply ∷ Keep ∷ Give ∷ []) p
   Replying : (text : List ℕ) (p : Place) → HoldsBefore (query_of text) p → Phase (Prepare text) (Reply ∷ Keep ∷ Give ∷ []) p
   Keeping : (text : List ℕ) (p : Place) → HoldsBefore (query_of text) p → is_over p.talk ≡ true → Phase (Prepare text) (Keep ∷ Give ∷ []) p
   Giving : (text : List ℕ) (p : Place) → Holds p → Phase (Prepare text) (Give ∷ []) p
-  Forgetting : (id : ℕ) (p : Place) → Holds p → Phase (CloseStmt id) (Forget ∷ All ∷ Command ∷ []) p
-  Passing : (id : ℕ) (p : Place) → HoldsBut (λ i. i ≡ id) p → Phase (CloseStmt id) (All ∷ Command ∷ []) p
+  Forgetting : (id : ℕ) (p : Place) → Holds p → Phase (CloseStmt id) (Forget ∷ clean (Command ∷ [])) p
+  Passing : (id : ℕ) (parts : List Part) (p : Place) → Cleans (Command ∷ []) parts → HoldsBut (λ i. i ≡ id) p → Phase (CloseStmt id) parts p
   Closing : (id : ℕ) (p : Place) → HoldsBut (λ i. i ≡ id) p → Phase (CloseStmt id) (Command ∷ []) p
-  Offering : (parts : List Part) (p : Place) → is_plain parts ≡ true → Holds p → Phase Reset (Offered ∷ All ∷ Command ∷ All ∷ Clear ∷ parts) p
-  Readying : (parts : List Part) (p : Place) → is_plain parts ≡ true → Holds p → Phase Reset (All ∷ Command ∷ All ∷ Clear ∷ parts) p
+  Offering : (parts : List Part) (p : Place) → is_plain parts ≡ true → Holds p → Phase Reset (Offered ∷ clean (Command ∷ All ∷ Clear ∷ parts)) p
+  Readying : (parts left : List Part) (p : Place) → Cleans (Command ∷ All ∷ Clear ∷ parts) left → is_plain parts ≡ true → Holds p → Phase Reset left p
   Commanding : (parts : List Part) (p : Place) → is_plain parts ≡ true → Holds p → Phase Reset (Command ∷ All ∷ Clear ∷ parts) p
   Awaiting : (parts : List Part) (p : Place) → is_plain parts ≡ true → Holds p → IsResetting p.talk → Phase Reset (All ∷ Clear ∷ parts) p
   Emptying : (parts : List Part) (p : Place) → is_plain parts ≡ true → Holds p → Resets p.talk → Phase Reset (Clear ∷ parts) p
@@ -83,16 +84,16 @@ closing_stops id p s e h = let open_left = answer_leaves_open s h in absurd (cc)
 pub stopped_fine : (c : Call) (parts : List Part) (p : Place) → Phase c parts p → StopsHave (IsFine c) p
 stopped_fine c parts p (Steady d ps q e other w) = λ s _ _. w
 stopped_fine c parts p (Finding text q w) = preparing_stops text q
-stopped_fine c parts p (Clearing text q w e) = preparing_stops text q
+stopped_fine c parts p (Clearing text ps q left w e) = preparing_stops text q
 stopped_fine c parts p (Asking text q w e) = preparing_stops text q
 stopped_fine c parts p (Replying text q w) = preparing_stops text q
 stopped_fine c parts p (Keeping text q w e) = preparing_stops text q
 stopped_fine c parts p (Giving text q w) = preparing_stops text q
 stopped_fine c parts p (Forgetting id q w) = closing_stops id q
-stopped_fine c parts p (Passing id q w) = closing_stops id q
+stopped_fine c parts p (Passing id ps q left w) = closing_stops id q
 stopped_fine c parts p (Closing id q w) = closing_stops id q
 stopped_fine c parts p (Offering ps q e w) = λ s _ _. w
-stopped_fine c parts p (Readying ps q e w) = λ s _ _. w
+stopped_fine c parts p (Readying ps more q left e w) = λ s _ _. w
 stopped_fine c parts p (Commanding ps q e w) = λ s _ _. w
 stopped_fine c parts p (Awaiting ps q e w r) = λ s _ _. w
 stopped_fine c parts p (Emptying ps q e w r) = λ s _ _. w

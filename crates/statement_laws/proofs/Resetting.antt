@@ -16,9 +16,12 @@ use Rattle.my_grammar.specs.Growth.{grow}
 use Rattle.my_grammar.specs.Kinds.{failed_kind, good_kind, or_else, single_kind}
 use Rattle.my_grammar.specs.Talk.{Asked, Replied}
 use Rattle.my_reading.specs.declared.call.Call.TheVariants.{Reset}
-use Rattle.my_reading.specs.Course.{Part, All, Command, Clear, Goes, step_of, reads, offered}
+use Rattle.my_reading.specs.Commands.{queried}
+use Rattle.my_reading.specs.Course.{Part, All, Command, Clear, Goes, clean, step_of, reads, offered}
 use Rattle.my_reading.specs.Place.{Place, exchanges, terms_of, with_exchange, with_talk, without_end}
+use Rattle.my_reading.specs.Transactions.{rollback_text}
 use Rattle.statement_laws.specs.Kept.{Resets}
+use Rattle.statement_laws.proofs.Cleaning.{Cleans, Reads, cleans_have}
 use Rattle.statement_laws.proofs.Having.{Comes, begun_has, either, reads_have}
 use Rattle.statement_laws.proofs.Holding.{Holds, grown_holds, grown_resets, opened_holds}
 use Rattle.statement_laws.proofs.Talks.{is_failed}
@@ -35,16 +38,21 @@ good_alone q k e fits good = by_ok (ok_at q) (err_at false q) e
 
 -- a call that resets the server's session
 module _ (login : Login) (ps : List Part) (plain : is_plain ps ≡ true) where
-  pub offering : (p : Place) (b : Bool) → Holds p → IsFine Reset (offered (All ∷ Command ∷ All ∷ Clear ∷ ps) p b)
-  offering p true w = Readying ps p plain w
+  pub offering : (p : Place) (b : Bool) → Holds p → IsFine Reset (offered (clean (Command ∷ All ∷ Clear ∷ ps)) p b)
+  offering p true w = Readying ps (clean (Command ∷ All ∷ Clear ∷ ps)) p Reads plain w
   offering p false w = λ _. w
 
-  pub readying : (p : Place) → Holds p → IsFine Reset (step_of login Reset (All ∷ Command ∷ All ∷ Clear ∷ ps) p)
-  readying p w = either (IsFine Reset) p.end_left _ _ (Readying ps (without_end p) plain w)
-      (either (IsFine Reset) (is_over p.talk) _ _ (Commanding ps p plain w) (reads_have (IsFine Reset) p (λ s _ _. w) login All (Command ∷ All ∷ Clear ∷ ps)
-      (λ k q rest _. Readying ps (with_talk p (grow k p.talk q) rest) plain (grown_holds (λ i. ⊥) p k q rest w))
-      (λ k q rest row _. Readying ps (with_talk p (grow k p.talk q) rest) plain (grown_holds (λ i. ⊥) p k q rest w))
-      (λ q rest x _. grown_holds (λ i. ⊥) p kinds.Failed q rest w)))
+  pub readying : (parts : List Part) (p : Place) → Cleans (Command ∷ All ∷ Clear ∷ ps) parts → Holds p → IsFine Reset (step_of login Reset parts p)
+  readying parts p left w = cleans_have login Reset (Command ∷ All ∷ Clear ∷ ps) Holds (IsFine Reset)
+      (λ q h s _ _. h)
+      (λ more q here h. Readying ps more q here plain h)
+      (λ q h. Commanding ps q plain h)
+      (λ q k bytes rest h. grown_holds (λ i. ⊥) q k bytes rest h)
+      (λ q bytes rest x h _. grown_holds (λ i. ⊥) q kinds.Failed bytes rest h)
+      (λ q h. h)
+      (λ q terms h. opened_holds (λ i. ⊥) q Reset (queried terms rollback_text) refl refl h)
+      (λ q status h. h)
+      parts p left w
 
   pub commanding : (p : Place) → Holds p → IsFine Reset (step_of login Reset (Command ∷ All ∷ Clear ∷ ps) p)
   commanding p w =

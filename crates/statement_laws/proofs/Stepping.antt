@@ -12,19 +12,23 @@ use Rattle.my_grammar.specs.Prepares.{Unanswered}
 use Rattle.my_grammar.specs.Talk.{Talk, Preparing, context_of}
 use Rattle.my_statements.specs.Cache.{Held}
 use Rattle.my_reading.specs.declared.call.Call.{Call}
-use Rattle.my_reading.specs.declared.call.Call.TheVariants.{Connect, Query, Prepare, Execute, Batch, CloseStmt, NextRow, DropResult, TakeSet, SkipTaken, Ping, Reset, Quit}
+use Rattle.my_reading.specs.declared.call.Call.TheVariants.{Connect, Query, Prepare, Execute, Batch, CloseStmt, NextRow, DropResult, TakeSet, SkipTaken, Ping, Reset, Begin, Rollback, ForgetTransaction, Quit}
 use Rattle.my_params.specs.declared.params.Params.{Params}
 use Rattle.my_reading.specs.Calls.{id_in, statement_in}
 use Rattle.my_reading.specs.Commands.{arranging, arranging_texts, closing, connecting, execution, opening, queried, setup_texts}
-use Rattle.my_reading.specs.Course.{Part, All, Head, Item, Set, Rest, Command, Find, Check, Run, Reply, Keep, Give, Learn, Forget, Offered, Clear, Text, Flag, Goes, step, step_of, unless_owed, reads, after_kind, with_command, found, checked, executed, closing_of, learned, offered, is_rows, parts_of, parts_of_lists, parts_of_queries, parts_of_texts, Owes}
+use Rattle.my_reading.specs.Course.{Part, All, Head, Item, Set, Rest, Command, Find, Check, Run, Reply, Keep, Give, Learn, Forget, Offered, Clear, Text, Flag, Undo, Undone, Refuse, Settle, GiveUp, Goes, step, step_of, unless_owed, reads, after_kind, with_command, found, checked, executed, closing_of, learned, offered, undone, unless_refused, is_rows, clean, parts_of, parts_of_batch, parts_of_lists, parts_of_queries, parts_of_texts, Owes}
 use Rattle.my_reading.specs.Executions.{Values, Fitting, Unfitting, values_for}
 use Rattle.my_reading.specs.Facts.{prepared_by}
-use Rattle.my_reading.specs.Place.{Place, connects_in, exchanges, facts_at, facts_of, next_exchange, owed, terms_of, with_end, with_exchange, with_statements, with_talk, without_end}
+use Rattle.my_reading.specs.Place.{Place, connects_in, exchanges, facts_at, facts_of, next_exchange, owed, terms_of, with_end, with_exchange, with_statements, with_status, with_talk, without_end}
 use Rattle.my_reading.specs.Statements.{Statements, cleared, held_in, is_cached, is_mixed_text, leaving, query_of, with_prepared, without_statement}
 use Rattle.my_handshake.specs.Version.{version_of}
+use Rattle.my_reading.specs.declared.error.DriverError.{DriverError}
+use Rattle.my_reading.specs.declared.transaction.TxStatus.TheVariants.{InTransaction}
+use Rattle.my_reading.specs.Transactions.{begin_refusal, begin_texts, given_up, is_given_up, rollback_text, rolled_back}
 use Rattle.my_reading.specs.Versions.{can_reset}
 use Rattle.my_reading.specs.Told.{Told}
 use Rattle.statement_laws.specs.Kept.{prepared_in}
+use Rattle.statement_laws.proofs.Cleaning.{Cleans, Reads, cleans_have}
 use Rattle.statement_laws.proofs.Having.{Comes, begun_has, command_has, either, reads_have}
 use Rattle.statement_laws.proofs.Holding.{Holds, HoldsBefore, HoldsBut, cleared_holds, closing_holds, fetched_holds, forgotten_holds, grown_before, grown_holds, learned_holds, opened_before, opened_holds, prepared_holds, refused_holds, weaker_holds}
 use Rattle.statement_laws.proofs.Talks.{is_open, over_is_done, whole_talk}
@@ -63,6 +67,9 @@ opening_plain login terms st TakeSet n e = tt
 opening_plain login terms st SkipTaken n e = tt
 opening_plain login terms st Ping n e = (refl, refl)
 opening_plain login terms st Reset n e = (refl, refl)
+opening_plain login terms st (Begin opts) n e = tt
+opening_plain login terms st Rollback n e = tt
+opening_plain login terms st ForgetTransaction n e = tt
 opening_plain login terms st Quit n e = (refl, refl)
 
 -- a call that prepares nothing, at each of its parts
@@ -79,6 +86,11 @@ module _ (login : Login) (call : Call) (other : prepares call ≡ false) where
   steady_kind Offered parts e k new row w = Steady call (Offered ∷ parts) new e other w
   steady_kind (Text text) parts e k new row w = Steady call (Text text ∷ parts) new e other w
   steady_kind (Flag flag) parts e k new row w = Steady call (Flag flag ∷ parts) new e other w
+  steady_kind Undo parts e k new row w = Steady call (Undo ∷ parts) new e other w
+  steady_kind Undone parts e k new row w = Steady call (Undone ∷ parts) new e other w
+  steady_kind (Refuse opts) parts e k new row w = Steady call (Refuse opts ∷ parts) new e other w
+  steady_kind (Settle status) parts e k new row w = Steady call (Settle status ∷ parts) new e other w
+  steady_kind GiveUp parts e k new row w = Steady call (GiveUp ∷ parts) new e other w
   steady_kind Head parts e (kinds.Good status) new row w = Steady call parts (with_end new) e other w
   steady_kind Head parts e _ new row w = Steady call (Head ∷ parts) new e other w
   steady_kind Item parts e (kinds.Good status) new row w = λ _. w
@@ -122,6 +134,14 @@ module _ (login : Login) (call : Call) (other : prepares call ≡ false) where
       let t = queried terms text in
       begun_has (IsFine call) p (λ s _ _. w) call parts t (Steady call parts (with_exchange p call t) e other (opened_holds (λ i. ⊥) p call t refl refl w))
 
+  steady_undone : (parts : List Part) (p : Place) (b : Bool) → is_plain parts ≡ true → Holds p → IsFine call (undone login call parts p b)
+  steady_undone parts p true e w = steady_asked parts p (terms_of login (exchanges p)) rollback_text e w
+  steady_undone parts p false e w = Steady call parts p e other w
+
+  steady_refused : (parts : List Part) (p : Place) (x : Option DriverError) → is_plain parts ≡ true → Holds p → IsFine call (unless_refused parts p x)
+  steady_refused parts p None e w = Steady call parts p e other w
+  steady_refused parts p (Some x) e w = λ _. w
+
   steady : (parts : List Part) (p : Place) → is_plain parts ≡ true → Holds p → IsFine call (step_of login call parts p)
   steady [] p e w = λ _. w
   steady (Command ∷ parts) p e w = command_has (IsFine call) p (λ s _ _. w) call parts (next_exchange login call p) (Steady call parts p e other w)
@@ -146,6 +166,11 @@ module _ (login : Login) (call : Call) (other : prepares call ≡ false) where
   steady (Offered ∷ parts) p e w = steady_offered parts p (can_reset (version_of (facts_at login p).version)) e w
   steady (Text text ∷ parts) p e w = steady_asked parts p (terms_of login (exchanges p)) text e w
   steady (Flag flag ∷ parts) p e w = λ _. w
+  steady (Undo ∷ parts) p e w = steady_undone parts p (is_given_up p.status) e w
+  steady (Undone ∷ parts) p e w = Steady call parts (with_status (rolled_back p.status) p) e other w
+  steady (Refuse opts ∷ parts) p e w = steady_refused parts p (begin_refusal opts (version_of (facts_at login p).version) p.status) e w
+  steady (Settle status ∷ parts) p e w = Steady call parts (with_status status p) e other w
+  steady (GiveUp ∷ parts) p e w = Steady call parts (with_status (given_up p.status) p) e other w
   steady (Clear ∷ parts) p e w = absurd (cc)
 
 -- a call that prepares a statement
@@ -156,19 +181,24 @@ module _ (login : Login) (text : List ℕ) where
   abbrev asked : List Part
   asked = Command ∷ Reply ∷ Keep ∷ Give ∷ []
 
-  found_fine : (p : Place) (o : Option Held) → held_in p.statements (query_of text) ≡ o → Holds p → IsFine asking_call (found (All ∷ asked) p text o)
-  found_fine p None e w = Clearing text p w e
+  found_fine : (p : Place) (o : Option Held) → held_in p.statements (query_of text) ≡ o → Holds p → IsFine asking_call (found (clean asked) p text o)
+  found_fine p None e w = Clearing text (clean asked) p Reads w e
   found_fine p (Some h) e w = λ _. fetched_holds p (query_of text) w
 
-  finding : (p : Place) → Holds p → IsFine asking_call (step_of login asking_call (Find ∷ All ∷ asked) p)
+  finding : (p : Place) → Holds p → IsFine asking_call (step_of login asking_call (Find ∷ clean asked) p)
   finding p w = either (IsFine asking_call) (is_mixed_text text) _ _ (λ _. w) (found_fine p (held_in p.statements (query_of text)) refl w)
 
-  clearing : (p : Place) → Holds p → held_in p.statements (query_of text) ≡ None → IsFine asking_call (step_of login asking_call (All ∷ asked) p)
-  clearing p w e = either (IsFine asking_call) p.end_left _ _ (Clearing text (without_end p) w e)
-      (either (IsFine asking_call) (is_over p.talk) _ _ (Asking text p w e) (reads_have (IsFine asking_call) p (preparing_stops text p) login All asked
-      (λ k q rest _. Clearing text (with_talk p (grow k p.talk q) rest) (grown_holds (λ i. ⊥) p k q rest w) e)
-      (λ k q rest row _. Clearing text (with_talk p (grow k p.talk q) rest) (grown_holds (λ i. ⊥) p k q rest w) e)
-      (λ q rest x _. grown_holds (λ i. ⊥) p kinds.Failed q rest w)))
+  clearing : (parts : List Part) (p : Place) → Cleans asked parts → Holds p → held_in p.statements (query_of text) ≡ None → IsFine asking_call (step_of login asking_call parts p)
+  clearing parts p left w e = cleans_have login asking_call asked (λ q. Holds q × (held_in q.statements (query_of text) ≡ None)) (IsFine asking_call)
+      (λ q h. preparing_stops text q)
+      (λ more q here h. Clearing text more q here h.0 h.1)
+      (λ q h. Asking text q h.0 h.1)
+      (λ q k bytes rest h. (grown_holds (λ i. ⊥) q k bytes rest h.0, h.1))
+      (λ q bytes rest x h _. grown_holds (λ i. ⊥) q kinds.Failed bytes rest h.0)
+      (λ q h. h)
+      (λ q terms h. (opened_holds (λ i. ⊥) q asking_call (queried terms rollback_text) refl refl h.0, h.1))
+      (λ q status h. h)
+      parts p left (w, e)
 
   asking : (p : Place) → Holds p → held_in p.statements (query_of text) ≡ None → IsFine asking_call (step_of login asking_call asked p)
   asking p w e =
@@ -202,12 +232,17 @@ module _ (login : Login) (text : List ℕ) where
 
 -- a call that closes one
 module _ (login : Login) (id : ℕ) where
-  passing : (p : Place) → HoldsBut (λ i. i ≡ id) p → IsFine (CloseStmt id) (step_of login (CloseStmt id) (All ∷ Command ∷ []) p)
-  passing p w = either (IsFine (CloseStmt id)) p.end_left _ _ (Passing id (without_end p) w)
-      (either (IsFine (CloseStmt id)) (is_over p.talk) _ _ (Closing id p w) (reads_have (IsFine (CloseStmt id)) p (closing_stops id p) login All (Command ∷ [])
-      (λ k q rest _. Passing id (with_talk p (grow k p.talk q) rest) (grown_holds (λ i. i ≡ id) p k q rest w))
-      (λ k q rest row _. Passing id (with_talk p (grow k p.talk q) rest) (grown_holds (λ i. i ≡ id) p k q rest w))
-      (λ q rest x h. absurd (cc))))
+  passing : (parts : List Part) (p : Place) → Cleans (Command ∷ []) parts → HoldsBut (λ i. i ≡ id) p → IsFine (CloseStmt id) (step_of login (CloseStmt id) parts p)
+  passing parts p left w = cleans_have login (CloseStmt id) (Command ∷ []) (HoldsBut (λ i. i ≡ id)) (IsFine (CloseStmt id))
+      (λ q h. closing_stops id q)
+      (λ more q here h. Passing id more q here h)
+      (λ q h. Closing id q h)
+      (λ q k bytes rest h. grown_holds (λ i. i ≡ id) q k bytes rest h)
+      (λ q bytes rest x h e. absurd (cc))
+      (λ q h. h)
+      (λ q terms h. opened_holds (λ i. i ≡ id) q (CloseStmt id) (queried terms rollback_text) refl refl h)
+      (λ q status h. h)
+      parts p left w
 
   closing_begun : (p : Place) → HoldsBut (λ i. i ≡ id) p → IsFine (CloseStmt id) (step_of login (CloseStmt id) (Command ∷ []) p)
   closing_begun p w =
@@ -218,16 +253,16 @@ module _ (login : Login) (id : ℕ) where
 part_fine : (login : Login) (c : Call) (parts : List Part) (p : Place) → Phase c parts p → IsFine c (step_of login c parts p)
 part_fine login c parts p (Steady d ps q e other w) = steady login d other ps q e w
 part_fine login c parts p (Finding text q w) = finding login text q w
-part_fine login c parts p (Clearing text q w e) = clearing login text q w e
+part_fine login c parts p (Clearing text ps q left w e) = clearing login text ps q left w e
 part_fine login c parts p (Asking text q w e) = asking login text q w e
 part_fine login c parts p (Replying text q w) = replying login text q w
 part_fine login c parts p (Keeping text q w e) = keeping login text q w e
 part_fine login c parts p (Giving text q w) = λ _. w
-part_fine login c parts p (Forgetting id q w) = Passing id (with_statements (without_statement id q.statements) q) (forgotten_holds q id w)
-part_fine login c parts p (Passing id q w) = passing login id q w
+part_fine login c parts p (Forgetting id q w) = Passing id (clean (Command ∷ [])) (with_statements (without_statement id q.statements) q) Reads (forgotten_holds q id w)
+part_fine login c parts p (Passing id ps q left w) = passing login id ps q left w
 part_fine login c parts p (Closing id q w) = closing_begun login id q w
 part_fine login c parts p (Offering ps q e w) = offering login ps e q (can_reset (version_of (facts_at login q).version)) w
-part_fine login c parts p (Readying ps q e w) = readying login ps e q w
+part_fine login c parts p (Readying ps more q left e w) = readying login ps e more q left w
 part_fine login c parts p (Commanding ps q e w) = commanding login ps e q w
 part_fine login c parts p (Awaiting ps q e w r) = awaiting login ps e q w r
 part_fine login c parts p (Emptying ps q e w r) = Steady Reset ps (with_statements (cleared q.statements) q) e refl (cleared_holds q r w)
@@ -248,6 +283,10 @@ lists_plain : (lists : List Params) → is_plain (parts_of_lists lists) ≡ true
 lists_plain [] = refl
 lists_plain (params ∷ lists) = lists_plain lists
 
+batch_plain : (lists : List Params) → is_plain (parts_of_batch lists) ≡ true
+batch_plain [] = refl
+batch_plain (params ∷ lists) = lists_plain lists
+
 queries_plain : (texts : List (List ℕ)) (parts : List Part) → is_plain parts ≡ true → is_plain (parts_of_queries texts parts) ≡ true
 queries_plain [] parts e = e
 queries_plain (text ∷ texts) parts e = queries_plain texts parts e
@@ -257,7 +296,7 @@ begins_fine login Connect p w = Steady Connect (parts_of login Connect) p (texts
 begins_fine login (Query text) p w = Steady (Query text) (parts_of login (Query text)) p refl refl w
 begins_fine login (Prepare text) p w = Finding text p w
 begins_fine login (Execute statement params) p w = Steady (Execute statement params) (parts_of login (Execute statement params)) p refl refl w
-begins_fine login (Batch statement lists) p w = Steady (Batch statement lists) (parts_of login (Batch statement lists)) p (lists_plain lists) refl w
+begins_fine login (Batch statement lists) p w = Steady (Batch statement lists) (parts_of login (Batch statement lists)) p (batch_plain lists) refl w
 begins_fine login (CloseStmt id) p w = Forgetting id p w
 begins_fine login NextRow p w = Steady NextRow (parts_of login NextRow) p refl refl w
 begins_fine login DropResult p w = Steady DropResult (parts_of login DropResult) p refl refl w
@@ -265,4 +304,7 @@ begins_fine login TakeSet p w = Steady TakeSet (parts_of login TakeSet) p refl r
 begins_fine login SkipTaken p w = Steady SkipTaken (parts_of login SkipTaken) p refl refl w
 begins_fine login Ping p w = Steady Ping (parts_of login Ping) p refl refl w
 begins_fine login Reset p w = Offering (parts_of_queries (setup_texts login) (Flag true ∷ [])) p (queries_plain (setup_texts login) (Flag true ∷ []) refl) w
+begins_fine login (Begin opts) p w = Steady (Begin opts) (parts_of login (Begin opts)) p (queries_plain (begin_texts opts) (Settle InTransaction ∷ []) refl) refl w
+begins_fine login Rollback p w = Steady Rollback (parts_of login Rollback) p refl refl w
+begins_fine login ForgetTransaction p w = Steady ForgetTransaction (parts_of login ForgetTransaction) p refl refl w
 begins_fine login Quit p w = Steady Quit (parts_of login Quit) p refl refl w

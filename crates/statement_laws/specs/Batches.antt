@@ -15,6 +15,7 @@ pub record AlikePlaces (p q : Place) : Type 0 where
   pub end_left : p.end_left ≡ q.end_left
   pub taken : p.taken ≡ q.taken
   pub statements : p.statements ≡ q.statements
+  pub status : p.status ≡ q.status
   pub unread : p.unread ≡ q.unread
   pub sent : p.sent ≡ q.sent
 

@@ -122,4 +122,16 @@ are_wrong = record {
   other_order = λ w. false≢true w.calls.1.0.sent;
   half_reset = λ w. not_cut _ _ (λ e. absurd (omega arith)) (λ e. absurd (omega arith)) (λ e. absurd (omega arith)) (λ e. absurd (omega arith)) w.calls.1.0.ends;
   kept_over_reset = λ w. not_cut _ _ (λ e. absurd (omega arith)) (λ e. absurd (omega arith)) (λ e. absurd (omega arith)) (λ e. absurd (omega arith)) w.calls.1.1.1.0.ends;
+  not_undone = λ w. false≢true w.calls.1.1.1.0.sent;
+  undone_twice = λ w. false≢true w.calls.1.1.1.1.0.sent;
+  undone_by_error = λ w. false≢true w.calls.1.1.1.1.0.sent;
+  undone_early = λ w. false≢true w.calls.1.1.0.sent;
+  begun_twice = λ w. differs _ _ (λ e. absurd (omega arith)) w.calls.1.1.0.ends;
+  never_nested = λ w. not_cut _ _ (λ e. absurd (omega arith)) (λ e. absurd (omega arith)) (λ e. absurd (omega arith)) (λ e. absurd (omega arith)) w.calls.1.0.ends;
+  closing_refusal = λ w. differs _ _ (λ e. absurd (omega arith)) w.calls.1.1.1.0.ends;
+  late_level = λ w. false≢true w.calls.1.0.sent;
+  swapped_texts = λ w. false≢true w.calls.1.0.sent;
+  told_old_server = λ w. differs _ _ (λ e. absurd (omega arith)) w.calls.1.0.ends;
+  early_begin = λ w. not_cut _ _ (λ e. absurd (omega arith)) (λ e. absurd (omega arith)) (λ e. absurd (omega arith)) (λ e. absurd (omega arith)) w.calls.1.0.ends;
+  silent_rollback = λ w. not_cut _ _ (λ e. absurd (omega arith)) (λ e. absurd (omega arith)) (λ e. absurd (omega arith)) (λ e. absurd (omega arith)) w.calls.1.1.0.ends;
 }

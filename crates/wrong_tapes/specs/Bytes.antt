@@ -1,15 +1,17 @@
 -- The bytes of which the tapes are made, and a tape from its calls.
-use Rattle.std.specs.Prelude.{ℕ, zero, suc, pos, ◌+◌, List, [], ◌∷◌, ◌++◌, codes, length, Option, Some, None, Bool}
+use Rattle.std.specs.Prelude.{ℕ, zero, suc, pos, ◌+◌, List, [], ◌∷◌, ◌++◌, codes, length, Option, Some, None, Bool, true, false}
 use Rattle.my_reply.specs.declared.column.Column.{Column}
 use Rattle.my_value.specs.declared.value.Value.{Value}
 use Rattle.my_value.specs.declared.value.Value.TheVariants.{Bytes, Int}
+use Rattle.my_opts_parts.specs.declared.transaction.IsolationLevel.TheVariants.{ReadCommitted}
+use Rattle.my_opts_parts.specs.TransactionOptions.{TxView, default_tx}
 use Rattle.my_params.specs.declared.params.Params.{Params}
 use Rattle.my_params.specs.declared.params.Params.TheVariants.{Positional}
 use Rattle.my_value.specs.RowParts.{RowParts}
 use Rattle.my_statements.specs.Prepared.{StatementView}
 use Rattle.my_grammar.specs.declared.login.Login.{Login}
 use Rattle.my_reading.specs.declared.call.Call.{Call}
-use Rattle.my_reading.specs.declared.call.Call.TheVariants.{Connect, Query, Prepare, Reset}
+use Rattle.my_reading.specs.declared.call.Call.TheVariants.{Connect, Query, Prepare, Ping, Reset, Begin, Rollback, ForgetTransaction}
 use Rattle.my_reading.specs.Tape.{Tape, TapeCall, Span}
 use Rattle.my_reading.specs.Told.{Told, ToldReady, ToldStatement, ToldFlag}
 
@@ -112,6 +114,32 @@ set_up_queries = asks (codes "DO 2") ++ asks (codes "DO 1")
 abbrev pub resets : List ℕ
 resets = packet 0 (31 ∷ [])
 
+-- a ping, and the queries that begin and end a transaction
+abbrev pub pings : List ℕ
+pings = packet 0 (14 ∷ [])
+
+abbrev pub starts : List ℕ
+starts = asks (codes "START TRANSACTION")
+
+abbrev pub rolls_back : List ℕ
+rolls_back = asks (codes "ROLLBACK")
+
+-- a transaction that only reads, and one at a level, too, and with a snapshot; what is sent first for each, and what begins the second one
+abbrev pub reading_tx : TxView
+reading_tx = record { consistent_snapshot = false; isolation_level = None; readonly = Some true }
+
+abbrev pub full_tx : TxView
+full_tx = record { consistent_snapshot = true; isolation_level = Some ReadCommitted; readonly = Some true }
+
+abbrev pub sets_access : List ℕ
+sets_access = asks (codes "SET TRANSACTION READ ONLY")
+
+abbrev pub sets_level : List ℕ
+sets_level = asks (codes "SET TRANSACTION ISOLATION LEVEL READ COMMITTED")
+
+abbrev pub starts_fully : List ℕ
+starts_fully = asks (codes "START TRANSACTION WITH CONSISTENT SNAPSHOT")
+
 -- the packet that prepares a statement, that executes statement 1 with the value 1, and that closes a statement
 abbrev pub prepares : List ℕ → List ℕ
 prepares text = packet 0 (22 ∷ text)
@@ -148,6 +176,10 @@ returned call sent taken t = call_with call sent taken (Some t)
 abbrev pub connected : Span
 connected = returned Connect (response []) (greeting ++ fine 2 2) ToldReady
 
+-- to a server of this version
+abbrev pub connected_to : List ℕ → Span
+connected_to version = returned Connect (response []) (greeting_of version ++ fine 2 2) ToldReady
+
 -- with the queries that set it up
 abbrev pub arranged : Span
 arranged = returned Connect (response [] ++ set_up_queries) (greeting ++ fine 2 2 ++ fine 1 2 ++ fine 1 2) ToldReady
@@ -155,6 +187,20 @@ arranged = returned Connect (response [] ++ set_up_queries) (greeting ++ fine 2 
 -- a reset, for which this is sent and received, and that the server had the command or hadn't
 abbrev pub reset : List ℕ → List ℕ → Bool → Span
 reset sent taken flag = returned Reset sent taken (ToldFlag flag)
+
+-- a ping, before which this is sent and answered by an OK
+abbrev pub pinged : List ℕ → List ℕ → Span
+pinged first oks = returned Ping (first ++ pings) (oks ++ fine 1 2) ToldReady
+
+-- a transaction begins, is rolled back, and is given up
+abbrev pub begun : Span
+begun = returned (Begin default_tx) starts (fine 1 2) ToldReady
+
+abbrev pub rolled_back : Span
+rolled_back = returned Rollback rolls_back (fine 1 2) ToldReady
+
+abbrev pub forgotten : Span
+forgotten = returned ForgetTransaction [] [] ToldReady
 
 abbrev pub asked : List ℕ → List ℕ → Span
 asked text taken = returned (Query text) (asks text) taken ToldReady

@@ -4,8 +4,8 @@ use Rattle.std.specs.Str.Lossy.{utf8_lossy}
 use Rattle.my_value.specs.declared.value.Value.TheVariants.{Int}
 use Rattle.my_params.specs.declared.params.Params.TheVariants.{Empty, Positional}
 use Rattle.my_grammar.specs.declared.login.Login.{Login}
-use Rattle.my_reading.specs.declared.call.Call.TheVariants.{Connect, Query, Prepare, Execute, Batch, CloseStmt, NextRow, DropResult, TakeSet, SkipTaken, Ping, Reset, Quit}
-use Rattle.my_reading.specs.declared.error.DriverError.TheVariants.{StmtParamsMismatch}
+use Rattle.my_reading.specs.declared.call.Call.TheVariants.{Connect, Query, Prepare, Execute, Batch, CloseStmt, NextRow, DropResult, TakeSet, SkipTaken, Ping, Reset, Begin, Quit}
+use Rattle.my_reading.specs.declared.error.DriverError.TheVariants.{NestedTransaction, ReadOnlyTransNotSupported, StmtParamsMismatch}
 use Rattle.my_reading.specs.declared.error.Error.TheVariants.{Driver, Server}
 use Rattle.my_reading.specs.declared.error.ServerError.{ServerError}
 use Rattle.my_reading.specs.Endings.{IsTape}
@@ -13,7 +13,7 @@ use Rattle.my_reading.specs.Errors.{connection_closed, mixed_params}
 use Rattle.my_reading.specs.Place.{facts_at}
 use Rattle.my_reading.specs.Reading.{reading}
 use Rattle.my_reading.specs.Told.{ToldReady, ToldRow, ToldEnd, ToldNone, ToldStatement, ToldError, Dropped}
-use Rattle.wrong_tapes.specs.Bytes.{root, frugal, orderly, login_by, connected, arranged, selected, prepared, prepared_plain, reset, asking, ones, asked, asks, executes, closes, resets, set_up_queries, returned, call_with, row, row_with, one, binary_one, end, head, fine, refusal, column, packet, response, greeting, greeting_of, tape_of}
+use Rattle.wrong_tapes.specs.Bytes.{root, frugal, orderly, login_by, connected, connected_to, arranged, selected, prepared, prepared_plain, reset, begun, rolled_back, forgotten, pinged, asking, ones, asked, asks, executes, closes, resets, rolls_back, sets_level, sets_access, starts_fully, reading_tx, full_tx, set_up_queries, returned, call_with, row, row_with, one, binary_one, end, head, fine, refusal, column, packet, response, greeting, tape_of}
 
 -- what the server's ERR says
 abbrev pub error : ServerError
@@ -72,10 +72,30 @@ pub record AreRight : Type 0 where
   -- a reset, after which the queries that set the connection up are sent from the last to the first
   pub reset_whole : IsTape orderly (tape_of (arranged ∷ reset (resets ++ set_up_queries) (fine 1 2 ++ fine 1 2 ++ fine 1 2) true ∷ []))
   -- a server of version 5.7.2 is sent nothing, and a query's row is there still
-  pub not_reset : IsTape root (tape_of (returned Connect (response []) (greeting_of (codes "5.7.2") ++ fine 2 2) ToldReady ∷ selected ∷ reset [] [] false
+  pub not_reset : IsTape root (tape_of (connected_to (codes "5.7.2") ∷ selected ∷ reset [] [] false
       ∷ returned NextRow [] (one 3) (ToldRow (row (codes "1"))) ∷ []))
   -- after a reset the statement that was cached is prepared anew
   pub prepared_anew : IsTape root (tape_of (connected ∷ prepared 1 ∷ reset resets (fine 1 2) true ∷ prepared 1 ∷ []))
   -- where the server refuses it, the connection stays open, and the statement cached
   pub reset_refused : IsTape root (tape_of (connected ∷ prepared 1 ∷ returned Reset resets (refusal 1) (ToldError (Server error))
       ∷ returned (Prepare (codes "SELECT ?")) [] [] (ToldStatement (asking 1)) ∷ []))
+  -- a transaction begins, a query is sent in it, and it is rolled back; then a ping sends no more than itself
+  pub transaction : IsTape root (tape_of (connected ∷ begun ∷ asked (codes "DO 1") (fine 1 2) ∷ rolled_back ∷ pinged [] [] ∷ []))
+  -- the level comes first, then whether it only reads
+  pub begun_so : IsTape root (tape_of (connected ∷ returned (Begin full_tx) (sets_level ++ sets_access ++ starts_fully) (fine 1 2 ++ fine 1 2 ++ fine 1 2) ToldReady ∷ []))
+  -- one that was given up is rolled back by the next command, once
+  pub given_up : IsTape root (tape_of (connected ∷ begun ∷ forgotten ∷ pinged rolls_back (fine 1 2) ∷ pinged [] [] ∷ []))
+  -- the rest of a set is read before
+  pub rest_first : IsTape root (tape_of (connected ∷ begun ∷ selected ∷ forgotten ∷ returned Quit (rolls_back ++ packet 0 (1 ∷ [])) (one 3 ++ end 4 ++ fine 1 2) ToldReady ∷ []))
+  -- where the server refuses that, the next command tries it again
+  pub given_up_still : IsTape root (tape_of (connected ∷ begun ∷ forgotten ∷ returned Ping rolls_back (refusal 1) (ToldError (Server error)) ∷ pinged rolls_back (fine 1 2) ∷ []))
+  -- of a batch only the first execution does so
+  pub undone_once : IsTape root (tape_of (connected ∷ prepared 1 ∷ begun ∷ forgotten ∷ returned (Batch (asking 1) (ones 2)) (rolls_back ++ executes ++ executes) (fine 1 2 ++ fine 1 2 ++ fine 1 2) ToldReady ∷ []))
+  -- a transaction in a transaction is refused, and the first one goes on
+  pub not_nested : IsTape root (tape_of (connected ∷ begun ∷ returned (Begin full_tx) [] [] (ToldError (Driver NestedTransaction)) ∷ rolled_back ∷ []))
+  -- a server of version 5.6.4 isn't told that one only reads, but may begin another one
+  pub not_told : IsTape root (tape_of (connected_to (codes "5.6.4") ∷ returned (Begin reading_tx) [] [] (ToldError (Driver ReadOnlyTransNotSupported)) ∷ begun ∷ []))
+  -- where the server refuses a query of it, none has begun
+  pub begin_refused : IsTape root (tape_of (connected ∷ returned (Begin full_tx) (sets_level ++ sets_access) (fine 1 2 ++ refusal 1) (ToldError (Server error)) ∷ begun ∷ []))
+  -- one is given up on a closed connection
+  pub given_up_closed : IsTape root (tape_of (connected ∷ begun ∷ returned Quit (packet 0 (1 ∷ [])) [] ToldReady ∷ forgotten ∷ []))

@@ -2,14 +2,16 @@
 use Rattle.std.specs.Prelude.{pos, List, [], ◌∷◌, ◌++◌, codes, None, false, true}
 use Rattle.my_value.specs.declared.value.Value.TheVariants.{Int}
 use Rattle.my_params.specs.declared.params.Params.TheVariants.{Empty, Positional}
-use Rattle.my_reading.specs.declared.call.Call.TheVariants.{Connect, Query, Prepare, Execute, Batch, CloseStmt, NextRow, DropResult, TakeSet, SkipTaken, Ping, Quit}
-use Rattle.my_reading.specs.declared.error.Error.TheVariants.{Server}
+use Rattle.my_reading.specs.declared.call.Call.TheVariants.{Connect, Query, Prepare, Execute, Batch, CloseStmt, NextRow, DropResult, TakeSet, SkipTaken, Ping, Begin, Rollback, ForgetTransaction, Quit}
+use Rattle.my_opts_parts.specs.TransactionOptions.{default_tx}
+use Rattle.my_reading.specs.declared.error.DriverError.TheVariants.{NestedTransaction}
+use Rattle.my_reading.specs.declared.error.Error.TheVariants.{Driver, Server}
 use Rattle.my_reading.specs.declared.error.IoKind.TheVariants.{Link}
 use Rattle.my_reading.specs.Endings.{IsTape}
 use Rattle.my_reading.specs.Errors.{connection_closed, mixed_params, io_error, unexpected_eof, invalid_data}
 use Rattle.my_reading.specs.Told.{ToldReady, ToldRow, ToldEnd, ToldNone, ToldStatement, ToldError, Dropped}
 use Rattle.my_reading.specs.Tape.{Span}
-use Rattle.wrong_tapes.specs.Bytes.{root, frugal, orderly, connected, arranged, selected, prepared, prepared_plain, reset, asking, ones, executes, closes, resets, asked, asks, returned, call_with, row, one, end, fine, refusal, head, packet, response, greeting, tape_of}
+use Rattle.wrong_tapes.specs.Bytes.{root, frugal, orderly, connected, connected_to, arranged, selected, prepared, prepared_plain, reset, begun, forgotten, pinged, asking, ones, executes, closes, resets, starts, rolls_back, sets_level, sets_access, starts_fully, reading_tx, full_tx, asked, asks, returned, call_with, row, one, end, fine, refusal, head, packet, response, greeting, tape_of}
 use Rattle.wrong_tapes.specs.Right.{curious, error}
 
 -- the calls are on no tape of a client that logs in as root
@@ -97,3 +99,24 @@ pub record AreWrong : Type 0 where
   pub half_reset : IsTape orderly (tape_of (arranged ∷ reset (resets ++ asks (codes "DO 2")) (fine 1 2 ++ fine 1 2) true ∷ [])) → ⊥
   -- a statement is found in the cache after a reset
   pub kept_over_reset : NoTape (connected ∷ prepared 1 ∷ reset resets (fine 1 2) true ∷ returned (Prepare (codes "SELECT ?")) [] [] (ToldStatement (asking 1)) ∷ [])
+  -- a transaction that was given up isn't rolled back before the next command, or is rolled back twice
+  pub not_undone : NoTape (connected ∷ begun ∷ forgotten ∷ pinged [] [] ∷ [])
+  pub undone_twice : NoTape (connected ∷ begun ∷ forgotten ∷ pinged rolls_back (fine 1 2) ∷ pinged rolls_back (fine 1 2) ∷ [])
+  -- one that the server didn't roll back is taken for rolled back
+  pub undone_by_error : NoTape (connected ∷ begun ∷ forgotten ∷ returned Ping rolls_back (refusal 1) (ToldError (Server error)) ∷ pinged [] [] ∷ [])
+  -- one is given up, and rolled back at once
+  pub undone_early : NoTape (connected ∷ begun ∷ returned ForgetTransaction rolls_back (fine 1 2) ToldReady ∷ [])
+  -- one begins in another one, or is refused where there is no other one
+  pub begun_twice : NoTape (connected ∷ begun ∷ begun ∷ [])
+  pub never_nested : NoTape (connected ∷ returned (Begin default_tx) [] [] (ToldError (Driver NestedTransaction)) ∷ [])
+  -- the refusal closes the connection
+  pub closing_refusal : NoTape (connected ∷ begun ∷ returned (Begin default_tx) [] [] (ToldError (Driver NestedTransaction)) ∷ returned NextRow [] [] (ToldError connection_closed) ∷ [])
+  -- the level is sent after the transaction has begun; the first two queries are sent in the other order
+  pub late_level : NoTape (connected ∷ returned (Begin full_tx) (sets_access ++ starts_fully ++ sets_level) (fine 1 2 ++ fine 1 2 ++ fine 1 2) ToldReady ∷ [])
+  pub swapped_texts : NoTape (connected ∷ returned (Begin full_tx) (sets_access ++ sets_level ++ starts_fully) (fine 1 2 ++ fine 1 2 ++ fine 1 2) ToldReady ∷ [])
+  -- a server of version 5.6.4 is told that one only reads
+  pub told_old_server : NoTape (connected_to (codes "5.6.4") ∷ returned (Begin reading_tx) (sets_access ++ starts) (fine 1 2 ++ fine 1 2) ToldReady ∷ [])
+  -- one has begun before the last OK
+  pub early_begin : NoTape (connected ∷ returned (Begin reading_tx) (sets_access ++ starts) (fine 1 2) ToldReady ∷ [])
+  -- one is rolled back, and nothing is sent
+  pub silent_rollback : NoTape (connected ∷ begun ∷ returned Rollback [] [] ToldReady ∷ [])

@@ -33,10 +33,10 @@ fn payload_of(alloc: Global, packet: ClientPacket) -> Result<Vec<u8>, NoMemory>
 }
 
 // The payload of a query with this text.
-fn query_payload(alloc: Global, text: &Blob) -> Result<Vec<u8>, NoMemory>
+fn query_payload(alloc: Global, text: &[u8]) -> Result<Vec<u8>, NoMemory>
     ensures { IfOk result (λ payload. payload.items ≡ client_bytes (ClientPacket.Query text.now)) }
 {
-    payload_of(alloc, ClientPacket::Query(text.copy(alloc)?))
+    payload_of(alloc, ClientPacket::Query(Blob::from_slice(alloc, text)?))
 }
 
 // The payload that prepares a statement of this text.
@@ -201,7 +201,7 @@ impl Stand {
     }
 
     /// A query of the client's own is sent.
-    pub(super) fn query(&mut self, alloc: Global, text: &Blob) -> Result<Step, NoMemory>
+    pub(super) fn query(&mut self, alloc: Global, text: &[u8]) -> Result<Step, NoMemory>
         ensures { IfOk result (λ step. Comes (queries text.now self.old) step self.new) }
     {
         let command = query_payload(alloc, text)?;
@@ -223,7 +223,7 @@ impl Stand {
         let Some(text) = self.texts.as_slice().get(self.arranged) else {
             return Ok(Step::Passes);
         };
-        let command = query_payload(alloc, text)?;
+        let command = query_payload(alloc, text.as_slice())?;
         self.ask(Spot::Head, &command, self.arranged + 1)
     }
 
@@ -233,7 +233,7 @@ impl Stand {
     {
         match call {
             Call::Connect => self.arrange(alloc),
-            Call::Query(text) => self.query(alloc, text),
+            Call::Query(text) => self.query(alloc, text.as_slice()),
             Call::Prepare(text) => self.ask(
                 Spot::Prepare,
                 &prepare_payload(alloc, text)?,
@@ -245,7 +245,10 @@ impl Stand {
             | Call::NextRow
             | Call::DropResult
             | Call::TakeSet
-            | Call::SkipTaken => Ok(Step::Passes),
+            | Call::SkipTaken
+            | Call::Begin(_)
+            | Call::Rollback
+            | Call::ForgetTransaction => Ok(Step::Passes),
             Call::Ping => self.ask_packet(alloc, Spot::Single, ClientPacket::Ping),
             Call::Reset => self.ask_packet(alloc, Spot::Single, ClientPacket::ResetConnection),
             Call::Quit => self.ask_packet(alloc, Spot::Idle, ClientPacket::Quit),

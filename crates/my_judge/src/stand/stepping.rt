@@ -145,8 +145,14 @@ impl Stand {
             Part::Forget => Ok(self.forget(call)),
             Part::Offered => Ok(self.offer()),
             Part::Clear => Ok(self.clear()),
-            Part::Text(text) => self.query(alloc, text),
+            Part::Text(text) => self.query(alloc, text.as_slice()),
+            Part::Start(opts, place) => self.start(alloc, **opts, *place),
             Part::Flag(flag) => Ok(answered(Answer::Flag(*flag))),
+            Part::Undo => self.undo(alloc),
+            Part::Undone => Ok(self.settle(self.status.rolled_back())),
+            Part::Refuse(opts) => Ok(self.refuse_transaction(**opts)),
+            Part::Settle(status) => Ok(self.settle(*status)),
+            Part::GiveUp => Ok(self.settle(self.status.given_up())),
         }
     }
 }
