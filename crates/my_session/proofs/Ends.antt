@@ -21,21 +21,24 @@ use Rattle.my_session.specs.declared.tables.Plan.{Plan}
 use Rattle.my_session.specs.declared.tables.Plan.TheVariants as plans
 use Rattle.my_session.specs.declared.reactions.Reaction.{Reaction}
 use Rattle.my_session.specs.declared.reactions.Reaction.TheVariants as reactions
-use Rattle.my_reading.specs.Calls.{call_of, text_in, lists_in, statement_in}
-use Rattle.my_reading.specs.declared.call.CallKind.TheVariants.{Execute, Batch}
+use Rattle.my_reading.specs.Calls.{call_of, opts_in, text_in, lists_in, statement_in}
+use Rattle.my_reading.specs.declared.call.CallKind.{CallKind}
+use Rattle.my_reading.specs.declared.call.CallKind.TheVariants.{Execute, Batch, Begin}
 use Rattle.my_reading.specs.declared.error.DriverError.{DriverError}
 use Rattle.my_reading.specs.Facts.{prepared_by}
 use Rattle.my_reading.specs.Statements.{held_in, is_mixed_text, leaving, query_of}
 use Rattle.my_statements.specs.Cache.{Held}
 use Rattle.my_session.specs.Tasks.{fault_in, is_open}
-use Rattle.my_reading.specs.Commands.{closing, command_of, connecting, execution, queried, setup_texts}
+use Rattle.my_reading.specs.Commands.{closing, command_of, connecting, execution, queried}
 use Rattle.my_reading.specs.Errors.{invalid_data, unexpected_eof}
 use Rattle.my_session.specs.LinkErrors.{link_error}
 use Rattle.my_session.specs.Ends.{EachEnd, IsFault, Fails}
 use Rattle.my_reading.specs.Told.{ToldReady, ToldRow, ToldEnd, ToldNone, ToldStatement, ToldFlag, ToldError, Dropped}
-use Rattle.my_session.specs.Machine.{Doing, Goes, Passes, Sends, Needs, Tells, Move, Did, Does, FaultIs, failed_by, reply_to, above, unless_above, refused, gave, passed, reacted, read_by, reading, next_terms, queued, unless_exceeds, unless_refused, refusal, is_doubled, looked, with_kept, kept, with_task, asked, arranged, offered, set_up, planned, when_owed, next_by, next, advanced, refused_by, batched, ran}
+use Rattle.my_session.specs.Machine.{Doing, Goes, Passes, Sends, Needs, Tells, Move, Did, Does, FaultIs, failed_by, reply_to, above, unless_above, refused, gave, passed, reacted, read_by, reading, next_terms, queued, unless_exceeds, unless_refused, refusal, is_doubled, looked, with_kept, kept, with_task, asked, arranged, offered, undone, queried_by, admitted, planned, when_owed, next_by, next, advanced, refused_by, batched, ran}
 use Rattle.my_reading.specs.Rows.{row_at}
+use Rattle.my_reading.specs.Transactions.{begin_refusal, is_given_up, rollback_text}
 use Rattle.my_reading.specs.Versions.{can_reset}
+use Rattle.my_session.specs.Queries.{queries_of}
 use Rattle.my_handshake.specs.Version.{version_of}
 use Rattle.my_session.specs.Seen.{Seen}
 use Rattle.my_session.specs.Steps.{goes_on, moved, AllGo, Steps, last_tick, with_end, failing, with_failing}
@@ -137,10 +140,20 @@ unfolding needs
 offered_needs s true = refl
 offered_needs s false = refl
 
-set_up_needs : (s : Seen) (n : ℕ) (x : Option (List ℕ)) → needs (set_up s n x).does ≡ false
+queried_needs : (s : Seen) (c : CallKind) (n : ℕ) (x : Option (List ℕ)) → needs (queried_by s c n x).does ≡ false
 unfolding needs
-set_up_needs s n None = refl
-set_up_needs s n (Some text) = begins_needs s (tasks.Setting (suc n)) (queried (next_terms s) text) _
+queried_needs s c n None = refl
+queried_needs s c n (Some text) = begins_needs s (tasks.Asking c (suc n)) (queried (next_terms s) text) _
+
+admitted_needs : (s : Seen) (x : Option DriverError) → needs (admitted s x).does ≡ false
+unfolding needs
+admitted_needs s None = queried_needs s Begin 0 (slice_get (queries_of s.login Begin s.call) 0)
+admitted_needs s (Some e) = refl
+
+undone_needs : (s : Seen) (c : CallKind) (b : Bool) → needs (undone s c b).does ≡ false
+unfolding needs
+undone_needs s c true = begins_needs s (tasks.Undoing c) (queried (next_terms s) rollback_text) _
+undone_needs s c false = refl
 
 -- what a session that asks for bytes does once the link reported its end
 record IsAtEnd (s : Seen) : Type 0 where
@@ -177,7 +190,12 @@ planned_rests s (plans.Notes n) e = cc
 planned_rests s plans.Forgets e = cc
 planned_rests s plans.Resets e = absurd (no_need _ (offered_needs s (can_reset (version_of s.facts.version))) e)
 planned_rests s plans.Clears e = cc
-planned_rests s (plans.Sets n) e = absurd (no_need _ (set_up_needs s n (slice_get (setup_texts s.login) n)) e)
+planned_rests s (plans.Queries c n) e = absurd (no_need _ (queried_needs s c n (slice_get (queries_of s.login c s.call) n)) e)
+planned_rests s (plans.Undoes c) e = absurd (no_need _ (undone_needs s c (is_given_up s.status)) e)
+planned_rests s (plans.Settles c) e = cc
+planned_rests s plans.Admits e = absurd (no_need _ (admitted_needs s (begin_refusal (opts_in s.call) (version_of s.facts.version) s.status)) e)
+planned_rests s plans.GivesUp e = cc
+planned_rests s plans.Forsakes e = cc
 planned_rests s (plans.Asks c) e = absurd (no_need _ (unless_refused_needs s (refusal c s.call) (asked s (tasks.Own c) (command_of (next_terms s) s.statements (call_of c s.call))) (asked_needs s (tasks.Own c) (command_of (next_terms s) s.statements (call_of c s.call)))) e)
 planned_rests s (plans.Arranges n) e = absurd (no_need _ (arranged_needs s n (connecting s.login (next_terms s) (suc n))) e)
 planned_rests s plans.Readies e = cc
@@ -278,18 +296,20 @@ failing_tells : (s : Seen) (fault : LinkFault) (t : Task) → is_open t ≡ true
 failing_tells s fault tasks.Nothing o = cc
 failing_tells s fault (tasks.Begun c) o = refl
 failing_tells s fault (tasks.Cleaning c) o = refl
+failing_tells s fault (tasks.Undoing c) o = refl
+failing_tells s fault (tasks.Cleaned c) o = refl
 failing_tells s fault (tasks.Own c) o = refl
 failing_tells s fault tasks.Giving o = refl
 failing_tells s fault (tasks.Arranging n) o = refl
 failing_tells s fault (tasks.Running n) o = refl
 failing_tells s fault (tasks.Finishing n) o = refl
 failing_tells s fault tasks.Clearing o = refl
-failing_tells s fault (tasks.Setting n) o = refl
+failing_tells s fault (tasks.Asking c n) o = refl
 failing_tells s fault tasks.Reading o = refl
 failing_tells s fault tasks.Dropping o = refl
 failing_tells s fault tasks.Taking o = refl
 failing_tells s fault tasks.Skipping o = refl
-failing_tells s fault tasks.Leaving o = refl
+failing_tells s fault (tasks.Leaving c) o = refl
 failing_tells s fault (tasks.Failing c old) o = refl
 
 pub failing_fails : (s t : Seen) (fault : LinkFault) → is_open s.task ≡ true → t ≡ with_failing s fault → Fails t

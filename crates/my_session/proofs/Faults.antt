@@ -36,11 +36,11 @@ use Rattle.my_reading.specs.Facts.{prepared_by}
 use Rattle.my_reading.specs.Statements.{held_in, is_mixed_text, known_in, leaving, query_of}
 use Rattle.my_reading.specs.declared.call.Call.{Call}
 use Rattle.my_reading.specs.declared.call.CallKind.{CallKind}
-use Rattle.my_reading.specs.declared.call.CallKind.TheVariants.{Connect, Query, Prepare, Execute, Batch, CloseStmt, NextRow, DropResult, TakeSet, SkipTaken, Ping, Reset, Quit}
+use Rattle.my_reading.specs.declared.call.CallKind.TheVariants.{Connect, Query, Prepare, Execute, Batch, CloseStmt, NextRow, DropResult, TakeSet, SkipTaken, Ping, Reset, Begin, Rollback, ForgetTransaction, Quit}
 use Rattle.my_session.specs.declared.task.LinkFault.{LinkFault}
 use Rattle.my_session.specs.declared.task.LinkFault.TheVariants as faults
 use Rattle.my_session.specs.declared.task.Task.{Task}
-use Rattle.my_session.specs.declared.task.Task.TheVariants.{Nothing, Begun, Cleaning, Own, Giving, Arranging, Running, Finishing, Clearing, Setting, Reading, Dropping, Taking, Skipping, Leaving, Failing}
+use Rattle.my_session.specs.declared.task.Task.TheVariants.{Nothing, Begun, Cleaning, Undoing, Cleaned, Own, Giving, Arranging, Running, Finishing, Clearing, Asking, Reading, Dropping, Taking, Skipping, Leaving, Failing}
 use Rattle.my_reading.specs.declared.error.Error.{Error}
 use Rattle.my_reading.specs.declared.error.Error.TheVariants as errors
 use Rattle.my_reading.specs.declared.facts.Facts.{Facts}
@@ -51,10 +51,10 @@ use Rattle.my_session.specs.declared.reactions.Reaction.TheVariants as reactions
 use Rattle.my_reading.specs.declared.answer.Answer.{Answer}
 use Rattle.my_reading.specs.declared.answer.Answer.TheVariants as answers
 use Rattle.my_session.specs.declared.answer.Tick.TheVariants as ticks
-use Rattle.my_reading.specs.Calls.{call_of, asks, lists_in, params_in, statement_in, text_in}
+use Rattle.my_reading.specs.Calls.{kind_of as call_kind, call_of, asks, lists_in, opts_in, params_in, statement_in, text_in}
 use Rattle.my_session.specs.Tasks.{kind_in, fault_in, is_open}
 use Rattle.my_session.specs.Causes.{Executes, Stops, Cause, SessionBecause, NothingLeft, AnswerCause, EachFault, place_in}
-use Rattle.my_reading.specs.Commands.{closing, command_of, connecting, execution, opening, queried, setup_texts}
+use Rattle.my_reading.specs.Commands.{closing, command_of, connecting, execution, opening, queried}
 use Rattle.my_session.specs.Entries.{Entry, Opens, facts_of, terms_by, connecting_in}
 use Rattle.my_reading.specs.Errors.{invalid_data, unexpected_eof}
 use Rattle.my_session.specs.LinkErrors.{link_error}
@@ -62,23 +62,26 @@ use Rattle.my_reading.specs.Told.{Told, ToldReady, ToldRow, ToldEnd, ToldNone, T
 use Rattle.my_session.specs.History.{History}
 use Rattle.my_session.specs.Law.{in_order, talks}
 use Rattle.my_session.specs.Machine as machine
-use Rattle.my_session.specs.Machine.{Move, Doing, Goes, Sends, Needs, Tells, Did, FaultIs, advanced, reply_to, above, unless_above, refused, gave, passed, reacted, read_by, reading, next_terms, unless_exceeds, unless_refused, refusal, refused_by, is_doubled, looked, with_kept, kept, asked, batched, ran, arranged, offered, set_up, planned, when_owed, next_by, next, is_greeting}
+use Rattle.my_session.specs.Machine.{Move, Doing, Goes, Sends, Needs, Tells, Did, FaultIs, advanced, reply_to, above, unless_above, refused, gave, passed, reacted, read_by, reading, next_terms, unless_exceeds, unless_refused, refusal, refused_by, is_doubled, looked, with_kept, kept, asked, batched, ran, arranged, offered, begins, undone, done, queried_by, admitted, planned, when_owed, next_by, next, is_greeting}
 use Rattle.my_reading.specs.Rows.{row_at}
+use Rattle.my_reading.specs.Transactions.{begin_refusal, is_given_up, rollback_text}
 use Rattle.my_reading.specs.Versions.{can_reset}
+use Rattle.my_session.specs.Queries.{has_queries, queries_of}
 use Rattle.my_handshake.specs.Version.{version_of}
 use Rattle.my_session.specs.Seen.{Seen}
 use Rattle.my_session.specs.Stands.{Stands, Heard, call_with, is_heading, is_reading}
-use Rattle.my_session.specs.Tables.{plan_of, ask_plan, run_plan, first_plan, clean_plan, own_plan, query_plan, execute_plan, prepare_plan, read_plan, drop_plan, take_plan, skip_plan, react, is_breaking}
+use Rattle.my_session.specs.Tables.{plan_of, ask_plan, run_plan, first_plan, clean_plan, leave_plan, own_plan, query_plan, execute_plan, prepare_plan, read_plan, drop_plan, take_plan, skip_plan, react, is_breaking}
 use Rattle.my_session.proofs.Faults.Payloads.{failed_reads, row_reads}
 use Rattle.my_reading.proofs.Described.{kind_is, told_columns}
 use Rattle.my_session.proofs.Faults.Places.{place_is}
-use Rattle.my_session.proofs.Faults.Misfits.{Awaits, FitsKind, react_fits, heading_spot, cleaning_awaits, arranging_awaits, reading_awaits, dropping_awaits, connect_awaits, ping_awaits, reset_awaits, head_awaits, column_awaits, close_awaits, execution_head_awaits, execution_column_awaits, execution_close_awaits, running_head_awaits, running_column_awaits, running_close_awaits, finishing_awaits, setting_awaits, prepare_awaits, further_awaits, next_column_awaits, next_close_awaits, skipping_awaits}
+use Rattle.my_session.proofs.Faults.Misfits.{Awaits, FitsKind, react_fits, heading_spot, cleaning_awaits, undoing_awaits, arranging_awaits, reading_awaits, dropping_awaits, connect_awaits, ping_awaits, reset_awaits, head_awaits, column_awaits, close_awaits, execution_head_awaits, execution_column_awaits, execution_close_awaits, running_head_awaits, running_column_awaits, running_close_awaits, finishing_awaits, asking_awaits, prepare_awaits, further_awaits, next_column_awaits, next_close_awaits, skipping_awaits}
 use Rattle.my_session.proofs.History.{each_history}
 use Rattle.my_session.proofs.Stands.Spots.{is_known, known, row_spot}
 use Rattle.my_session.proofs.History.Stopping.{talks_found, rest_found, stopped, over_found, failed_found}
 use Rattle.my_session.proofs.Stands.Firsts.{query_talk, execute_talk}
 use Rattle.my_session.proofs.Stands.Plans.{left_false}
-use Rattle.my_session.proofs.Refusals.{refused_run, values_cause}
+use Rattle.my_session.proofs.CallKinds.{of_queries, of_unrefused, asks_too, same_queries}
+use Rattle.my_session.proofs.Refusals.{refused_run, values_cause, begin_cause}
 use Rattle.my_session.proofs.Stands.Wired.{limit_is, terms_now}
 
 module _ (s : Seen) (h : History) (st : Stands s h) (op : is_open s.task ≡ true) where
@@ -100,7 +103,7 @@ module _ (s : Seen) (h : History) (st : Stands s h) (op : is_open s.task ≡ tru
   ToldBy ToldNone = AllRead
   ToldBy (ToldStatement statement) = Unit {0}
   ToldBy (ToldFlag flag) = Unit {0}
-  ToldBy (ToldError e) = Cause s.login (fault_in s.task) s.statements s.unread h st.newest st.older e
+  ToldBy (ToldError e) = Cause s.login (fault_in s.task) s.statements s.status s.unread h st.newest st.older e
   ToldBy (Dropped closing) = Unit {0}
 
   abbrev pub TellsBy : Doing → Type 0
@@ -142,18 +145,18 @@ module _ (s : Seen) (h : History) (st : Stands s h) (op : is_open s.task ≡ tru
         rest_is = rest_found st.newest st.older h.taken s.unread st.wire.taken_is st.wire.done st.wire.fits ∙ ap (λ (c : Cut). c.rest) here;
       }
 
-  link : (fault : LinkFault) → fault_in s.task ≡ Some fault → Cause s.login (fault_in s.task) s.statements s.unread h st.newest st.older (link_error fault s.facts.place)
+  link : (fault : LinkFault) → fault_in s.task ≡ Some fault → Cause s.login (fault_in s.task) s.statements s.status s.unread h st.newest st.older (link_error fault s.facts.place)
   link faults.Link e = (place, e)
   link faults.TooLong e = e
   link faults.NoMemory e = tt
 
   -- the payload in front
   module _ (waits : is_idle s.context.spot ≡ false) (p rest : List ℕ) (next : ℕ) (at : front_at s.number s.context.terms.limit s.unread ≡ Whole p rest next) where
-    unfit : is_bad (kind_there s.context s.facts.columns p) ≡ true → Cause s.login (fault_in s.task) s.statements s.unread h st.newest st.older (invalid_data s.facts.place)
+    unfit : is_bad (kind_there s.context s.facts.columns p) ≡ true → Cause s.login (fault_in s.task) s.statements s.status s.unread h st.newest st.older (invalid_data s.facts.place)
     unfit bad = (place, inl (record { payload = p; stops = stops (Whole p rest next) at (ap is_bad (kind_here p) ∙ bad) waits }))
 
     -- a statement that was prepared has the id of one that is still cached
-    doubled : (k : Kind) → kind_there s.context s.facts.columns p ≡ k → is_doubled s.statements k p ≡ true → Cause s.login (fault_in s.task) s.statements s.unread h st.newest st.older (invalid_data s.facts.place)
+    doubled : (k : Kind) → kind_there s.context s.facts.columns p ≡ k → is_doubled s.statements k p ≡ true → Cause s.login (fault_in s.task) s.statements s.status s.unread h st.newest st.older (invalid_data s.facts.place)
     doubled (kinds.Greets n) k c = cc
     doubled (kinds.Good status) k c = cc
     doubled kinds.Failed k c = cc
@@ -247,7 +250,7 @@ module _ (s : Seen) (h : History) (st : Stands s h) (op : is_open s.task ≡ tru
     unless_told kinds.Field e m told = told
     unless_told kinds.Bad e m told = told
 
-    misfit_told : ((k : Kind) → is_known s.context.spot k ≡ true → is_breaking (react s.task k) ≡ true → is_bad k ≡ true) → (k : Kind) → kind_there s.context s.facts.columns p ≡ k → (b : Bool) → is_breaking (react s.task k) ≡ b → b || is_doubled s.statements k p ≡ true → Cause s.login (fault_in s.task) s.statements s.unread h st.newest st.older (invalid_data s.facts.place)
+    misfit_told : ((k : Kind) → is_known s.context.spot k ≡ true → is_breaking (react s.task k) ≡ true → is_bad k ≡ true) → (k : Kind) → kind_there s.context s.facts.columns p ≡ k → (b : Bool) → is_breaking (react s.task k) ≡ b → b || is_doubled s.statements k p ≡ true → Cause s.login (fault_in s.task) s.statements s.status s.unread h st.newest st.older (invalid_data s.facts.place)
     misfit_told breaks k e true b o = unfit (ap is_bad e ∙ breaks k (known s.context.spot s.context.rows (deprecates_eof s.context.terms.kept) s.context.columns s.facts.columns p k e) b)
     misfit_told breaks k e false b o = doubled k e o
 
@@ -304,6 +307,9 @@ module _ (s : Seen) (h : History) (st : Stands s h) (op : is_open s.task ≡ tru
   opens_some SkipTaken e own fit none = cc
   opens_some Ping e own fit none = cc
   opens_some Reset e own fit none = cc
+  opens_some Begin e own fit none = cc
+  opens_some Rollback e own fit none = cc
+  opens_some ForgetTransaction e own fit none = cc
   opens_some Quit e own fit none = cc
 
   -- the own command of a call is the exchange that it begins
@@ -320,6 +326,9 @@ module _ (s : Seen) (h : History) (st : Stands s h) (op : is_open s.task ≡ tru
   opens_own SkipTaken e own = cc
   opens_own Ping e own = refl
   opens_own Reset e own = refl
+  opens_own Begin e own = cc
+  opens_own Rollback e own = cc
+  opens_own ForgetTransaction e own = cc
   opens_own Quit e own = refl
 
   asked_told : (c : CallKind) → asks c ≡ true → ask_plan c ≡ plans.Asks c → Some c ≡ kind_in s.task → refusal c s.call ≡ None → (o : Option Talk) → command_of (next_terms s) s.statements (call_of c s.call) ≡ o → Explained (asked s (Own c) o)
@@ -334,23 +343,40 @@ module _ (s : Seen) (h : History) (st : Stands s h) (op : is_open s.task ≡ tru
   offered_told true = tt
   offered_told false = tt
 
-  set_up_told : (n : ℕ) → Some Reset ≡ kind_in s.task → (o : Option (List ℕ)) → slice_get (setup_texts s.login) n ≡ o → Explained (set_up s n o)
-  set_up_told n own None at = tt
-  set_up_told n own (Some text) at =
+  -- so may one of its own queries
+  query_told : (c : CallKind) (n : ℕ) (text : List ℕ) → Some c ≡ kind_in s.task → slice_get (queries_of s.login c s.call) n ≡ Some text → Explained (begins s (Asking c (suc n)) (queried (next_terms s) text))
+  query_told c n text own at =
       let t : Talk = queried (next_terms s) text in
-      command_told Reset (Setting (suc n)) t own (inr (inr (inr (record { kind = refl; place = n; text = text; listed = at; queries = refl })))) (first_above s.facts.settings.limit (commands_in t)) refl
+      let listed : slice_get (queries_of s.login (call_kind (call_of c s.call)) (call_of c s.call)) n ≡ Some text = ap (λ texts. slice_get texts n) (same_queries s.login c s.call) ∙ at in
+      command_told c (Asking c (suc n)) t own (inr (inr (inr (inl (record { place = n; text = text; listed = listed; queries = refl }))))) (first_above s.facts.settings.limit (commands_in t)) refl
+
+  queries_told : (c : CallKind) (n : ℕ) → has_queries c ≡ true → Some c ≡ kind_in s.task → (o : Option (List ℕ)) → slice_get (queries_of s.login c s.call) n ≡ o → Explained (queried_by s c n o)
+  queries_told c n some own None at = of_queries (λ x. Explained (done s x)) tt tt c some
+  queries_told c n some own (Some text) at = query_told c n text own at
+
+  -- a transaction may be refused
+  admitted_told : Some Begin ≡ kind_in s.task → (o : Option DriverError) → begin_refusal (opts_in s.call) (version_of s.facts.version) s.status ≡ o → Explained (admitted s o)
+  admitted_told own None is = queries_told Begin 0 refl own (slice_get (queries_of s.login Begin s.call) 0) refl
+  admitted_told own (Some e) is = begin_cause (opts_in s.call) e s.login (fault_in s.task) s.status h entries (pending_here Begin own)
+      (ap (λ (f : Facts). begin_refusal (opts_in s.call) (version_of f.version) s.status) (sym st.wire.facts_are) ∙ is)
+
+  undone_told : (c : CallKind) → asks c ≡ true → Some c ≡ kind_in s.task → (b : Bool) → Explained (undone s c b)
+  undone_told c asking own true =
+      let t : Talk = queried (next_terms s) rollback_text in
+      command_told c (Undoing c) t own (inr (inr (inr (inr (record { cleans = asks_too c s.call asking; queries = refl }))))) (first_above s.facts.settings.limit (commands_in t)) refl
+  undone_told c asking own false = tt
 
   -- its parameters may be refused
   refusal_told : (c : CallKind) → Some c ≡ kind_in s.task → (o : Option DriverError) (m : Move) → refusal c s.call ≡ o → (o ≡ None → Explained m) → Explained (unless_refused s o m)
   refusal_told c own None m is told = told refl
   refusal_told c own (Some e) m is told =
       let w = refused_run c s.call e is in
-      values_cause (statement_in s.call) (params_in s.call) e (fault_in s.task) h w.refused (subst (λ (o : Option Call). Executes o (statement_in s.call) (params_in s.call)) (sym (pending_here c own)) w.executes)
+      values_cause (statement_in s.call) (params_in s.call) e s.login (fault_in s.task) s.status h entries w.refused (subst (λ (o : Option Call). Executes o (statement_in s.call) (params_in s.call)) (sym (pending_here c own)) w.executes)
 
   -- so may those of an execution of a batch
   values_told : (params : Params) → Executes h.pending (statement_in s.call) params → (o : Option DriverError) (m : Move) → refused_by (values_for (statement_in s.call) params) ≡ o → (o ≡ None → Explained m) → Explained (unless_refused s o m)
   values_told params pending None m is told = told refl
-  values_told params pending (Some e) m is told = values_cause (statement_in s.call) params e (fault_in s.task) h is pending
+  values_told params pending (Some e) m is told = values_cause (statement_in s.call) params e s.login (fault_in s.task) s.status h entries is pending
 
   listed_here : (n : ℕ) (params : Params) → Some Batch ≡ kind_in s.task → slice_get (lists_in s.call) n ≡ Some params → Executes h.pending (statement_in s.call) params
   listed_here n params own at = inr (lists_in s.call, n, pending_here Batch own, at)
@@ -393,7 +419,9 @@ module _ (s : Seen) (h : History) (st : Stands s h) (op : is_open s.task ≡ tru
   Suits plans.Batches = Some Batch ≡ kind_in s.task
   Suits (plans.Runs n) = Some Batch ≡ kind_in s.task
   Suits (plans.Arranges n) = (connecting_in entries ≡ suc n) × (Some Connect ≡ kind_in s.task)
-  Suits (plans.Sets n) = Some Reset ≡ kind_in s.task
+  Suits (plans.Queries c n) = (has_queries c ≡ true) × (Some c ≡ kind_in s.task)
+  Suits (plans.Undoes c) = (asks c ≡ true) × (Some c ≡ kind_in s.task)
+  Suits plans.Admits = Some Begin ≡ kind_in s.task
   Suits plans.Finds = Some Prepare ≡ kind_in s.task
   Suits plans.Checks = Some Execute ≡ kind_in s.task
   Suits plans.Keeps = Some Prepare ≡ kind_in s.task
@@ -409,7 +437,12 @@ module _ (s : Seen) (h : History) (st : Stands s h) (op : is_open s.task ≡ tru
   plan_told plans.Forgets a = tt
   plan_told plans.Resets a = offered_told (can_reset (version_of s.facts.version))
   plan_told plans.Clears a = tt
-  plan_told (plans.Sets n) own = set_up_told n own (slice_get (setup_texts s.login) n) refl
+  plan_told (plans.Queries c n) own = queries_told c n own.0 own.1 (slice_get (queries_of s.login c s.call) n) refl
+  plan_told (plans.Undoes c) own = undone_told c own.0 own.1 (is_given_up s.status)
+  plan_told (plans.Settles c) a = tt
+  plan_told plans.Admits own = admitted_told own (begin_refusal (opts_in s.call) (version_of s.facts.version) s.status) refl
+  plan_told plans.GivesUp a = tt
+  plan_told plans.Forsakes a = tt
   plan_told plans.Batches own = batched_told own (slice_get (lists_in s.call) 0) refl
   plan_told (plans.Runs n) own = ran_told (suc n) n own (slice_get (lists_in s.call) n) refl
   plan_told (plans.Notes n) a = tt
@@ -526,16 +559,19 @@ module _ (s : Seen) (h : History) (st : Stands s h) (op : is_open s.task ≡ tru
   first_suits SkipTaken own = tt
   first_suits Ping own = tt
   first_suits Reset own = tt
+  first_suits Begin own = tt
+  first_suits Rollback own = tt
+  first_suits ForgetTransaction own = tt
   first_suits Quit own = tt
 
   own_suits : (c : CallKind) → s.task ≡ Own c → HeardAs (Own c) → Suits (own_plan c s.context.spot)
   own_suits Connect e hd = awaits_as (Own Connect) e (connect_awaits s.context.spot hd.at.1)
   own_suits Query e hd =
-      let queried = query_talk s.login (terms_by s.login st.older) (connecting_in st.older) (text_in s.call) talk (subst (λ (c : Call). Opens s.login (terms_by s.login st.older) c (connecting_in st.older) (origin talk)) hd.tie.0 st.wire.table.0) in
+      let queried = query_talk s.login (terms_by s.login st.older) (connecting_in st.older) (text_in s.call) talk (subst (λ (c : Call). Opens s.login (terms_by s.login st.older) c (connecting_in st.older) (origin talk)) (sym hd.tie.0) st.wire.table.0) in
       query_suits e s.context.spot refl (ap (λ (c : Context). is_heading c.spot) st.wire.context_is ∙ heading_spot talk queried hd.at.2)
   own_suits Prepare e hd = prepare_suits e hd.at.1 s.context.spot refl
   own_suits Execute e hd =
-      let queried = execute_talk s.login (terms_by s.login st.older) (connecting_in st.older) (statement_in s.call) (params_in s.call) talk (subst (λ (c : Call). Opens s.login (terms_by s.login st.older) c (connecting_in st.older) (origin talk)) hd.tie.0 st.wire.table.0) in
+      let queried = execute_talk s.login (terms_by s.login st.older) (connecting_in st.older) (statement_in s.call) (params_in s.call) talk (subst (λ (c : Call). Opens s.login (terms_by s.login st.older) c (connecting_in st.older) (origin talk)) (sym hd.tie.0) st.wire.table.0) in
       execution_suits e s.context.spot refl (ap (λ (c : Context). is_heading c.spot) st.wire.context_is ∙ heading_spot talk queried hd.at.2)
   own_suits Batch e hd = absurd hd.at
   own_suits CloseStmt e hd = tt
@@ -545,6 +581,9 @@ module _ (s : Seen) (h : History) (st : Stands s h) (op : is_open s.task ≡ tru
   own_suits SkipTaken e hd = absurd hd.at
   own_suits Ping e hd = awaits_as (Own Ping) e (subst (λ (x : Spot). Awaits (Own Ping) x) (sym hd.at.1) ping_awaits)
   own_suits Reset e hd = awaits_as (Own Reset) e (subst (λ (x : Spot). Awaits (Own Reset) x) (sym hd.at.1) reset_awaits)
+  own_suits Begin e hd = absurd hd.at
+  own_suits Rollback e hd = absurd hd.at
+  own_suits ForgetTransaction e hd = absurd hd.at
   own_suits Quit e hd = tt
 
   read_suits : s.task ≡ Reading → s.untold ≡ false → (spot : Spot) → s.context.spot ≡ spot → is_reading spot ≡ true → Suits (read_plan spot)
@@ -624,19 +663,24 @@ module _ (s : Seen) (h : History) (st : Stands s h) (op : is_open s.task ≡ tru
   ask_suits SkipTaken asking own = (asking, refl, own)
   ask_suits Ping asking own = (asking, refl, own)
   ask_suits Reset asking own = (asking, refl, own)
+  ask_suits Begin asking own = own
+  ask_suits Rollback asking own = tt
+  ask_suits ForgetTransaction asking own = (asking, refl, own)
   ask_suits Quit asking own = (asking, refl, own)
 
   suits : (t : Task) → s.task ≡ t → fault_in t ≡ None → HeardAs t → (untold : Bool) → s.untold ≡ untold → Suits (plan_of t s.context.spot untold)
   suits Nothing e sound hd untold told = let no : false ≡ true = sym (ap is_open e) ∙ op in cc
   suits (Begun c) e sound hd untold told = first_suits c (sym (ap kind_in e))
-  suits (Cleaning c) e sound hd untold told = clean_suits (Cleaning c) e (cleaning_awaits c) (ask_plan c) (ask_suits c hd.at.0 (sym (ap kind_in e))) s.context.spot refl hd.at.2 untold
+  suits (Cleaning c) e sound hd untold told = clean_suits (Cleaning c) e (cleaning_awaits c) (plans.Undoes c) (hd.at.0, sym (ap kind_in e)) s.context.spot refl hd.at.2 untold
+  suits (Undoing c) e sound hd untold told = clean_suits (Undoing c) e (undoing_awaits c) (plans.Settles c) tt s.context.spot refl hd.at.2 untold
+  suits (Cleaned c) e sound hd untold told = ask_suits c hd.at.0 (sym (ap kind_in e))
   suits (Own c) e sound hd untold told = own_suits c e hd
   suits Giving e sound hd untold told = tt
   suits (Arranging n) e sound hd untold told = clean_suits (Arranging n) e (arranging_awaits n) (plans.Arranges n) (hd.at.1, sym (ap kind_in e)) s.context.spot refl hd.at.2 untold
   suits (Running n) e sound hd untold told = run_suits n e s.context.spot refl hd.at.1
   suits (Finishing n) e sound hd untold told = clean_suits (Finishing n) e (finishing_awaits n) (plans.Runs n) (sym (ap kind_in e)) s.context.spot refl hd.at.1 untold
   suits Clearing e sound hd untold told = tt
-  suits (Setting n) e sound hd untold told = clean_suits (Setting n) e (setting_awaits n) (plans.Sets n) (sym (ap kind_in e)) s.context.spot refl hd.at.1 untold
+  suits (Asking c n) e sound hd untold told = clean_suits (Asking c n) e (asking_awaits c n) (plans.Queries c n) (hd.at.0, sym (ap kind_in e)) s.context.spot refl hd.at.2 untold
   suits Reading e sound hd true told = tt
   suits Reading e sound hd false told = read_suits e told s.context.spot refl hd.at.1
   suits Dropping e sound hd true told = tt
@@ -645,7 +689,7 @@ module _ (s : Seen) (h : History) (st : Stands s h) (op : is_open s.task ≡ tru
   suits Taking e sound hd false told = take_suits e told s.context.spot refl hd.at.1
   suits Skipping e sound hd true told = tt
   suits Skipping e sound hd false told = skip_suits e s.context.spot refl
-  suits Leaving e sound hd untold told = tt
+  suits (Leaving c) e sound hd untold told = of_unrefused (λ x. Suits (leave_plan x)) tt tt c hd.at.1
   suits (Failing c fault) e sound hd untold told = cc
 
   owed_told : fault_in s.task ≡ None → (owed : List ℕ) → Explained (when_owed owed s)

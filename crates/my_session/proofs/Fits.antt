@@ -9,10 +9,10 @@ use Rattle.my_session.specs.declared.answer.SessionStep.TheVariants as steps
 use Rattle.my_session.specs.declared.answer.Tick.{Tick}
 use Rattle.my_session.specs.declared.answer.Tick.TheVariants as ticks
 use Rattle.my_reading.specs.declared.call.CallKind.{CallKind}
-use Rattle.my_reading.specs.declared.call.CallKind.TheVariants.{Connect, Query, Prepare, Execute, Batch, CloseStmt, NextRow, DropResult, TakeSet, SkipTaken, Ping, Reset, Quit}
+use Rattle.my_reading.specs.declared.call.CallKind.TheVariants.{Connect, Query, Prepare, Execute, Batch, CloseStmt, NextRow, DropResult, TakeSet, SkipTaken, Ping, Reset, Begin, Rollback, ForgetTransaction, Quit}
 use Rattle.my_session.specs.declared.task.LinkFault.{LinkFault}
 use Rattle.my_session.specs.declared.task.Task.{Task}
-use Rattle.my_session.specs.declared.task.Task.TheVariants.{Nothing, Begun, Cleaning, Own, Giving, Arranging, Running, Finishing, Clearing, Setting, Reading, Dropping, Taking, Skipping, Leaving, Failing}
+use Rattle.my_session.specs.declared.task.Task.TheVariants.{Nothing, Begun, Cleaning, Undoing, Cleaned, Own, Giving, Arranging, Running, Finishing, Clearing, Asking, Reading, Dropping, Taking, Skipping, Leaving, Failing}
 use Rattle.my_reading.specs.declared.error.Error.{Error}
 use Rattle.my_reading.specs.declared.error.Error.TheVariants as errors
 use Rattle.my_reading.specs.Calls.{asks, is_connect}
@@ -153,42 +153,49 @@ own_proper TakeSet spot connected count newest w = absurd w
 own_proper SkipTaken spot connected count newest w = absurd w
 own_proper Ping spot connected count newest w = refl
 own_proper Reset spot connected count newest w = refl
+own_proper Begin spot connected count newest w = absurd w
+own_proper Rollback spot connected count newest w = absurd w
+own_proper ForgetTransaction spot connected count newest w = absurd w
 own_proper Quit spot connected count newest w = refl
 
 task_proper : (t : Task) (spot : Spot) (closed connected : Bool) (count : ℕ) (newest : Entry) → TaskIs t spot closed connected count newest → is_proper t ≡ true
 task_proper Nothing spot closed connected count newest w = refl
 task_proper (Begun c) spot closed connected count newest w = refl
 task_proper (Cleaning c) spot closed connected count newest w = w.0
+task_proper (Undoing c) spot closed connected count newest w = w.0
+task_proper (Cleaned c) spot closed connected count newest w = w.0
 task_proper (Own c) spot closed connected count newest w = own_proper c spot connected count newest w
 task_proper Giving spot closed connected count newest w = refl
 task_proper (Arranging n) spot closed connected count newest w = refl
 task_proper (Running n) spot closed connected count newest w = refl
 task_proper (Finishing n) spot closed connected count newest w = refl
 task_proper Clearing spot closed connected count newest w = refl
-task_proper (Setting n) spot closed connected count newest w = refl
+task_proper (Asking c n) spot closed connected count newest w = w.0
 task_proper Reading spot closed connected count newest w = refl
 task_proper Dropping spot closed connected count newest w = refl
 task_proper Taking spot closed connected count newest w = refl
 task_proper Skipping spot closed connected count newest w = refl
-task_proper Leaving spot closed connected count newest w = refl
+task_proper (Leaving c) spot closed connected count newest w = w.1
 task_proper (Failing c fault) spot closed connected count newest w = refl
 
 begun_owes : (t : Task) → is_begun t ≡ true → owes t ≡ false
 begun_owes Nothing e = cc
 begun_owes (Begun c) e = refl
 begun_owes (Cleaning c) e = cc
+begun_owes (Undoing c) e = cc
+begun_owes (Cleaned c) e = cc
 begun_owes (Own c) e = cc
 begun_owes Giving e = cc
 begun_owes (Arranging n) e = cc
 begun_owes (Running n) e = cc
 begun_owes (Finishing n) e = cc
 begun_owes Clearing e = cc
-begun_owes (Setting n) e = cc
+begun_owes (Asking c n) e = cc
 begun_owes Reading e = cc
 begun_owes Dropping e = cc
 begun_owes Taking e = cc
 begun_owes Skipping e = cc
-begun_owes Leaving e = cc
+begun_owes (Leaving c) e = cc
 begun_owes (Failing c fault) e = cc
 
 pub each_answer_fits : EachAnswerFits

@@ -15,7 +15,7 @@ use Rattle.my_reading.specs.declared.error.ServerError.{ServerError}
 use Rattle.my_reading.specs.declared.call.Call.{Call}
 use Rattle.my_reading.specs.declared.call.Call.TheVariants as calls
 use Rattle.my_session.specs.declared.task.Task.{Task}
-use Rattle.my_session.specs.declared.task.Task.TheVariants.{Nothing, Begun, Cleaning, Own, Giving, Arranging, Running, Finishing, Clearing, Setting, Reading, Dropping, Taking, Skipping, Leaving, Failing}
+use Rattle.my_session.specs.declared.task.Task.TheVariants.{Nothing, Begun, Cleaning, Undoing, Cleaned, Own, Giving, Arranging, Running, Finishing, Clearing, Asking, Reading, Dropping, Taking, Skipping, Leaving, Failing}
 use Rattle.my_reading.specs.Calls.{kind_of as call_kind, call_of}
 use Rattle.my_reading.specs.declared.call.CallKind.TheVariants.{Prepare, Batch, Reset}
 use Rattle.my_session.specs.Tasks.{kind_in}
@@ -72,18 +72,24 @@ pub calls_are : (t : Task) (opened : Call) (spot : Spot) (made : List Made) (cal
 calls_are Nothing opened spot made call older w = inr w
 calls_are (Begun c) opened spot made call older w = inr w
 calls_are (Cleaning c) opened spot made call older w = inr w
-calls_are (Own c) opened spot made call older w = own_open (is_greeting spot) (call_of c opened) call made (calls_in older) (sym w.0, inl w.1)
+calls_are (Undoing c) opened spot made call older w = own_open (is_greeting spot) (call_of c opened) call made (calls_in older) w
+calls_are (Cleaned c) opened spot made call older w =
+    elim w as (λ _. AreOf (Some (call_of c opened)) made (begun_of spot call older)) [
+      | inl v ↦ own_open (is_greeting spot) (call_of c opened) call made (calls_in older) v
+      | inr v ↦ inr v.1
+    ]
+calls_are (Own c) opened spot made call older w = own_open (is_greeting spot) (call_of c opened) call made (calls_in older) w
 calls_are Giving opened spot made call older w = own_open (is_greeting spot) (call_of Prepare opened) call made (calls_in older) w
 calls_are (Arranging n) opened spot made call older w = own_open (is_greeting spot) calls.Connect call made (calls_in older) w
 calls_are (Running n) opened spot made call older w = own_open (is_greeting spot) (call_of Batch opened) call made (calls_in older) w
 calls_are (Finishing n) opened spot made call older w = own_open (is_greeting spot) (call_of Batch opened) call made (calls_in older) w
 calls_are Clearing opened spot made call older w = own_open (is_greeting spot) (call_of Reset opened) call made (calls_in older) w
-calls_are (Setting n) opened spot made call older w = own_open (is_greeting spot) (call_of Reset opened) call made (calls_in older) w
+calls_are (Asking c n) opened spot made call older w = own_open (is_greeting spot) (call_of c opened) call made (calls_in older) w
 calls_are Reading opened spot made call older w = inr w
 calls_are Dropping opened spot made call older w = inr w
 calls_are Taking opened spot made call older w = inr w
 calls_are Skipping opened spot made call older w = inr w
-calls_are Leaving opened spot made call older w = inr w
+calls_are (Leaving c) opened spot made call older w = inr w
 calls_are (Failing c fault) opened spot made call older w =
     elim w as (λ _. AreOf (Some (call_of c opened)) made (begun_of spot call older)) [
       | inl v ↦ own_open (is_greeting spot) (call_of c opened) call made (calls_in older) v
@@ -95,18 +101,20 @@ pub rests_owe : (t : Task) (opened : Call) → call_with (kind_in t) opened ≡ 
 rests_owe Nothing opened e = refl
 rests_owe (Begun c) opened e = cc
 rests_owe (Cleaning c) opened e = cc
+rests_owe (Undoing c) opened e = cc
+rests_owe (Cleaned c) opened e = cc
 rests_owe (Own c) opened e = cc
 rests_owe Giving opened e = cc
 rests_owe (Arranging n) opened e = cc
 rests_owe (Running n) opened e = cc
 rests_owe (Finishing n) opened e = cc
 rests_owe Clearing opened e = cc
-rests_owe (Setting n) opened e = cc
+rests_owe (Asking c n) opened e = cc
 rests_owe Reading opened e = cc
 rests_owe Dropping opened e = cc
 rests_owe Taking opened e = cc
 rests_owe Skipping opened e = cc
-rests_owe Leaving opened e = cc
+rests_owe (Leaving c) opened e = cc
 rests_owe (Failing c fault) opened e = cc
 
 unfoldable pub each_history : EachHistory

@@ -1,3 +1,4 @@
+pub mod CallKinds
 pub mod Ends
 pub mod Executing
 pub mod Faults

@@ -5,6 +5,7 @@ pub mod Commands
 pub mod Opened
 pub mod Prepared
 pub mod Resets
+pub mod Transactions
 pub mod Plans
 pub mod Steps
 use Rattle.std.proofs.Common.{◌≡◌, List, [], ◌∷◌, true, false, inl, inr, refl, sym, subst}

@@ -19,6 +19,7 @@ use Rattle.my_reading.specs.declared.error.IoKind.{IoKind}
 use Rattle.my_reading.specs.declared.error.IoKind.TheVariants.{Link, Dial, UnexpectedEof, InvalidData}
 use Rattle.my_reading.specs.declared.error.ServerError.{ServerError}
 use Rattle.my_reading.specs.Statements.{Statements}
+use Rattle.my_reading.specs.declared.transaction.TxStatus.{TxStatus}
 use Rattle.my_session.specs.Causes.{found, Cause, IoCause, IoErrorCause, IsRefused}
 use Rattle.my_session.specs.Complete.{AreWhole, OutsideKind, OutsideIo, IsOutside, EachWholeCall}
 use Rattle.my_session.specs.Entries.{Entry}
@@ -66,7 +67,7 @@ module _ (es : List Entry) (own : List Talk) (taken more : List ℕ) (w : AreWho
       let last : cut (in_order (origins es) ++ own) (taken ++ more) ≡ record { talks = (found es taken).talks ++ (cut own (bytes ++ more)).talks; rest = (cut own (bytes ++ more)).rest } = subst (λ (c : Cut). RestGoesOn own c.talks c.rest (cut (in_order (origins es) ++ own) (taken ++ more))) stays (cut_goes_on (in_order (origins es)) own (taken ++ more)) in
       sym (along_more (found es taken).talks (cut own (bytes ++ more)).talks) ∙ ap length (sym (ap (λ (c : Cut). errors_along c.talks) last) ∙ w.no_error)
 
-module _ (login : Login) (made : Option LinkFault) (known : Statements) (unread : List ℕ) (h : History) (newest : Entry) (older : List Entry) (own : List Talk) (more : List ℕ) (w : AreWhole (newest ∷ older) own (h.taken ++ more)) where
+module _ (login : Login) (made : Option LinkFault) (known : Statements) (status : TxStatus) (unread : List ℕ) (h : History) (newest : Entry) (older : List Entry) (own : List Talk) (more : List ℕ) (w : AreWhole (newest ∷ older) own (h.taken ++ more)) where
   refused_never : (e : ServerError) → IsRefused unread h newest older e → ⊥
   refused_never e r =
       let all = after_stays (newest ∷ older) own h.taken more w r.rest (r.rest_is) in
@@ -89,7 +90,7 @@ module _ (login : Login) (made : Option LinkFault) (known : Statements) (unread 
   io_outside (ios.Codec fault) (inl c) = absurd (blamed_never (newest ∷ older) own h.taken more w fault unread c.rest_is)
   io_outside (ios.Codec fault) (inr c) = c
 
-  pub is_outside : (e : Error) → Cause login made known unread h newest older e → IsOutside login made known unread h newest older e
+  pub is_outside : (e : Error) → Cause login made known status unread h newest older e → IsOutside login made known status unread h newest older e
   is_outside (errors.Driver e) c = c
   is_outside (errors.Io e) c = io_outside e c
   is_outside (errors.Server e) c = refused_never e c
@@ -98,4 +99,4 @@ module _ (login : Login) (made : Option LinkFault) (known : Statements) (unread 
   is_outside errors.NoMemory c = tt
 
 pub each_whole_call : EachWholeCall
-each_whole_call login made known h e b own more w = is_outside login made known b.law.unread h b.law.newest b.law.older own more w e b.cause
+each_whole_call login made known status h e b own more w = is_outside login made known status b.law.unread h b.law.newest b.law.older own more w e b.cause

@@ -8,6 +8,8 @@ use Rattle.my_reply.specs.declared.err.ErrPacket.{ErrPacket}
 use Rattle.my_reply.specs.ErrPacket.{err_at}
 use Rattle.my_reply.specs.Replies.{prepare_ok_at}
 use Rattle.my_frame.specs.Front.{Whole}
+use Rattle.my_handshake.specs.Version.{version_of}
+use Rattle.my_opts_parts.specs.TransactionOptions.{TxView}
 use Rattle.my_grammar.specs.declared.spot.Kind.TheVariants.{Greets, Failed, Prepared}
 use Rattle.my_grammar.specs.declared.login.Login.{Login}
 use Rattle.my_grammar.specs.Cut.{Cut, Rest, Trailing, Unfinished, Unfit, Blamed, cut, place_of, front_of, kind_of}
@@ -20,6 +22,7 @@ use Rattle.my_reading.specs.declared.call.Call.{Call}
 use Rattle.my_reading.specs.declared.call.Call.TheVariants as calls
 use Rattle.my_session.specs.declared.task.LinkFault.{LinkFault}
 use Rattle.my_session.specs.declared.task.LinkFault.TheVariants as faults
+use Rattle.my_reading.specs.declared.transaction.TxStatus.{TxStatus}
 use Rattle.my_reading.specs.declared.error.Error.{Error}
 use Rattle.my_reading.specs.declared.error.Error.TheVariants as errors
 use Rattle.my_reading.specs.declared.error.DriverError.{DriverError}
@@ -37,7 +40,8 @@ use Rattle.my_session.specs.Tasks.{fault_in, is_open, kind_in}
 use Rattle.my_reading.specs.Course.{first_above}
 use Rattle.my_reading.specs.Executions.{Unfitting, values_for}
 use Rattle.my_reading.specs.Statements.{Statements, is_mixed_text}
-use Rattle.my_session.specs.Entries.{Entry, Opens, terms_by, connecting_in}
+use Rattle.my_reading.specs.Transactions.{begin_refusal}
+use Rattle.my_session.specs.Entries.{Entry, Opens, facts_of, terms_by, connecting_in}
 use Rattle.my_reading.specs.Errors.{server_error}
 use Rattle.my_reading.specs.Told.{Told, ToldError}
 use Rattle.my_session.specs.History.{History, passing}
@@ -105,6 +109,12 @@ pub record IsMixed (h : History) : Type 0 where
   pub pending : h.pending ≡ Some (calls.Prepare text)
   pub mixed : is_mixed_text text ≡ true
 
+-- The open call is to begin a transaction, and there is one, or the server is too old.
+pub record IsNotBegun (login : Login) (status : TxStatus) (h : History) (es : List Entry) (e : DriverError) : Type 0 where
+  pub opts : TxView
+  pub pending : h.pending ≡ Some (calls.Begin opts)
+  pub refused : begin_refusal opts (version_of (facts_of login es).version) status ≡ Some e
+
 -- The greeting follows, and the client's response to it is longer than a payload may be.
 pub record IsLongResponse (login : Login) (unread : List ℕ) (talk : Talk) (fault : CodecFault) : Type 0 where
   pub payload : List ℕ
@@ -142,38 +152,40 @@ abbrev pub CodecCause : Login → List ℕ → History → Entry → List Entry 
 CodecCause login unread h newest older fault = Stops (newest ∷ older) h.taken (Blamed fault unread)
     ⊎ (IsLongCommand login h (newest ∷ older) fault ⊎ IsLongResponse login unread newest.talk fault)
 
--- A text or parameters are refused. A closed session refuses as a call begins, and in no step.
-abbrev pub DriverCause : Option LinkFault → History → DriverError → Type 0
-DriverCause made h drivers.MixedParams = IsMixed h
-DriverCause made h (drivers.Params e) = IsUnfitting h (drivers.Params e)
-DriverCause made h (drivers.StmtParamsMismatch required supplied) = IsUnfitting h (drivers.StmtParamsMismatch required supplied)
-DriverCause made h (drivers.StmtParamsNumberExceedsLimit supplied) = IsUnfitting h (drivers.StmtParamsNumberExceedsLimit supplied)
-DriverCause made h drivers.TooLong = made ≡ Some faults.TooLong
-DriverCause made h e = ⊥
+-- A text, parameters or a transaction are refused. A closed session refuses as a call begins, and in no step.
+abbrev pub DriverCause : Login → Option LinkFault → TxStatus → History → List Entry → DriverError → Type 0
+DriverCause login made status h es drivers.MixedParams = IsMixed h
+DriverCause login made status h es (drivers.Params e) = IsUnfitting h (drivers.Params e)
+DriverCause login made status h es (drivers.StmtParamsMismatch required supplied) = IsUnfitting h (drivers.StmtParamsMismatch required supplied)
+DriverCause login made status h es (drivers.StmtParamsNumberExceedsLimit supplied) = IsUnfitting h (drivers.StmtParamsNumberExceedsLimit supplied)
+DriverCause login made status h es drivers.NestedTransaction = IsNotBegun login status h es drivers.NestedTransaction
+DriverCause login made status h es drivers.ReadOnlyTransNotSupported = IsNotBegun login status h es drivers.ReadOnlyTransNotSupported
+DriverCause login made status h es drivers.TooLong = made ≡ Some faults.TooLong
+DriverCause login made status h es e = ⊥
 
 abbrev pub IoErrorCause : Login → Option LinkFault → Statements → List ℕ → History → Entry → List Entry → IoError → Type 0
 IoErrorCause login made st unread h newest older (ios.Io fault) = (fault.place ≡ place_in (newest ∷ older))
     × IoCause made st unread h newest older fault.kind
 IoErrorCause login made st unread h newest older (ios.Codec fault) = CodecCause login unread h newest older fault
 
--- Why the open call returns this error, where it was made to fail so, or wasn't, these statements are known, and these bytes weren't read;
--- out of memory is free.
-abbrev pub Cause : Login → Option LinkFault → Statements → List ℕ → History → Entry → List Entry → Error → Type 0
-Cause login made st unread h newest older (errors.Driver e) = DriverCause made h e
-Cause login made st unread h newest older (errors.Io e) = IoErrorCause login made st unread h newest older e
-Cause login made st unread h newest older (errors.Server e) = IsRefused unread h newest older e
-Cause login made st unread h newest older (errors.Url e) = ⊥
-Cause login made st unread h newest older (errors.Other e) = ⊥
-Cause login made st unread h newest older errors.NoMemory = Unit {0}
+-- Why the open call returns this error, where it was made to fail so, or wasn't, these statements are known, a transaction stands so, and
+-- these bytes weren't read; out of memory is free.
+abbrev pub Cause : Login → Option LinkFault → Statements → TxStatus → List ℕ → History → Entry → List Entry → Error → Type 0
+Cause login made st status unread h newest older (errors.Driver e) = DriverCause login made status h (newest ∷ older) e
+Cause login made st status unread h newest older (errors.Io e) = IoErrorCause login made st unread h newest older e
+Cause login made st status unread h newest older (errors.Server e) = IsRefused unread h newest older e
+Cause login made st status unread h newest older (errors.Url e) = ⊥
+Cause login made st status unread h newest older (errors.Other e) = ⊥
+Cause login made st status unread h newest older errors.NoMemory = Unit {0}
 
 -- The cause, over the exchanges that the history's law speaks of.
-pub record Because (login : Login) (made : Option LinkFault) (st : Statements) (h : History) (e : Error) : Type 0 where
+pub record Because (login : Login) (made : Option LinkFault) (st : Statements) (status : TxStatus) (h : History) (e : Error) : Type 0 where
   pub law : IsLawful login h
-  pub cause : Cause login made st law.unread h law.newest law.older e
+  pub cause : Cause login made st status law.unread h law.newest law.older e
 
 -- so it is of a session's open call
 abbrev pub SessionBecause : Seen → History → Error → Type 0
-SessionBecause s h e = Because s.login (fault_in s.task) s.statements h e
+SessionBecause s h e = Because s.login (fault_in s.task) s.statements s.status h e
 
 abbrev pub EachFault : Type 0
 EachFault = (s : Seen) (h : History) → Stands s h → is_open s.task ≡ true → (e : Error) → (next s).does ≡ Tells (ToldError e) → SessionBecause s h e

@@ -11,6 +11,7 @@ use Rattle.my_reading.specs.declared.error.IoKind.{IoKind}
 use Rattle.my_reading.specs.declared.error.IoKind.TheVariants.{Link, Dial, UnexpectedEof, InvalidData}
 use Rattle.my_session.specs.declared.task.LinkFault.{LinkFault}
 use Rattle.my_session.specs.declared.task.LinkFault.TheVariants as faults
+use Rattle.my_reading.specs.declared.transaction.TxStatus.{TxStatus}
 use Rattle.my_reading.specs.Statements.{Statements}
 use Rattle.my_session.specs.Causes.{Because, DriverCause, IsDoubled, IsLongCommand, IsLongResponse}
 use Rattle.my_session.specs.Entries.{Entry}
@@ -22,8 +23,8 @@ pub record AreWhole (es : List Entry) (own : List Talk) (bytes : List ℕ) : Typ
   pub rest_is : (cut (in_order (origins es) ++ own) bytes).rest ≡ Trailing []
   pub no_error : errors_along (cut (in_order (origins es) ++ own) bytes).talks ≡ errors_along (in_order (talks es))
 
--- What is left then: the call was made to fail, the link reported its end, a command or response is longer than the limit, a text or
--- parameters are refused, or a statement that was prepared has the id of one that is still cached.
+-- What is left then: the call was made to fail, the link reported its end, a command or response is longer than the limit, a text,
+-- parameters or a transaction are refused, or a statement that was prepared has the id of one that is still cached.
 abbrev pub OutsideKind : Option LinkFault → Statements → List ℕ → History → Entry → IoKind → Type 0
 OutsideKind made st unread h newest Link = made ≡ Some faults.Link
 OutsideKind made st unread h newest Dial = ⊥
@@ -35,18 +36,18 @@ OutsideIo login made st unread h newest older (ios.Io fault) = OutsideKind made 
 OutsideIo login made st unread h newest older (ios.Codec fault) = IsLongCommand login h (newest ∷ older) fault
     ⊎ IsLongResponse login unread newest.talk fault
 
-abbrev pub IsOutside : Login → Option LinkFault → Statements → List ℕ → History → Entry → List Entry → Error → Type 0
-IsOutside login made st unread h newest older (errors.Driver e) = DriverCause made h e
-IsOutside login made st unread h newest older (errors.Io e) = OutsideIo login made st unread h newest older e
-IsOutside login made st unread h newest older (errors.Server e) = ⊥
-IsOutside login made st unread h newest older (errors.Url e) = ⊥
-IsOutside login made st unread h newest older (errors.Other e) = ⊥
-IsOutside login made st unread h newest older errors.NoMemory = Unit {0}
+abbrev pub IsOutside : Login → Option LinkFault → Statements → TxStatus → List ℕ → History → Entry → List Entry → Error → Type 0
+IsOutside login made st status unread h newest older (errors.Driver e) = DriverCause login made status h (newest ∷ older) e
+IsOutside login made st status unread h newest older (errors.Io e) = OutsideIo login made st unread h newest older e
+IsOutside login made st status unread h newest older (errors.Server e) = ⊥
+IsOutside login made st status unread h newest older (errors.Url e) = ⊥
+IsOutside login made st status unread h newest older (errors.Other e) = ⊥
+IsOutside login made st status unread h newest older errors.NoMemory = Unit {0}
 
 -- Where what was taken, and what may still come, is whole, an error has a cause outside of it.
-abbrev pub FailsOutside : (login : Login) (made : Option LinkFault) (st : Statements) (h : History) (e : Error) → Because login made st h e → Type 0
-FailsOutside login made st h e b = (own : List Talk) (more : List ℕ) → AreWhole (b.law.newest ∷ b.law.older) own (h.taken ++ more)
-    → IsOutside login made st b.law.unread h b.law.newest b.law.older e
+abbrev pub FailsOutside : (login : Login) (made : Option LinkFault) (st : Statements) (status : TxStatus) (h : History) (e : Error) → Because login made st status h e → Type 0
+FailsOutside login made st status h e b = (own : List Talk) (more : List ℕ) → AreWhole (b.law.newest ∷ b.law.older) own (h.taken ++ more)
+    → IsOutside login made st status b.law.unread h b.law.newest b.law.older e
 
 abbrev pub EachWholeCall : Type 0
-EachWholeCall = (login : Login) (made : Option LinkFault) (st : Statements) (h : History) (e : Error) (b : Because login made st h e) → FailsOutside login made st h e b
+EachWholeCall = (login : Login) (made : Option LinkFault) (st : Statements) (status : TxStatus) (h : History) (e : Error) (b : Because login made st status h e) → FailsOutside login made st status h e b

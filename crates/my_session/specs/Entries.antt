@@ -16,14 +16,16 @@ use Rattle.my_reading.specs.declared.call.Call.TheVariants as calls
 use Rattle.my_reading.specs.declared.call.CallKind.{CallKind}
 use Rattle.my_reading.specs.declared.call.CallKind.TheVariants as callkinds
 use Rattle.my_reading.specs.declared.facts.Facts.{Facts}
-use Rattle.my_reading.specs.Calls.{kind_of, id_in, is_connect, lists_in, statement_in}
-use Rattle.my_reading.specs.Commands.{closing, execution, opening, queried, setup_texts}
+use Rattle.my_reading.specs.Calls.{kind_of, asks, id_in, is_connect, lists_in, statement_in}
+use Rattle.my_reading.specs.Commands.{closing, execution, opening, queried}
 use Rattle.my_reading.specs.Executions.{values_for}
 use Rattle.my_reading.specs.Statements.{Statements}
 use Rattle.my_reading.specs.Facts.{first_facts, facts_by}
+use Rattle.my_reading.specs.Transactions.{rollback_text}
 use Rattle.my_session.specs.Groups.{Group, groups, IsEarlier}
 use Rattle.my_reading.specs.Told.{Told, ToldReady, ToldFlag}
 use Rattle.my_session.specs.History.{Made}
+use Rattle.my_session.specs.Queries.{queries_of}
 
 -- an exchange, the call that began it, and what this call and later ones were given of it, if it is a query that was answered
 pub record Entry : Type 0 where
@@ -68,20 +70,25 @@ pub record IsRun (terms : Terms) (call : Call) (t : Talk) : Type 0 where
   pub statements : Statements
   pub executes : execution terms statements (id_in call) (values_for (statement_in call) params) ≡ Some t
 
--- The exchange is one of a reset: a query that sets the server's session up again.
-pub record IsSetup (login : Login) (terms : Terms) (call : Call) (t : Talk) : Type 0 where
-  pub kind : kind_of call ≡ callkinds.Reset
+-- The exchange is one of the queries that the call has of its own, after a reset or where a transaction begins.
+pub record IsQuery (login : Login) (terms : Terms) (call : Call) (t : Talk) : Type 0 where
   pub place : ℕ
   pub text : List ℕ
-  pub listed : slice_get (setup_texts login) place ≡ Some text
+  pub listed : slice_get (queries_of login (kind_of call) call) place ≡ Some text
   pub queries : queried terms text ≡ t
 
+-- The exchange rolls a transaction back, before the call's own.
+pub record IsUndo (terms : Terms) (call : Call) (t : Talk) : Type 0 where
+  pub cleans : asks (kind_of call) ≡ true
+  pub queries : queried terms rollback_text ≡ t
+
 -- The exchange is the one that the table has for the call, and for its place among those of connecting, where some prepared statements are
--- known; or it is the close of a statement, which a call that prepares one may begin, too, one of a batch, or one of a reset. Which statements are known, which
--- of them is closed, which execution of a batch comes when, and which query of a reset, says the reading of the connection (`Mirror`).
+-- known; or it is the close of a statement, which a call that prepares one may begin, too, one of a batch, one of a call's own queries, or the ROLLBACK before
+-- the call's own. Which statements are known, which of them is closed, which execution of a batch comes when, and which query, and where there is a transaction,
+-- says the reading of the connection (`Mirror`).
 abbrev pub Opens : Login → Terms → Call → ℕ → Talk → Type 0
 Opens login terms call n t = ((st : Statements) × (opening login terms st call n ≡ Some t))
-    ⊎ (((id : ℕ) × (kind_of call ≡ callkinds.Prepare) × (closing terms id ≡ t)) ⊎ (IsRun terms call t ⊎ IsSetup login terms call t))
+    ⊎ (((id : ℕ) × (kind_of call ≡ callkinds.Prepare) × (closing terms id ≡ t)) ⊎ (IsRun terms call t ⊎ (IsQuery login terms call t ⊎ IsUndo terms call t)))
 
 -- so is each exchange
 abbrev pub Follow : Login → List Entry → Type 0
@@ -133,6 +140,7 @@ needs_own calls.NextRow = false
 needs_own calls.DropResult = false
 needs_own calls.TakeSet = false
 needs_own calls.SkipTaken = false
+needs_own calls.ForgetTransaction = false
 needs_own calls.Quit = false
 needs_own (calls.Batch statement lists) = is_some (slice_get lists 0)
 needs_own _ = true
@@ -147,21 +155,17 @@ abbrev pub calls_in : List Entry → List Call
 calls_in [] = []
 calls_in (e ∷ es) = e.call ∷ calls_in es
 
--- connecting may have more than one exchange, a statement to prepare its own and the close of another one, a batch one for each execution, and a reset one for
--- each query that follows it
+-- connecting may have more than one exchange, and so may each call that sends a command: a ROLLBACK before its own, a statement to prepare the close of another
+-- one, a batch one for each execution, a reset and a transaction one for each query
 abbrev pub owns_more : CallKind → Bool
-owns_more callkinds.Connect = true
-owns_more callkinds.Prepare = true
-owns_more callkinds.Batch = true
-owns_more callkinds.Reset = true
-owns_more _ = false
+owns_more c = asks c || is_connect c
 
 -- the first of these exchanges is the call's own
 abbrev pub OwnsFirst : Call → List Call → (List Call → Type 0) → Type 0
 OwnsFirst call [] rest = ⊥
 OwnsFirst call (c ∷ cs) rest = (call ≡ c) × (rest cs ⊎ ((owns_more (kind_of call) ≡ true) × OwnsFirst call cs rest))
 
--- The exchanges are those of the calls, in their order, at most one each but for connecting, preparing, batches and resets; a command that was accepted has one.
+-- The exchanges are those of the calls, in their order; only connecting and calls that send commands have any. A command that was accepted has one.
 abbrev pub IsTied : List Made → List Call → Type 0
 IsTied [] [] = Unit {0}
 IsTied [] (c ∷ cs) = ⊥

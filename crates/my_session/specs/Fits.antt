@@ -86,9 +86,11 @@ abbrev pub OwnIo : Bool → IoError → Type 0
 OwnIo ended (ios.Io fault) = OwnKind ended fault.kind
 OwnIo ended (ios.Codec fault) = Unit {0}
 
--- the driver refuses parameters alone
+-- the driver refuses parameters and transactions
 abbrev pub OwnDriver : DriverError → Type 0
 OwnDriver drivers.MixedParams = Unit {0}
+OwnDriver drivers.NestedTransaction = Unit {0}
+OwnDriver drivers.ReadOnlyTransNotSupported = Unit {0}
 OwnDriver (drivers.Params e) = Unit {0}
 OwnDriver (drivers.StmtParamsMismatch required supplied) = Unit {0}
 OwnDriver (drivers.StmtParamsNumberExceedsLimit supplied) = Unit {0}

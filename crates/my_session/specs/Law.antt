@@ -52,7 +52,7 @@ abbrev pub OwnsOpen : Option Call → List Made → List Call → Type 0
 OwnsOpen None made cs = ⊥
 OwnsOpen (Some c) made cs = OwnsFirst c cs (IsTied made)
 
--- The exchanges belong to the calls, in order, each to one of its own, and those of connecting, of preparing, of a batch or of a reset to one; an accepted command has one.
+-- The exchanges belong to the calls, in order, one after another to the same call or to the next; an accepted command has one.
 abbrev pub AreOf : Option Call → List Made → List Call → Type 0
 AreOf pending made cs = OwnsOpen pending made cs ⊎ IsTied made cs
 

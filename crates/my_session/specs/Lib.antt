@@ -13,6 +13,7 @@ pub mod Machine
 pub mod Mirror
 pub mod Passed
 pub mod Prefix
+pub mod Queries
 pub mod Rest
 pub mod Seen
 pub mod ServerErrors

@@ -27,8 +27,10 @@ use Rattle.my_statements.specs.Cache.{Held}
 use Rattle.my_statements.specs.Prepared.{StatementView}
 use Rattle.my_reading.specs.declared.call.Call.{Call}
 use Rattle.my_reading.specs.declared.call.CallKind.{CallKind}
-use Rattle.my_reading.specs.declared.call.CallKind.TheVariants.{Prepare, Execute, Batch, CloseStmt, Reset}
+use Rattle.my_reading.specs.declared.call.CallKind.TheVariants.{Prepare, Execute, Batch, CloseStmt, Reset, Begin, Rollback}
 use Rattle.my_reading.specs.declared.error.DriverError.{DriverError}
+use Rattle.my_reading.specs.declared.transaction.TxStatus.{TxStatus}
+use Rattle.my_reading.specs.declared.transaction.TxStatus.TheVariants as txs
 use Rattle.my_session.specs.declared.task.LinkFault.{LinkFault}
 use Rattle.my_session.specs.declared.task.Task.{Task}
 use Rattle.my_session.specs.declared.task.Task.TheVariants as tasks
@@ -41,9 +43,9 @@ use Rattle.my_reading.specs.declared.error.Error.TheVariants as errors
 use Rattle.my_session.specs.declared.session.receiving.Arrival.{Arrival}
 use Rattle.my_session.specs.declared.answer.Tick.{Tick}
 use Rattle.my_session.specs.declared.answer.Tick.TheVariants as ticks
-use Rattle.my_reading.specs.Calls.{call_of, id_in, lists_in, params_in, statement_in, text_in}
+use Rattle.my_reading.specs.Calls.{call_of, id_in, lists_in, opts_in, params_in, statement_in, text_in}
 use Rattle.my_session.specs.Tasks.{fault_in}
-use Rattle.my_reading.specs.Commands.{closing, command_of, connecting, execution, queried, setup_texts}
+use Rattle.my_reading.specs.Commands.{closing, command_of, connecting, execution, queried}
 use Rattle.my_reading.specs.Course.{first_above}
 pub use Rattle.my_reading.specs.Course.{is_greeting}
 use Rattle.my_reading.specs.Place.{is_rows}
@@ -54,7 +56,9 @@ use Rattle.my_session.specs.Found.{IsPlaced, payload_in}
 use Rattle.my_reading.specs.Facts.{facts_after, prepared_by}
 use Rattle.my_reading.specs.Statements.{Statements, cleared, emptied, held_in, is_cached, is_mixed_text, leaving, names_of, query_of, statement_with, with_columns, with_fetched, with_prepared, without_statement}
 use Rattle.my_reading.specs.Told.{Told, ToldReady, ToldRow, ToldEnd, ToldNone, ToldStatement, ToldFlag, ToldError, told}
+use Rattle.my_reading.specs.Transactions.{begin_refusal, given_up, is_given_up, rollback_text, rolled_back}
 use Rattle.my_reading.specs.Versions.{can_reset}
+use Rattle.my_session.specs.Queries.{queries_of}
 use Rattle.my_session.specs.History.{History, answered, noted}
 use Rattle.my_reading.specs.Rows.{row_at}
 use Rattle.my_session.specs.Seen.{Seen}
@@ -74,18 +78,22 @@ pub record Move : Type 0 where
 
 -- the call ends, the session is closed, what was owed is dropped, and no prepared statement is known any more
 abbrev pub fell : Seen → Seen
-fell s = record { context = s.context; task = tasks.Nothing; call = s.call; untold = s.untold; taken = s.taken; closed = true; ended = s.ended; number = s.number; unread = s.unread; owed = []; facts = s.facts; statements = emptied s.statements; login = s.login }
+fell s = record { context = s.context; task = tasks.Nothing; call = s.call; untold = s.untold; taken = s.taken; closed = true; ended = s.ended; number = s.number; unread = s.unread; owed = []; facts = s.facts; statements = emptied s.statements; status = s.status; login = s.login }
 
 abbrev pub with_task : Seen → Task → Bool → Seen
-with_task s t untold = record { context = s.context; task = t; call = s.call; untold = untold; taken = s.taken; closed = s.closed; ended = s.ended; number = s.number; unread = s.unread; owed = s.owed; facts = s.facts; statements = s.statements; login = s.login }
+with_task s t untold = record { context = s.context; task = t; call = s.call; untold = untold; taken = s.taken; closed = s.closed; ended = s.ended; number = s.number; unread = s.unread; owed = s.owed; facts = s.facts; statements = s.statements; status = s.status; login = s.login }
 
 -- a stream takes the set
 abbrev pub with_taken : Seen → Seen
-with_taken s = record { context = s.context; task = s.task; call = s.call; untold = s.untold; taken = true; closed = s.closed; ended = s.ended; number = s.number; unread = s.unread; owed = s.owed; facts = s.facts; statements = s.statements; login = s.login }
+with_taken s = record { context = s.context; task = s.task; call = s.call; untold = s.untold; taken = true; closed = s.closed; ended = s.ended; number = s.number; unread = s.unread; owed = s.owed; facts = s.facts; statements = s.statements; status = s.status; login = s.login }
 
 -- these prepared statements are known
 abbrev pub with_statements : Seen → Statements → Seen
-with_statements s st = record { context = s.context; task = s.task; call = s.call; untold = s.untold; taken = s.taken; closed = s.closed; ended = s.ended; number = s.number; unread = s.unread; owed = s.owed; facts = s.facts; statements = st; login = s.login }
+with_statements s st = record { context = s.context; task = s.task; call = s.call; untold = s.untold; taken = s.taken; closed = s.closed; ended = s.ended; number = s.number; unread = s.unread; owed = s.owed; facts = s.facts; statements = st; status = s.status; login = s.login }
+
+-- the transaction stands so
+abbrev pub with_status : Seen → TxStatus → Seen
+with_status s status = record { context = s.context; task = s.task; call = s.call; untold = s.untold; taken = s.taken; closed = s.closed; ended = s.ended; number = s.number; unread = s.unread; owed = s.owed; facts = s.facts; statements = s.statements; status = status; login = s.login }
 
 -- a fatal error
 abbrev pub failed_by : Seen → Error → Move
@@ -119,12 +127,13 @@ advanced s k p rest next = record {
   owed = s.owed ++ reply_bytes (reply_to s.login k p) next;
   facts = facts_after k p s.facts;
   statements = s.statements;
+  status = s.status;
   login = s.login;
 }
 
 -- an exchange begins, and nothing of an older one is left
 abbrev pub queued : Seen → Task → Talk → Seen
-queued s t talk = record { context = context_of talk; task = t; call = s.call; untold = false; taken = false; closed = s.closed; ended = s.ended; number = number_of (turns talk); unread = s.unread; owed = s.owed ++ client_bytes (turns talk); facts = s.facts; statements = s.statements; login = s.login }
+queued s t talk = record { context = context_of talk; task = t; call = s.call; untold = false; taken = false; closed = s.closed; ended = s.ended; number = number_of (turns talk); unread = s.unread; owed = s.owed ++ client_bytes (turns talk); facts = s.facts; statements = s.statements; status = s.status; login = s.login }
 
 -- a server's error ends the call, and a session that isn't connected
 abbrev pub refused : Seen → Seen → Option ErrPacket → Move
@@ -216,6 +225,7 @@ commanded s t spot rows ahead command =
         owed = s.owed ++ (commands_bytes ahead ++ chunks command 0);
         facts = s.facts;
         statements = s.statements;
+        status = s.status;
         login = s.login;
       };
       does = Sends;
@@ -286,10 +296,32 @@ abbrev pub offered : Seen → Bool → Move
 offered s true = record { seen = with_task s (tasks.Cleaning Reset) s.untold; does = Goes }
 offered s false = record { seen = with_task s tasks.Nothing s.untold; does = Tells (ToldFlag false) }
 
--- the next query that sets the server's session up after a reset, after n others; where none is left, the reset is done
-abbrev pub set_up : Seen → ℕ → Option (List ℕ) → Move
-set_up s n None = record { seen = with_task s tasks.Nothing s.untold; does = Tells (ToldFlag true) }
-set_up s n (Some text) = begins s (tasks.Setting (suc n)) (queried (next_terms s) text)
+-- a transaction that was given up is rolled back before the call goes on
+abbrev pub undone : Seen → CallKind → Bool → Move
+undone s c true = begins s (tasks.Undoing c) (queried (next_terms s) rollback_text)
+undone s c false = record { seen = with_task s (tasks.Cleaned c) s.untold; does = Goes }
+
+-- a call ends whose own queries were sent and answered: there is a transaction, or the reset is done
+abbrev pub status_then : CallKind → TxStatus → TxStatus
+status_then Begin status = txs.InTransaction
+status_then c status = status
+
+abbrev pub told_then : CallKind → Told
+told_then Reset = ToldFlag true
+told_then c = ToldReady
+
+abbrev pub done : Seen → CallKind → Move
+done s c = record { seen = with_status (with_task s tasks.Nothing s.untold) (status_then c s.status); does = Tells (told_then c) }
+
+-- the next query of the call's own, after n others; where none is left, the call is done
+abbrev pub queried_by : Seen → CallKind → ℕ → Option (List ℕ) → Move
+queried_by s c n None = done s c
+queried_by s c n (Some text) = begins s (tasks.Asking c (suc n)) (queried (next_terms s) text)
+
+-- a transaction isn't begun, and the session stays open; or its first query is sent
+abbrev pub admitted : Seen → Option DriverError → Move
+admitted s None = queried_by s Begin 0 (slice_get (queries_of s.login Begin s.call) 0)
+admitted s (Some e) = record { seen = with_task s tasks.Nothing s.untold; does = Tells (ToldError (errors.Driver e)) }
 
 abbrev pub planned : Seen → Plan → Move
 planned s plans.Reads = reading s (front_at s.number s.context.terms.limit s.unread)
@@ -306,8 +338,13 @@ planned s (plans.Asks c) = unless_refused s (refusal c s.call) (asked s (tasks.O
 planned s (plans.Runs n) = ran s (suc n) (slice_get (lists_in s.call) n)
 planned s (plans.Arranges n) = arranged s n (connecting s.login (next_terms s) (suc n))
 planned s plans.Resets = offered s (can_reset (version_of s.facts.version))
-planned s plans.Clears = record { seen = with_statements (with_task s (tasks.Setting 0) s.untold) (cleared s.statements); does = Goes }
-planned s (plans.Sets n) = set_up s n (slice_get (setup_texts s.login) n)
+planned s plans.Clears = record { seen = with_statements (with_task s (tasks.Asking Reset 0) s.untold) (cleared s.statements); does = Goes }
+planned s (plans.Queries c n) = queried_by s c n (slice_get (queries_of s.login c s.call) n)
+planned s (plans.Undoes c) = undone s c (is_given_up s.status)
+planned s (plans.Settles c) = record { seen = with_status (with_task s (tasks.Cleaned c) s.untold) (rolled_back s.status); does = Goes }
+planned s plans.Admits = admitted s (begin_refusal (opts_in s.call) (version_of s.facts.version) s.status)
+planned s plans.GivesUp = record { seen = with_status (with_task s (tasks.Cleaning Rollback) s.untold) txs.RequiresRollback; does = Goes }
+planned s plans.Forsakes = record { seen = with_status (with_task s tasks.Nothing s.untold) (given_up s.status); does = Tells ToldReady }
 planned s plans.Readies = record { seen = with_task s tasks.Nothing s.untold; does = Tells ToldReady }
 planned s plans.Learns = record {
   seen = with_statements (with_task s tasks.Nothing s.untold) (with_columns (id_in (call_of Execute s.call)) s.facts.columns s.statements);

@@ -9,17 +9,18 @@ use Rattle.my_grammar.specs.Talk.{turns, number_of, context_of, Fits, login_in}
 use Rattle.my_reading.specs.declared.call.Call.{Call}
 use Rattle.my_reading.specs.declared.call.Call.TheVariants as calls
 use Rattle.my_reading.specs.declared.call.CallKind.{CallKind}
-use Rattle.my_reading.specs.declared.call.CallKind.TheVariants.{Connect, Query, Prepare, Execute, Batch, CloseStmt, NextRow, DropResult, TakeSet, SkipTaken, Ping, Reset, Quit}
+use Rattle.my_reading.specs.declared.call.CallKind.TheVariants.{Connect, Query, Prepare, Execute, Batch, CloseStmt, NextRow, DropResult, TakeSet, SkipTaken, Ping, Reset, Begin, Rollback, ForgetTransaction, Quit}
 use Rattle.my_params.specs.declared.params.Params.{Params}
 use Rattle.my_statements.specs.Prepared.{StatementView}
 use Rattle.my_reading.specs.declared.error.DriverError.{DriverError}
 use Rattle.my_reading.specs.declared.error.Error.{Error}
 use Rattle.my_reading.specs.declared.error.Error.TheVariants as errors
 use Rattle.my_reading.specs.declared.facts.Facts.{Facts}
-use Rattle.my_reading.specs.Calls.{kind_of, call_of, asks, lists_in, statement_in}
+use Rattle.my_reading.specs.declared.transaction.TxStatus.TheVariants as txs
+use Rattle.my_reading.specs.Calls.{kind_of, call_of, asks, lists_in, opts_in, statement_in}
 use Rattle.my_reading.specs.Executions.{values_for}
-use Rattle.my_reading.specs.Commands.{arranging_texts, setup_texts}
-use Rattle.my_reading.specs.Course.{Part, All, Head, Item, Set, Rest, Command, Run, Reply, Keep, Give, Learn, Clear, Flag, Owes, Awaits, Returns, Stops, step, parts_of, parts_of_lists, parts_of_queries, parts_of_texts, is_greeting}
+use Rattle.my_reading.specs.Commands.{arranging_texts}
+use Rattle.my_reading.specs.Course.{Part, All, Head, Item, Set, Rest, Command, Run, Reply, Keep, Give, Learn, Clear, Flag, Undone, Refuse, Settle, Owes, Awaits, Returns, Stops, step, clean, parts_of, parts_of_lists, parts_of_queries, parts_of_texts, is_greeting}
 use Rattle.my_reading.specs.Errors.{unexpected_eof}
 use Rattle.my_reading.specs.Leads.{Leads}
 use Rattle.my_reading.specs.Place.{Place, exchanges, facts_at, client_side, connects_in}
@@ -31,29 +32,39 @@ use Rattle.my_session.specs.declared.answer.Tick.TheVariants as ticks
 use Rattle.my_session.specs.declared.task.Task.{Task}
 use Rattle.my_session.specs.declared.task.Task.TheVariants as tasks
 use Rattle.my_session.specs.Machine.{Doing, Goes, Passes, Sends, Needs, Tells, Move, next, refusal, refused_by}
+use Rattle.my_session.specs.Queries.{has_queries, queries_of}
 use Rattle.my_session.specs.Seen.{Seen}
 use Rattle.my_session.specs.Stands.{is_shaking, owes, call_with}
 use Rattle.my_session.specs.Tasks.{kind_in, fault_in}
 
--- what is left of a reset after some of the queries that set the server's session up, of which these come next
-abbrev pub parts_of_setup : List (List ℕ) → List Part
-parts_of_setup texts = parts_of_queries texts (Flag true ∷ [])
+-- what is left of a call after the queries of its own
+abbrev pub last_parts : CallKind → List Part
+last_parts Reset = Flag true ∷ []
+last_parts Begin = Settle txs.InTransaction ∷ []
+last_parts c = []
+
+-- what is left of a call after some of its own queries, of which these come next
+abbrev pub parts_of_own : CallKind → List (List ℕ) → List Part
+parts_of_own c texts = parts_of_queries texts (last_parts c)
 
 -- what is left of a call after its own command
-abbrev pub own_parts : Login → CallKind → List Part
-own_parts login Connect = All ∷ parts_of_texts (arranging_texts login)
-own_parts login Query = Head ∷ []
-own_parts login Prepare = Reply ∷ Keep ∷ Give ∷ []
-own_parts login Execute = Head ∷ Learn ∷ []
-own_parts login Batch = []
-own_parts login CloseStmt = []
-own_parts login NextRow = Item ∷ []
-own_parts login DropResult = All ∷ []
-own_parts login TakeSet = Set ∷ []
-own_parts login SkipTaken = Rest ∷ []
-own_parts login Ping = All ∷ []
-own_parts login Reset = All ∷ Clear ∷ parts_of_setup (setup_texts login)
-own_parts login Quit = []
+abbrev pub own_parts : Login → CallKind → Call → List Part
+own_parts login Connect call = All ∷ parts_of_texts (arranging_texts login)
+own_parts login Query call = Head ∷ []
+own_parts login Prepare call = Reply ∷ Keep ∷ Give ∷ []
+own_parts login Execute call = Head ∷ Learn ∷ []
+own_parts login Batch call = []
+own_parts login CloseStmt call = []
+own_parts login NextRow call = Item ∷ []
+own_parts login DropResult call = All ∷ []
+own_parts login TakeSet call = Set ∷ []
+own_parts login SkipTaken call = Rest ∷ []
+own_parts login Ping call = All ∷ []
+own_parts login Reset call = All ∷ Clear ∷ parts_of_own Reset (queries_of login Reset call)
+own_parts login Begin call = []
+own_parts login Rollback call = []
+own_parts login ForgetTransaction call = []
+own_parts login Quit call = []
 
 -- what is left of a batch after the parameters of its next execution were looked at
 abbrev pub parts_of_runs : List Params → List Part
@@ -63,37 +74,43 @@ parts_of_runs (params ∷ lists) = Run params ∷ Head ∷ Learn ∷ All ∷ par
 -- what is left of a call after it cleaned
 abbrev pub ask_parts : Login → CallKind → Call → List Part
 ask_parts login Batch call = parts_of_runs (lists_in call)
-ask_parts login c call = Command ∷ own_parts login c
+ask_parts login Begin call = Refuse (opts_in call) ∷ parts_of_own Begin (queries_of login Begin call)
+ask_parts login Rollback call = []
+ask_parts login c call = Command ∷ own_parts login c call
 
 -- what is left of the open call, which carries what this one does
 abbrev pub parts_left : Login → Call → Task → List Part
 parts_left login call tasks.Nothing = []
 parts_left login call (tasks.Begun c) = parts_of login (call_of c call)
-parts_left login call (tasks.Cleaning c) = All ∷ ask_parts login c call
-parts_left login call (tasks.Own c) = own_parts login c
+parts_left login call (tasks.Cleaning c) = clean (ask_parts login c call)
+parts_left login call (tasks.Undoing c) = All ∷ Undone ∷ ask_parts login c call
+parts_left login call (tasks.Cleaned c) = ask_parts login c call
+parts_left login call (tasks.Own c) = own_parts login c call
 parts_left login call tasks.Giving = Give ∷ []
 parts_left login call (tasks.Arranging n) = All ∷ parts_of_texts (drop n (arranging_texts login))
 parts_left login call (tasks.Running n) = Head ∷ Learn ∷ All ∷ parts_of_lists (drop n (lists_in call))
 parts_left login call (tasks.Finishing n) = All ∷ parts_of_lists (drop n (lists_in call))
-parts_left login call tasks.Clearing = Clear ∷ parts_of_setup (setup_texts login)
-parts_left login call (tasks.Setting n) = parts_of_setup (drop n (setup_texts login))
+parts_left login call tasks.Clearing = Clear ∷ parts_of_own Reset (queries_of login Reset call)
+parts_left login call (tasks.Asking c n) = parts_of_own c (drop n (queries_of login c call))
 parts_left login call tasks.Reading = Item ∷ []
 parts_left login call tasks.Dropping = All ∷ []
 parts_left login call tasks.Taking = Set ∷ []
 parts_left login call tasks.Skipping = Rest ∷ []
-parts_left login call tasks.Leaving = []
+parts_left login call (tasks.Leaving c) = []
 parts_left login call (tasks.Failing c fault) = []
 
 -- tasks that pass over an end that is left before they read
 abbrev pub passes_end : Task → Bool
 passes_end (tasks.Cleaning c) = true
+passes_end (tasks.Undoing c) = true
 passes_end (tasks.Arranging n) = true
 passes_end (tasks.Finishing n) = true
-passes_end (tasks.Setting n) = true
+passes_end (tasks.Asking c n) = true
 passes_end t = false
 
--- a call's own exchange, or what follows it
+-- a call has cleaned, its own exchange, or what follows it
 abbrev pub is_own : Task → Bool
+is_own (tasks.Cleaned c) = true
 is_own (tasks.Own c) = true
 is_own tasks.Giving = true
 is_own (tasks.Running n) = true
@@ -114,6 +131,9 @@ OwnStandsAt TakeSet spot count = ⊥
 OwnStandsAt SkipTaken spot count = ⊥
 OwnStandsAt Ping spot count = spot ≡ spots.Single
 OwnStandsAt Reset spot count = spot ≡ spots.Single
+OwnStandsAt Begin spot count = ⊥
+OwnStandsAt Rollback spot count = ⊥
+OwnStandsAt ForgetTransaction spot count = ⊥
 OwnStandsAt Quit spot count = is_greeting spot ≡ false
 
 abbrev pub BegunStandsAt : CallKind → Spot → ℕ → Type 0
@@ -124,18 +144,20 @@ abbrev pub TaskStandsAt : Task → Spot → ℕ → Type 0
 TaskStandsAt tasks.Nothing spot count = Unit {0}
 TaskStandsAt (tasks.Begun c) spot count = BegunStandsAt c spot count
 TaskStandsAt (tasks.Cleaning c) spot count = (asks c ≡ true) × (is_greeting spot ≡ false)
+TaskStandsAt (tasks.Undoing c) spot count = (asks c ≡ true) × (is_greeting spot ≡ false)
+TaskStandsAt (tasks.Cleaned c) spot count = (asks c ≡ true) × (spot ≡ spots.Idle)
 TaskStandsAt (tasks.Own c) spot count = OwnStandsAt c spot count
 TaskStandsAt tasks.Giving spot count = is_greeting spot ≡ false
 TaskStandsAt (tasks.Arranging n) spot count = (is_greeting spot ≡ false) × (count ≡ suc n)
 TaskStandsAt (tasks.Running n) spot count = is_greeting spot ≡ false
 TaskStandsAt (tasks.Finishing n) spot count = is_greeting spot ≡ false
 TaskStandsAt tasks.Clearing spot count = is_greeting spot ≡ false
-TaskStandsAt (tasks.Setting n) spot count = is_greeting spot ≡ false
+TaskStandsAt (tasks.Asking c n) spot count = (asks c ≡ true) × (is_greeting spot ≡ false) × (has_queries c ≡ true)
 TaskStandsAt tasks.Reading spot count = is_greeting spot ≡ false
 TaskStandsAt tasks.Dropping spot count = is_greeting spot ≡ false
 TaskStandsAt tasks.Taking spot count = is_greeting spot ≡ false
 TaskStandsAt tasks.Skipping spot count = is_greeting spot ≡ false
-TaskStandsAt tasks.Leaving spot count = Unit {0}
+TaskStandsAt (tasks.Leaving c) spot count = Unit {0}
 TaskStandsAt (tasks.Failing c fault) spot count = Unit {0}
 
 -- What a session knows is what the place says: of what the client says in the exchanges some was sent, and the rest is owed, unless the
@@ -157,10 +179,16 @@ abbrev pub refused_at : StatementView → Option Params → Option DriverError
 refused_at statement None = None
 refused_at statement (Some params) = refused_by (values_for statement params)
 
--- why a call that cleans would be refused
+-- why the parameters of a call of this kind would be refused
+abbrev pub refusal_of : CallKind → Call → Option DriverError
+refusal_of Batch call = refused_at (statement_in call) (slice_get (lists_in call) 0)
+refusal_of c call = refusal c call
+
+-- so of a call that cleans
 abbrev pub refusal_at : Task → Call → Option DriverError
-refusal_at (tasks.Cleaning Batch) call = refused_at (statement_in call) (slice_get (lists_in call) 0)
-refusal_at (tasks.Cleaning c) call = refusal c call
+refusal_at (tasks.Cleaning c) call = refusal_of c call
+refusal_at (tasks.Undoing c) call = refusal_of c call
+refusal_at (tasks.Cleaned c) call = refusal_of c call
 refusal_at t call = None
 
 -- The session stands at this place of the reading.
@@ -171,6 +199,7 @@ pub record StandsAt (s : Seen) (p : Place) : Type 0 where
   pub own_end : is_own s.task ≡ true → s.untold ≡ false
   pub task_at : TaskStandsAt s.task s.context.spot (connects_in (exchanges p))
   pub statements_are : s.closed ≡ false → s.statements ≡ p.statements
+  pub status_is : s.closed ≡ false → s.status ≡ p.status
   -- the parameters of an execution were looked at before anything is sent
   pub checked : refusal_at s.task s.call ≡ None
   pub settled : owes s.task ≡ false → s.owed ≡ []

@@ -10,18 +10,21 @@ use Rattle.my_grammar.specs.Talk.{Talk, turns, number_of, server_bytes, client_b
 use Rattle.my_reading.specs.declared.call.Call.{Call}
 use Rattle.my_reading.specs.declared.call.Call.TheVariants as calls
 use Rattle.my_reading.specs.declared.call.CallKind.{CallKind}
-use Rattle.my_reading.specs.declared.call.CallKind.TheVariants.{Connect, Query, Prepare, Execute, Batch, CloseStmt, NextRow, DropResult, TakeSet, SkipTaken, Ping, Reset, Quit}
+use Rattle.my_reading.specs.declared.call.CallKind.TheVariants.{Connect, Query, Prepare, Execute, Batch, CloseStmt, NextRow, DropResult, TakeSet, SkipTaken, Ping, Reset, Begin, Rollback, ForgetTransaction, Quit}
 use Rattle.my_session.specs.declared.task.Task.{Task}
 use Rattle.my_session.specs.declared.task.Task.TheVariants as tasks
 use Rattle.my_reading.specs.declared.facts.Facts.{Facts}
-use Rattle.my_reading.specs.Calls.{kind_of, call_of, asks, is_connect}
+use Rattle.my_reading.specs.declared.transaction.TxStatus.{TxStatus}
+use Rattle.my_reading.specs.Calls.{kind_of, call_of, asks, is_connect, is_unrefused}
 use Rattle.my_session.specs.Tasks.{kind_in}
 use Rattle.my_reading.specs.Commands.{arranging_texts}
 use Rattle.my_session.specs.Entries.{Entry, taken_by, sent_by, facts_of, Follow, connecting_in, OwnsFirst, is_answered, AllDone, AllGiven, givens, sets_of, calls_in, IsTied, has_connected}
 use Rattle.my_reading.specs.Facts.{facts_by}
+use Rattle.my_reading.specs.Transactions.{is_given_up}
 use Rattle.my_session.specs.Groups.{groups, given}
 use Rattle.my_session.specs.History.{History, Made, has_closed}
 use Rattle.my_session.specs.Machine.{is_greeting}
+use Rattle.my_session.specs.Queries.{has_queries}
 use Rattle.my_session.specs.Seen.{Seen}
 use Rattle.my_session.specs.ServerErrors.{errors_of, errors_told}
 use Rattle.my_session.specs.Steps.{is_settled}
@@ -89,17 +92,18 @@ keeps _ = false
 -- tasks of a session that isn't closed
 abbrev pub is_alive : Task → Bool
 is_alive tasks.Nothing = false
-is_alive tasks.Leaving = false
+is_alive (tasks.Leaving c) = false
 is_alive (tasks.Failing c fault) = false
 is_alive _ = true
 
 -- tasks that may owe bytes
 abbrev pub owes : Task → Bool
+owes (tasks.Undoing c) = true
 owes (tasks.Own c) = true
 owes tasks.Giving = true
 owes (tasks.Arranging n) = true
 owes (tasks.Running n) = true
-owes (tasks.Setting n) = true
+owes (tasks.Asking c n) = true
 owes (tasks.Failing c fault) = true
 owes _ = false
 
@@ -149,6 +153,9 @@ OwnAt TakeSet spot connected count newest = ⊥
 OwnAt SkipTaken spot connected count newest = ⊥
 OwnAt Ping spot connected count newest = (connected ≡ true) × (spot ≡ spots.Single)
 OwnAt Reset spot connected count newest = (connected ≡ true) × (spot ≡ spots.Single)
+OwnAt Begin spot connected count newest = ⊥
+OwnAt Rollback spot connected count newest = ⊥
+OwnAt ForgetTransaction spot connected count newest = ⊥
 OwnAt Quit spot connected count newest = connected ≡ true
 
 -- Connect begins before the greeting, and each other call once the connection was made
@@ -161,34 +168,44 @@ abbrev pub TaskIs : Task → Spot → Bool → Bool → ℕ → Entry → Type 0
 TaskIs tasks.Nothing spot closed connected count newest = closed ≡ false → (if connected then is_settled spot else is_greeting spot) ≡ true
 TaskIs (tasks.Begun c) spot closed connected count newest = BegunAt c spot connected
 TaskIs (tasks.Cleaning c) spot closed connected count newest = (asks c ≡ true) × (connected ≡ true) × (is_greeting spot ≡ false)
+TaskIs (tasks.Undoing c) spot closed connected count newest = (asks c ≡ true) × (connected ≡ true) × (is_greeting spot ≡ false)
+TaskIs (tasks.Cleaned c) spot closed connected count newest = (asks c ≡ true) × (connected ≡ true) × (spot ≡ spots.Idle)
 TaskIs (tasks.Own c) spot closed connected count newest = OwnAt c spot connected count newest
 TaskIs tasks.Giving spot closed connected count newest = (connected ≡ true) × (spot ≡ spots.Idle)
 TaskIs (tasks.Arranging n) spot closed connected count newest = (connected ≡ false) × (count ≡ suc n) × (is_greeting spot ≡ false) × (is_idle spot ≡ true → is_answered newest.talk ≡ true)
 TaskIs (tasks.Running n) spot closed connected count newest = (connected ≡ true) × (is_heading spot ≡ true)
 TaskIs (tasks.Finishing n) spot closed connected count newest = (connected ≡ true) × (is_greeting spot ≡ false)
 TaskIs tasks.Clearing spot closed connected count newest = (connected ≡ true) × (spot ≡ spots.Idle)
-TaskIs (tasks.Setting n) spot closed connected count newest = (connected ≡ true) × (is_greeting spot ≡ false)
+TaskIs (tasks.Asking c n) spot closed connected count newest = (has_queries c ≡ true) × (connected ≡ true) × (is_greeting spot ≡ false)
 TaskIs tasks.Reading spot closed connected count newest = (connected ≡ true) × (is_reading spot ≡ true)
 TaskIs tasks.Dropping spot closed connected count newest = (connected ≡ true) × (is_reading spot ≡ true)
 TaskIs tasks.Taking spot closed connected count newest = (connected ≡ true) × (is_reading spot ≡ true)
 TaskIs tasks.Skipping spot closed connected count newest = (connected ≡ true) × (is_settled spot ≡ true)
-TaskIs tasks.Leaving spot closed connected count newest = closed ≡ true
+TaskIs (tasks.Leaving c) spot closed connected count newest = (closed ≡ true) × (is_unrefused c ≡ true)
 TaskIs (tasks.Failing c fault) spot closed connected count newest = Unit {0}
 
 -- the calls of the exchanges that began: before the greeting the newest didn't
 abbrev pub begun_of : Spot → Call → List Entry → List Call
 begun_of spot call older = if is_greeting spot then calls_in older else call ∷ calls_in older
 
--- The newest exchange is the open call's own, or an earlier call's. While it connects, all are its own that began since; and so are those of a
--- statement that was prepared, those of a batch, and those of a reset.
+-- a call that only rolls back has begun an exchange once it has cleaned
+abbrev pub is_rollback : CallKind → Bool
+is_rollback Rollback = true
+is_rollback c = false
+
+-- The newest exchange is the open call's own, or an earlier call's. All are its own that began since it did; a call that has cleaned may have
+-- begun none.
 abbrev pub TieIs : Task → Call → Spot → List Made → Call → List Entry → Type 0
-TieIs (tasks.Own c) opened spot made call older = (call ≡ call_of c opened) × IsTied made (calls_in older)
+TieIs (tasks.Undoing c) opened spot made call older = OwnsFirst (call_of c opened) (call ∷ calls_in older) (IsTied made)
+TieIs (tasks.Cleaned c) opened spot made call older = OwnsFirst (call_of c opened) (call ∷ calls_in older) (IsTied made)
+    ⊎ ((is_rollback c ≡ false) × IsTied made (begun_of spot call older))
+TieIs (tasks.Own c) opened spot made call older = OwnsFirst (call_of c opened) (call ∷ calls_in older) (IsTied made)
 TieIs tasks.Giving opened spot made call older = OwnsFirst (call_of Prepare opened) (call ∷ calls_in older) (IsTied made)
 TieIs (tasks.Arranging n) opened spot made call older = OwnsFirst calls.Connect (call ∷ calls_in older) (IsTied made)
 TieIs (tasks.Running n) opened spot made call older = OwnsFirst (call_of Batch opened) (call ∷ calls_in older) (IsTied made)
 TieIs (tasks.Finishing n) opened spot made call older = OwnsFirst (call_of Batch opened) (call ∷ calls_in older) (IsTied made)
 TieIs tasks.Clearing opened spot made call older = OwnsFirst (call_of Reset opened) (call ∷ calls_in older) (IsTied made)
-TieIs (tasks.Setting n) opened spot made call older = OwnsFirst (call_of Reset opened) (call ∷ calls_in older) (IsTied made)
+TieIs (tasks.Asking c n) opened spot made call older = OwnsFirst (call_of c opened) (call ∷ calls_in older) (IsTied made)
 TieIs (tasks.Failing c fault) opened spot made call older = OwnsFirst (call_of c opened) (call ∷ calls_in older) (IsTied made) ⊎ IsTied made (begun_of spot call older)
 TieIs _ opened spot made call older = IsTied made (begun_of spot call older)
 
@@ -216,6 +233,12 @@ abbrev pub IsArranged : Login → List Made → Entry → List Entry → Type 0
 IsArranged login made newest older = has_connected made ≡ true
     → (connecting_in (newest ∷ older) ≡ suc (length (arranging_texts login))) × (is_connect (kind_of newest.call) ≡ true → is_answered newest.talk ≡ true)
 
+-- The transaction that is rolled back was given up; and of a call that has cleaned no end is left to be returned.
+abbrev pub CleansAt : Task → Bool → TxStatus → Type 0
+CleansAt (tasks.Cleaning c) untold status = is_rollback c ≡ true → is_given_up status ≡ true
+CleansAt (tasks.Cleaned c) untold status = untold ≡ false
+CleansAt _ untold status = Unit {0}
+
 pub record Stands (s : Seen) (h : History) : Type 0 where
   pub newest : Entry
   pub older : List Entry
@@ -225,3 +248,4 @@ pub record Stands (s : Seen) (h : History) : Type 0 where
   pub ended_is : s.ended ≡ h.ended
   -- a call that has no exchange of its own owes nothing
   pub settled : owes s.task ≡ false → s.owed ≡ []
+  pub cleans : CleansAt s.task s.untold s.status

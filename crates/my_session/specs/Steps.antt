@@ -12,14 +12,15 @@ use Rattle.my_session.specs.declared.answer.Tick.TheVariants as ticks
 use Rattle.my_reading.specs.declared.call.Call.{Call}
 use Rattle.my_reading.specs.declared.call.Call.TheVariants as calls
 use Rattle.my_reading.specs.declared.call.CallKind.{CallKind}
-use Rattle.my_reading.specs.declared.call.CallKind.TheVariants.{Connect, Batch, Prepare, Reset, NextRow, DropResult, TakeSet, SkipTaken, Quit}
+use Rattle.my_reading.specs.declared.call.CallKind.TheVariants.{Connect, Batch, Prepare, Reset, NextRow, DropResult, TakeSet, SkipTaken}
 use Rattle.my_session.specs.declared.task.LinkFault.{LinkFault}
 use Rattle.my_session.specs.declared.task.LinkFault.TheVariants.{NoMemory}
 use Rattle.my_session.specs.declared.task.Task.{Task}
-use Rattle.my_session.specs.declared.task.Task.TheVariants.{Nothing, Begun, Cleaning, Own, Giving, Arranging, Running, Finishing, Clearing, Setting, Reading, Dropping, Taking, Skipping, Leaving, Failing}
-use Rattle.my_reading.specs.Calls.{kind_of, is_quit}
+use Rattle.my_session.specs.declared.task.Task.TheVariants.{Nothing, Begun, Cleaning, Undoing, Cleaned, Own, Giving, Arranging, Running, Finishing, Clearing, Asking, Reading, Dropping, Taking, Skipping, Leaving, Failing}
+use Rattle.my_reading.specs.Calls.{kind_of, is_unrefused}
 use Rattle.my_session.specs.Tasks.{is_open}
 use Rattle.my_reading.specs.Facts.{first_facts}
+use Rattle.my_reading.specs.declared.transaction.TxStatus.TheVariants as txs
 use Rattle.my_reading.specs.Statements.{first_statements}
 use Rattle.my_reading.specs.Place.{is_rows}
 use Rattle.my_reading.specs.Told.{ToldError, told}
@@ -50,51 +51,53 @@ is_begun_at _ spot = is_settled spot
 
 -- before the greeting
 abbrev pub fresh : Login → Seen
-fresh login = record { context = context_of (Start login); task = Nothing; call = calls.Connect; untold = false; taken = false; closed = false; ended = false; number = 0; unread = []; owed = []; facts = first_facts login; statements = first_statements login; login = login }
+fresh login = record { context = context_of (Start login); task = Nothing; call = calls.Connect; untold = false; taken = false; closed = false; ended = false; number = 0; unread = []; owed = []; facts = first_facts login; statements = first_statements login; status = txs.None; login = login }
 
 -- whether a stream took the set that is read, or whose end is left
 abbrev pub is_taken : Seen → Bool
 is_taken s = s.taken && (s.untold || is_rows s.context.spot)
 
--- a closed session refuses each call but a quit
+-- a closed session refuses each call that has something to do there
 abbrev pub is_refused : Bool → CallKind → Bool
-is_refused closed c = closed && not (is_quit c)
+is_refused closed c = closed && not (is_unrefused c)
 
--- a call begins; on a closed session only a quit does, which has nothing left to do
+-- a call begins; on a closed session it has nothing left to do
 abbrev pub begun : Seen → Call → Seen
-begun s call = record { context = s.context; task = (if s.closed then Leaving else Begun (kind_of call)); call = call; untold = s.untold; taken = s.taken; closed = s.closed; ended = s.ended; number = s.number; unread = s.unread; owed = s.owed; facts = s.facts; statements = s.statements; login = s.login }
+begun s call = record { context = s.context; task = (if s.closed then Leaving (kind_of call) else Begun (kind_of call)); call = call; untold = s.untold; taken = s.taken; closed = s.closed; ended = s.ended; number = s.number; unread = s.unread; owed = s.owed; facts = s.facts; statements = s.statements; status = s.status; login = s.login }
 
 abbrev pub with_owed : Seen → List ℕ → Seen
-with_owed s owed = record { context = s.context; task = s.task; call = s.call; untold = s.untold; taken = s.taken; closed = s.closed; ended = s.ended; number = s.number; unread = s.unread; owed = owed; facts = s.facts; statements = s.statements; login = s.login }
+with_owed s owed = record { context = s.context; task = s.task; call = s.call; untold = s.untold; taken = s.taken; closed = s.closed; ended = s.ended; number = s.number; unread = s.unread; owed = owed; facts = s.facts; statements = s.statements; status = s.status; login = s.login }
 
 abbrev pub with_unread : Seen → List ℕ → Seen
-with_unread s unread = record { context = s.context; task = s.task; call = s.call; untold = s.untold; taken = s.taken; closed = s.closed; ended = s.ended; number = s.number; unread = unread; owed = s.owed; facts = s.facts; statements = s.statements; login = s.login }
+with_unread s unread = record { context = s.context; task = s.task; call = s.call; untold = s.untold; taken = s.taken; closed = s.closed; ended = s.ended; number = s.number; unread = unread; owed = s.owed; facts = s.facts; statements = s.statements; status = s.status; login = s.login }
 
 -- the link reported its end
 abbrev pub with_end : Seen → Seen
-with_end s = record { context = s.context; task = s.task; call = s.call; untold = s.untold; taken = s.taken; closed = s.closed; ended = true; number = s.number; unread = s.unread; owed = s.owed; facts = s.facts; statements = s.statements; login = s.login }
+with_end s = record { context = s.context; task = s.task; call = s.call; untold = s.untold; taken = s.taken; closed = s.closed; ended = true; number = s.number; unread = s.unread; owed = s.owed; facts = s.facts; statements = s.statements; status = s.status; login = s.login }
 
 -- the open call is made to fail; where none is open, nothing changes
 abbrev pub failing : Task → LinkFault → Task
 failing Nothing fault = Nothing
 failing (Begun c) fault = Failing c fault
 failing (Cleaning c) fault = Failing c fault
+failing (Undoing c) fault = Failing c fault
+failing (Cleaned c) fault = Failing c fault
 failing (Own c) fault = Failing c fault
 failing Giving fault = Failing Prepare fault
 failing (Arranging n) fault = Failing Connect fault
 failing (Running n) fault = Failing Batch fault
 failing (Finishing n) fault = Failing Batch fault
 failing Clearing fault = Failing Reset fault
-failing (Setting n) fault = Failing Reset fault
+failing (Asking c n) fault = Failing c fault
 failing Reading fault = Failing NextRow fault
 failing Dropping fault = Failing DropResult fault
 failing Taking fault = Failing TakeSet fault
 failing Skipping fault = Failing SkipTaken fault
-failing Leaving fault = Failing Quit fault
+failing (Leaving c) fault = Failing c fault
 failing (Failing c old) fault = Failing c fault
 
 abbrev pub with_failing : Seen → LinkFault → Seen
-with_failing s fault = record { context = s.context; task = failing s.task fault; call = s.call; untold = s.untold; taken = s.taken; closed = s.closed; ended = s.ended; number = s.number; unread = s.unread; owed = s.owed; facts = s.facts; statements = s.statements; login = s.login }
+with_failing s fault = record { context = s.context; task = failing s.task fault; call = s.call; untold = s.untold; taken = s.taken; closed = s.closed; ended = s.ended; number = s.number; unread = s.unread; owed = s.owed; facts = s.facts; statements = s.statements; status = s.status; login = s.login }
 
 -- bytes were received for which there is no memory: the open call is made to fail, or the session is closed
 abbrev pub with_loss : Seen → Seen
@@ -106,6 +109,9 @@ rank Nothing untold = 0
 rank (Begun c) untold = 3
 rank (Cleaning c) true = 2
 rank (Cleaning c) false = 1
+rank (Undoing c) true = 2
+rank (Undoing c) false = 1
+rank (Cleaned c) untold = 0
 rank (Own c) untold = 1
 rank Giving untold = 0
 rank (Arranging n) true = 1
@@ -114,15 +120,15 @@ rank (Running n) untold = 2
 rank (Finishing n) true = 1
 rank (Finishing n) false = 0
 rank Clearing untold = 2
-rank (Setting n) true = 1
-rank (Setting n) false = 0
+rank (Asking c n) true = 1
+rank (Asking c n) false = 0
 rank Reading untold = 0
 rank Dropping true = 1
 rank Dropping false = 0
 rank Taking untold = 0
 rank Skipping true = 1
 rank Skipping false = 0
-rank Leaving untold = 0
+rank (Leaving c) untold = 0
 rank (Failing c fault) untold = 0
 
 abbrev pub left_to_do : Seen → ℕ

@@ -6,10 +6,11 @@ use Rattle.my_grammar.specs.declared.spot.Spot.TheVariants as spots
 use Rattle.my_grammar.specs.declared.spot.Kind.{Kind}
 use Rattle.my_grammar.specs.declared.spot.Kind.TheVariants as kinds
 use Rattle.my_reading.specs.declared.call.CallKind.{CallKind}
-use Rattle.my_reading.specs.declared.call.CallKind.TheVariants.{Connect, Query, Prepare, Execute, Batch, CloseStmt, NextRow, DropResult, TakeSet, SkipTaken, Ping, Reset, Quit}
+use Rattle.my_reading.specs.declared.call.CallKind.TheVariants.{Connect, Query, Prepare, Execute, Batch, CloseStmt, NextRow, DropResult, TakeSet, SkipTaken, Ping, Reset, Begin, Rollback, ForgetTransaction, Quit}
+use Rattle.my_reading.specs.Calls.{is_quit}
 pub use Rattle.my_reading.specs.Endings.{awaits_head}
 use Rattle.my_session.specs.declared.task.Task.{Task}
-use Rattle.my_session.specs.declared.task.Task.TheVariants.{Nothing, Begun, Cleaning, Own, Giving, Arranging, Running, Finishing, Clearing, Setting, Reading, Dropping, Taking, Skipping, Leaving, Failing}
+use Rattle.my_session.specs.declared.task.Task.TheVariants.{Nothing, Begun, Cleaning, Undoing, Cleaned, Own, Giving, Arranging, Running, Finishing, Clearing, Asking, Reading, Dropping, Taking, Skipping, Leaving, Failing}
 use Rattle.my_session.specs.declared.tables.Plan.{Plan}
 use Rattle.my_session.specs.declared.tables.Plan.TheVariants as plans
 use Rattle.my_session.specs.declared.reactions.Reaction.{Reaction}
@@ -29,16 +30,22 @@ first_task TakeSet = Taking
 first_task SkipTaken = Skipping
 first_task Ping = Cleaning Ping
 first_task Reset = Cleaning Reset
+first_task Begin = Cleaning Begin
+first_task Rollback = Cleaning Rollback
+first_task ForgetTransaction = Nothing
 first_task Quit = Cleaning Quit
 
 -- what a call does first: a statement to prepare is looked for in the cache, parameters are looked at, those of a batch's first execution
--- among them, a statement to close isn't kept any more, and before a reset the server's version is looked at
+-- among them, a statement to close isn't kept any more, before a reset the server's version is looked at, and a transaction that is rolled
+-- back or forgotten is given up
 abbrev pub first_plan : CallKind → Plan
 first_plan Prepare = plans.Finds
 first_plan Execute = plans.Checks
 first_plan Batch = plans.Batches
 first_plan CloseStmt = plans.Forgets
 first_plan Reset = plans.Resets
+first_plan Rollback = plans.GivesUp
+first_plan ForgetTransaction = plans.Forsakes
 first_plan c = plans.Starts (first_task c)
 
 -- the rest of the earlier response is read, the end of a lone OK that is still to be returned is dropped, and then p is done
@@ -46,9 +53,11 @@ abbrev pub clean_plan : Plan → Spot → Bool → Plan
 clean_plan p spots.Idle untold = if untold then plans.Hears else p
 clean_plan p s untold = plans.Reads
 
--- what a call sends first of its own
+-- what a call does first once it has cleaned
 abbrev pub ask_plan : CallKind → Plan
 ask_plan Batch = plans.Runs 0
+ask_plan Begin = plans.Admits
+ask_plan Rollback = plans.Readies
 ask_plan c = plans.Asks c
 
 abbrev pub read_plan : Spot → Plan
@@ -99,22 +108,28 @@ own_plan CloseStmt s = plans.Readies
 own_plan Quit s = plans.Quits
 own_plan _ s = plans.Reads
 
+-- what is done on a closed session: a quit is done, and nothing else is left to be done
+abbrev pub leave_plan : CallKind → Plan
+leave_plan c = if is_quit c then plans.Quits else plans.Readies
+
 abbrev pub plan_of : Task → Spot → Bool → Plan
 plan_of Nothing s untold = plans.NoMore
 plan_of (Begun c) s untold = first_plan c
-plan_of (Cleaning c) s untold = clean_plan (ask_plan c) s untold
+plan_of (Cleaning c) s untold = clean_plan (plans.Undoes c) s untold
+plan_of (Undoing c) s untold = clean_plan (plans.Settles c) s untold
+plan_of (Cleaned c) s untold = ask_plan c
 plan_of (Own c) s untold = own_plan c s
 plan_of Giving s untold = plans.Gives
 plan_of (Arranging n) s untold = clean_plan (plans.Arranges n) s untold
 plan_of (Running n) s untold = run_plan n s
 plan_of (Finishing n) s untold = clean_plan (plans.Runs n) s untold
 plan_of Clearing s untold = plans.Clears
-plan_of (Setting n) s untold = clean_plan (plans.Sets n) s untold
+plan_of (Asking c n) s untold = clean_plan (plans.Queries c n) s untold
 plan_of Reading s untold = if untold then plans.Ends else read_plan s
 plan_of Dropping s untold = if untold then plans.Passes else drop_plan s
 plan_of Taking s untold = if untold then plans.Takes else take_plan s
 plan_of Skipping s untold = if untold then plans.Passes else skip_plan s
-plan_of Leaving s untold = plans.Quits
+plan_of (Leaving c) s untold = leave_plan c
 plan_of (Failing c fault) s untold = plans.NoMore
 
 -- a response that is read whole, while nobody is given its rows
@@ -223,11 +238,12 @@ react_skipping k = reactions.Breaks
 
 abbrev pub react : Task → Kind → Reaction
 react (Cleaning c) k = react_whole (Cleaning c) k
+react (Undoing c) k = react_whole (Undoing c) k
 react (Own c) k = react_own c k
 react (Arranging n) k = react_whole (Arranging n) k
 react (Running n) k = react_running n k
 react (Finishing n) k = react_whole (Finishing n) k
-react (Setting n) k = react_whole (Setting n) k
+react (Asking c n) k = react_whole (Asking c n) k
 react Reading k = react_reading k
 react Dropping k = react_dropping k
 react Taking k = react_taking k
@@ -249,16 +265,18 @@ abbrev pub closes_when_cancelled : Task → Spot → Bool
 closes_when_cancelled Nothing s = false
 closes_when_cancelled (Begun c) s = false
 closes_when_cancelled (Cleaning c) s = true
+closes_when_cancelled (Undoing c) s = true
+closes_when_cancelled (Cleaned c) s = true
 closes_when_cancelled (Own c) s = true
 closes_when_cancelled Giving s = true
 closes_when_cancelled (Arranging n) s = true
 closes_when_cancelled (Running n) s = true
 closes_when_cancelled (Finishing n) s = true
 closes_when_cancelled Clearing s = true
-closes_when_cancelled (Setting n) s = true
+closes_when_cancelled (Asking c n) s = true
 closes_when_cancelled Reading s = awaits_head s
 closes_when_cancelled Dropping s = awaits_head s
 closes_when_cancelled Taking s = awaits_head s
 closes_when_cancelled Skipping s = awaits_head s
-closes_when_cancelled Leaving s = false
+closes_when_cancelled (Leaving c) s = false
 closes_when_cancelled (Failing c fault) s = true

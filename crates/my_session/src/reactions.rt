@@ -105,6 +105,9 @@ fn react_own(call: CallKind, kind: Kind) -> Reaction
         | CallKind::DropResult
         | CallKind::TakeSet
         | CallKind::SkipTaken
+        | CallKind::Begin
+        | CallKind::Rollback
+        | CallKind::ForgetTransaction
         | CallKind::Quit => Reaction::Breaks,
     }
 }
@@ -161,13 +164,16 @@ pub fn react_to(task: Task, kind: Kind) -> Reaction
     match task {
         Task::Nothing
         | Task::Begun(_)
+        | Task::Cleaned(_)
         | Task::Giving
         | Task::Clearing
-        | Task::Leaving
+        | Task::Leaving(_)
         | Task::Failing(_, _) => Reaction::Breaks,
-        Task::Cleaning(_) | Task::Arranging(_) | Task::Finishing(_) | Task::Setting(_) => {
-            react_whole(task, kind)
-        }
+        Task::Cleaning(_)
+        | Task::Undoing(_)
+        | Task::Arranging(_)
+        | Task::Finishing(_)
+        | Task::Asking(_, _) => react_whole(task, kind),
         Task::Running(sent) => react_head(Reaction::Goes(Task::Finishing(sent)), task, kind),
         Task::Own(call) => react_own(call, kind),
         Task::Reading => react_reading(kind),

@@ -12,6 +12,7 @@ mod receiving;
 mod resetting;
 mod sending;
 mod stepping;
+mod transactions;
 
 use crate::login::login_for;
 use crate::tables::closes_when_cancelled;
@@ -19,7 +20,7 @@ use crate::task::{LinkFault, Task};
 use my_frame::NoMemory;
 use my_grammar::{Context, Login, Queue, Spot};
 use my_opts::Opts;
-use my_reading::{Call, CallKind, DriverError, Error, Facts, Statements};
+use my_reading::{Call, CallKind, DriverError, Error, Facts, Statements, TxStatus};
 use std::alloc::Global;
 use std::marker::Model;
 use std::mem;
@@ -49,6 +50,8 @@ pub struct Session {
     facts: Facts,
     // The prepared statements that are known.
     statements: Statements,
+    // Whether there is a transaction.
+    status: TxStatus,
     login: Login,
     opts: Opts,
     is_socket: bool,
@@ -75,7 +78,10 @@ impl Model for Session {
 fn is_refused(closed: bool, call: &Call) -> bool
     ensures { result ≡ is_refused closed (kind_of call.now) }
 {
-    closed && call.kind() != CallKind::Quit
+    match call.kind() {
+        CallKind::Quit | CallKind::ForgetTransaction => false,
+        _ => closed,
+    }
 }
 
 // The task of a call that is made to fail.
@@ -84,18 +90,22 @@ fn failing(task: Task, fault: LinkFault) -> Task
 {
     match task {
         Task::Nothing => Task::Nothing,
-        Task::Begun(call) | Task::Cleaning(call) | Task::Own(call) | Task::Failing(call, _) => {
-            Task::Failing(call, fault)
-        }
+        Task::Begun(call)
+        | Task::Cleaning(call)
+        | Task::Undoing(call)
+        | Task::Cleaned(call)
+        | Task::Own(call)
+        | Task::Asking(call, _)
+        | Task::Leaving(call)
+        | Task::Failing(call, _) => Task::Failing(call, fault),
         Task::Giving => Task::Failing(CallKind::Prepare, fault),
         Task::Arranging(_) => Task::Failing(CallKind::Connect, fault),
         Task::Running(_) | Task::Finishing(_) => Task::Failing(CallKind::Batch, fault),
-        Task::Clearing | Task::Setting(_) => Task::Failing(CallKind::Reset, fault),
+        Task::Clearing => Task::Failing(CallKind::Reset, fault),
         Task::Reading => Task::Failing(CallKind::NextRow, fault),
         Task::Dropping => Task::Failing(CallKind::DropResult, fault),
         Task::Taking => Task::Failing(CallKind::TakeSet, fault),
         Task::Skipping => Task::Failing(CallKind::SkipTaken, fault),
-        Task::Leaving => Task::Failing(CallKind::Quit, fault),
     }
 }
 
@@ -139,6 +149,7 @@ impl Session {
             owed: Queue::new(alloc),
             facts,
             statements,
+            status: TxStatus::None,
             login,
             opts,
             is_socket,
@@ -168,7 +179,7 @@ impl Session {
             return Err(Error::Driver(DriverError::ConnectionClosed));
         }
         self.task = if self.closed {
-            Task::Leaving
+            Task::Leaving(call.kind())
         } else {
             Task::Begun(call.kind())
         };
@@ -176,7 +187,8 @@ impl Session {
         Ok(())
     }
 
-    /// Begins a call. The first call is Connect, and no later one is. A closed session refuses each call but `Quit`.
+    /// Begins a call. The first call is Connect, and no later one is. A closed session refuses each call but `Quit` and
+    /// `ForgetTransaction`.
     pub fn begin(&mut self, call: Call) -> Result<(), Error>
         requires idle { self.old.seen.task ≡ Task.Nothing }
         requires order { self.old.seen.closed ≡ false → AtBegun (kind_of call) self.old.seen.context.spot }

@@ -24,21 +24,30 @@ pub enum Plan {
     Forgets,
     /// A reset begins: the server's version is looked at.
     Resets,
+    /// The transaction is given up, so that it is rolled back.
+    GivesUp,
+    /// The call is answered: the transaction is given up, where there is one.
+    Forsakes,
     /// The end of a lone OK that no read returned is dropped.
     Hears,
+    /// A transaction that was given up is rolled back, where there is one.
+    Undoes(CallKind),
+    /// A transaction that was given up is rolled back: there is none any more.
+    Settles(CallKind),
     /// The call's own command is owed.
     Asks(CallKind),
     /// The next execution of a batch is owed, after this many others, unless its parameters are refused; where none is
     /// left, the call is answered.
     Runs(usize),
+    /// The first of the queries that begin a transaction is owed, unless it is refused.
+    Admits,
     /// The next query that sets the connection up is owed, after this many others; where none is left, the
     /// connection is made.
     Arranges(usize),
     /// No statement is kept any more: the reset was accepted.
     Clears,
-    /// The next query that sets the server's session up after a reset is owed, after this many others; where none is left,
-    /// the call is answered.
-    Sets(usize),
+    /// The next query that the call has of its own is owed, after this many others; where none is left, the call is answered.
+    Queries(CallKind, usize),
     /// The call is answered: its command was accepted.
     Readies,
     /// The call is answered: its rows follow, and their columns are known from now on.
@@ -76,11 +85,14 @@ fn first_task(call: CallKind) -> Task
         | CallKind::CloseStmt
         | CallKind::Ping
         | CallKind::Reset
+        | CallKind::Begin
+        | CallKind::Rollback
         | CallKind::Quit => Task::Cleaning(call),
         CallKind::NextRow => Task::Reading,
         CallKind::DropResult => Task::Dropping,
         CallKind::TakeSet => Task::Taking,
         CallKind::SkipTaken => Task::Skipping,
+        CallKind::ForgetTransaction => Task::Nothing,
     }
 }
 
@@ -93,6 +105,8 @@ fn first_plan(call: CallKind) -> Plan
         CallKind::Batch => Plan::Batches,
         CallKind::CloseStmt => Plan::Forgets,
         CallKind::Reset => Plan::Resets,
+        CallKind::Rollback => Plan::GivesUp,
+        CallKind::ForgetTransaction => Plan::Forsakes,
         CallKind::Connect
         | CallKind::Query
         | CallKind::NextRow
@@ -100,6 +114,7 @@ fn first_plan(call: CallKind) -> Plan
         | CallKind::TakeSet
         | CallKind::SkipTaken
         | CallKind::Ping
+        | CallKind::Begin
         | CallKind::Quit => Plan::Starts(first_task(call)),
     }
 }
@@ -157,16 +172,21 @@ fn own_plan(call: CallKind, spot: Spot) -> Plan
         | CallKind::TakeSet
         | CallKind::SkipTaken
         | CallKind::Ping
-        | CallKind::Reset => Plan::Reads,
+        | CallKind::Reset
+        | CallKind::Begin
+        | CallKind::Rollback
+        | CallKind::ForgetTransaction => Plan::Reads,
     }
 }
 
-// What a call sends first of its own.
+// What a call does first once it has cleaned.
 fn ask_plan(call: CallKind) -> Plan
     ensures { result ≡ ask_plan call }
 {
     match call {
         CallKind::Batch => Plan::Runs(0),
+        CallKind::Begin => Plan::Admits,
+        CallKind::Rollback => Plan::Readies,
         CallKind::Connect
         | CallKind::Query
         | CallKind::Prepare
@@ -178,6 +198,7 @@ fn ask_plan(call: CallKind) -> Plan
         | CallKind::SkipTaken
         | CallKind::Ping
         | CallKind::Reset
+        | CallKind::ForgetTransaction
         | CallKind::Quit => Plan::Asks(call),
     }
 }
@@ -246,19 +267,22 @@ pub fn plan_for(task: Task, spot: Spot, untold: bool) -> Plan
     match task {
         Task::Nothing | Task::Failing(_, _) => Plan::NoMore,
         Task::Begun(call) => first_plan(call),
-        Task::Cleaning(call) => clean_plan(ask_plan(call), spot, untold),
+        Task::Cleaning(call) => clean_plan(Plan::Undoes(call), spot, untold),
+        Task::Undoing(call) => clean_plan(Plan::Settles(call), spot, untold),
+        Task::Cleaned(call) => ask_plan(call),
         Task::Own(call) => own_plan(call, spot),
         Task::Giving => Plan::Gives,
         Task::Arranging(sent) => clean_plan(Plan::Arranges(sent), spot, untold),
         Task::Running(sent) => run_plan(sent, spot),
         Task::Finishing(sent) => clean_plan(Plan::Runs(sent), spot, untold),
         Task::Clearing => Plan::Clears,
-        Task::Setting(sent) => clean_plan(Plan::Sets(sent), spot, untold),
+        Task::Asking(call, sent) => clean_plan(Plan::Queries(call, sent), spot, untold),
         Task::Reading => read_plan(spot, untold),
         Task::Dropping => drop_plan(spot, untold),
         Task::Taking => take_plan(spot, untold),
         Task::Skipping => skip_plan(spot, untold),
-        Task::Leaving => Plan::Quits,
+        Task::Leaving(CallKind::Quit) => Plan::Quits,
+        Task::Leaving(_) => Plan::Readies,
     }
 }
 
@@ -286,15 +310,17 @@ pub fn closes_when_cancelled(task: Task, spot: Spot) -> bool
     ensures { result ≡ closes_when_cancelled task spot }
 {
     match task {
-        Task::Nothing | Task::Begun(_) | Task::Leaving => false,
+        Task::Nothing | Task::Begun(_) | Task::Leaving(_) => false,
         Task::Cleaning(_)
+        | Task::Undoing(_)
+        | Task::Cleaned(_)
         | Task::Own(_)
         | Task::Giving
         | Task::Arranging(_)
         | Task::Running(_)
         | Task::Finishing(_)
         | Task::Clearing
-        | Task::Setting(_)
+        | Task::Asking(_, _)
         | Task::Failing(_, _) => true,
         Task::Reading | Task::Dropping | Task::Taking | Task::Skipping => awaits_head(spot),
     }

@@ -21,6 +21,10 @@ pub enum Task {
     Begun(CallKind),
     /// The rest of an earlier response is read before the call's own command.
     Cleaning(CallKind),
+    /// A transaction that was given up is rolled back before the call's own command. The response is read whole.
+    Undoing(CallKind),
+    /// Nothing is left of earlier calls.
+    Cleaned(CallKind),
     /// The call's own exchange.
     Own(CallKind),
     /// The statement that was prepared is returned, once the close of the one that had to go for it was sent.
@@ -33,8 +37,9 @@ pub enum Task {
     Finishing(usize),
     /// A reset was accepted.
     Clearing,
-    /// After a reset this many queries that set the server's session up were sent. Their answers are read whole.
-    Setting(usize),
+    /// This many queries that the call has of its own were sent: those that set the server's session up after a reset, or
+    /// those that begin a transaction. Their answers are read whole.
+    Asking(CallKind, usize),
     /// The next row is awaited.
     Reading,
     /// What is left is passed over.
@@ -43,8 +48,8 @@ pub enum Task {
     Taking,
     /// The rest of the set that is read is passed over.
     Skipping,
-    /// A quit on a closed session.
-    Leaving,
+    /// A call on a closed session, which has nothing to do there.
+    Leaving(CallKind),
     /// The call was made to fail.
     Failing(CallKind, LinkFault),
 }

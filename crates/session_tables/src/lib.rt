@@ -29,4 +29,6 @@ mod streams;
 #[cfg(test)]
 mod talks;
 #[cfg(test)]
+mod transactions;
+#[cfg(test)]
 mod visit;

@@ -6,7 +6,7 @@ ghost use Rattle.my_session.specs.Tasks.{is_open};
 use crate::hex::bytes_of;
 use my_flags::CapabilityFlags;
 use my_frame::{Blob, CodecFault, Listed, NoMemory};
-use my_opts::{Opts, OptsBuilder};
+use my_opts::{IsolationLevel, Opts, OptsBuilder, TxOpts};
 use my_reading::{Answer, Call, DriverError, Error, IoError, IoFault, IoKind};
 use my_session::{LinkFault, Session, SessionStep};
 use my_statements::Statement;
@@ -91,6 +91,24 @@ fn long_query(alloc: Global, length: usize) -> Result<Call, NoMemory> {
     Ok(Call::Query(Blob::from(text)))
 }
 
+// How a transaction begins, in words.
+fn begin_of(words: &str) -> TxOpts {
+    let mut opts = TxOpts::new();
+    for word in words.split(' ') {
+        match word {
+            "snapshot" => drop(opts.with_consistent_snapshot(true)),
+            "ro" => drop(opts.with_readonly(Some(true))),
+            "rw" => drop(opts.with_readonly(Some(false))),
+            "level=0" => drop(opts.with_isolation_level(Some(IsolationLevel::ReadUncommitted))),
+            "level=1" => drop(opts.with_isolation_level(Some(IsolationLevel::ReadCommitted))),
+            "level=2" => drop(opts.with_isolation_level(Some(IsolationLevel::RepeatableRead))),
+            "level=3" => drop(opts.with_isolation_level(Some(IsolationLevel::Serializable))),
+            _ => {}
+        }
+    }
+    opts
+}
+
 /// The call of this name, or a query of this text.
 pub fn call_of(alloc: Global, text: &str) -> Result<Call, NoMemory> {
     match text {
@@ -103,7 +121,10 @@ pub fn call_of(alloc: Global, text: &str) -> Result<Call, NoMemory> {
         "ping" => Ok(Call::Ping),
         "reset" => Ok(Call::Reset),
         "prepare" => Ok(Call::Prepare(Blob::from_slice(alloc, b"DO ?")?)),
+        "rollback" => Ok(Call::Rollback),
+        "forget" => Ok(Call::ForgetTransaction),
         "quit" => Ok(Call::Quit),
+        _ if text.starts_with("begin") => Ok(Call::Begin(begin_of(text))),
         _ => Ok(Call::Query(Blob::from_slice(alloc, text.as_bytes())?)),
     }
 }
@@ -163,6 +184,8 @@ fn show_driver_error(text: &mut String, error: &DriverError) -> Result<(), Alloc
     match error {
         DriverError::ConnectionClosed => text.push_str("closed"),
         DriverError::MixedParams => text.push_str("mixed"),
+        DriverError::NestedTransaction => text.push_str("nested"),
+        DriverError::ReadOnlyTransNotSupported => text.push_str("read only"),
         DriverError::Params(_) => text.push_str("params"),
         DriverError::StmtParamsMismatch { required, supplied } => {
             write!(text, "mismatch {required} {supplied}")

@@ -99,6 +99,39 @@ fn goes_so(alloc: Global, session: &mut Session, visit: &Visit) -> Result<bool, 
     Ok(true)
 }
 
+// A call, the bytes that are received for it, and what was sent with its answer.
+fn parts_of(row: &str) -> Option<(&str, &str, &str)> {
+    let (call, rest) = row.split_once('|')?;
+    let (bytes, want) = rest.split_once('|')?;
+    Some((call, bytes, want))
+}
+
+fn rows_so(alloc: Global, session: &mut Session, rows: &str, then: Then) -> Result<bool, NoMemory> {
+    for row in rows.split('\n') {
+        if row.is_empty() || row.starts_with('#') {
+            continue;
+        }
+        match parts_of(row) {
+            Some((call, bytes, want)) if turns_so(alloc, session, call, bytes, want, then)? => {}
+            _ => return Ok(false),
+        }
+    }
+    Ok(true)
+}
+
+/// Whether a session connects so, and then goes on by these rows: of each call its name, the bytes that are received for it, and
+/// what is sent with its answer, separated by `|`.
+pub fn talks(alloc: Global, visit: &Visit, rows: &str) -> Result<bool, NoMemory> {
+    let opts = options(alloc, visit.limit, visit.wait, visit.init, visit.setup)?;
+    let mut session = Session::new(alloc, opts, false, None)?;
+    let so = match connects_so(alloc, &mut session, visit) {
+        Ok(true) => rows_so(alloc, &mut session, rows, visit.then),
+        other => other,
+    };
+    drop(session);
+    so
+}
+
 /// Whether a session sends and answers what it should.
 pub fn goes(alloc: Global, visit: &Visit) -> Result<bool, NoMemory> {
     let opts = options(alloc, visit.limit, visit.wait, visit.init, visit.setup)?;

@@ -12,9 +12,9 @@ use Rattle.my_grammar.specs.Sets.{Sets, NoSets, Lone, Failed, Heading, Headed, B
 use Rattle.my_grammar.specs.Talk.{Talk, Start, Unwelcome, Greeted, Settled, Asked, Replied, Queried, Preparing, Silent, context_of}
 use Rattle.my_grammar.proofs.Growth.Known.{is_greeting_kind, is_single_kind, is_head_kind, is_column_kind, is_close_kind, is_row_kind}
 use Rattle.my_reading.specs.declared.call.CallKind.{CallKind}
-use Rattle.my_reading.specs.declared.call.CallKind.TheVariants.{Connect, Query, Prepare, Execute, Batch, CloseStmt, NextRow, DropResult, TakeSet, SkipTaken, Ping, Reset, Quit}
+use Rattle.my_reading.specs.declared.call.CallKind.TheVariants.{Connect, Query, Prepare, Execute, Batch, CloseStmt, NextRow, DropResult, TakeSet, SkipTaken, Ping, Reset, Begin, Rollback, ForgetTransaction, Quit}
 use Rattle.my_session.specs.declared.task.Task.{Task}
-use Rattle.my_session.specs.declared.task.Task.TheVariants.{Nothing, Begun, Cleaning, Own, Giving, Arranging, Running, Finishing, Clearing, Setting, Reading, Dropping, Taking, Skipping, Leaving, Failing}
+use Rattle.my_session.specs.declared.task.Task.TheVariants.{Nothing, Begun, Cleaning, Undoing, Cleaned, Own, Giving, Arranging, Running, Finishing, Clearing, Asking, Reading, Dropping, Taking, Skipping, Leaving, Failing}
 use Rattle.my_session.specs.declared.reactions.Reaction.{Reaction}
 use Rattle.my_session.specs.declared.reactions.Reaction.TheVariants as reactions
 use Rattle.my_session.specs.Entries.{sets_of}
@@ -100,19 +100,24 @@ own_fits TakeSet k = tt
 own_fits SkipTaken k = tt
 own_fits Ping k = single_fits (reactions.Readies false) k (λ _. tt)
 own_fits Reset k = single_fits (reactions.Goes Clearing) k (λ _. tt)
+own_fits Begin k = tt
+own_fits Rollback k = tt
+own_fits ForgetTransaction k = tt
 own_fits Quit k = tt
 
 pub react_fits : (t : Task) (k : Kind) → FitsKind (react t k) k
 react_fits Nothing k = tt
 react_fits (Begun c) k = tt
 react_fits (Cleaning c) k = whole_fits (Cleaning c) k
+react_fits (Undoing c) k = whole_fits (Undoing c) k
+react_fits (Cleaned c) k = tt
 react_fits (Own c) k = own_fits c k
 react_fits Giving k = tt
 react_fits (Arranging n) k = whole_fits (Arranging n) k
 react_fits (Running n) k = head_fits (reactions.Goes (Finishing n)) (Running n) k (λ _. tt)
 react_fits (Finishing n) k = whole_fits (Finishing n) k
 react_fits Clearing k = tt
-react_fits (Setting n) k = whole_fits (Setting n) k
+react_fits (Asking c n) k = whole_fits (Asking c n) k
 react_fits Reading (kinds.Greets n) = tt
 react_fits Reading (kinds.Good status) = tt
 react_fits Reading kinds.Failed = refl
@@ -150,7 +155,7 @@ react_fits Skipping (kinds.Prepared params columns) = tt
 react_fits Skipping kinds.Parameter = tt
 react_fits Skipping kinds.Field = tt
 react_fits Skipping kinds.Bad = tt
-react_fits Leaving k = tt
+react_fits (Leaving c) k = tt
 react_fits (Failing c fault) k = tt
 
 -- a task that reads here awaits a payload, and takes all that fit here
@@ -345,8 +350,11 @@ arranging_awaits n spot waits past = record { waits = waits; breaks = whole_brea
 pub finishing_awaits : (n : ℕ) (spot : Spot) → is_idle spot ≡ false → is_greeting spot ≡ false → Awaits (Finishing n) spot
 finishing_awaits n spot waits past = record { waits = waits; breaks = whole_breaks (Finishing n) spot past }
 
-pub setting_awaits : (n : ℕ) (spot : Spot) → is_idle spot ≡ false → is_greeting spot ≡ false → Awaits (Setting n) spot
-setting_awaits n spot waits past = record { waits = waits; breaks = whole_breaks (Setting n) spot past }
+pub asking_awaits : (c : CallKind) (n : ℕ) (spot : Spot) → is_idle spot ≡ false → is_greeting spot ≡ false → Awaits (Asking c n) spot
+asking_awaits c n spot waits past = record { waits = waits; breaks = whole_breaks (Asking c n) spot past }
+
+pub undoing_awaits : (c : CallKind) (spot : Spot) → is_idle spot ≡ false → is_greeting spot ≡ false → Awaits (Undoing c) spot
+undoing_awaits c spot waits past = record { waits = waits; breaks = whole_breaks (Undoing c) spot past }
 
 pub reading_awaits : (spot : Spot) → is_idle spot ≡ false → is_greeting spot ≡ false → Awaits Reading spot
 reading_awaits spot waits past = record { waits = waits; breaks = reading_breaks spot past }

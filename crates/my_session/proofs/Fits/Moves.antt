@@ -2,33 +2,38 @@
 use Rattle.std.proofs.Common.{◌≡◌, ◌||◌, Bool, true, false, Option, Some, None, refl, ◌∙◌}
 use Rattle.my_reading.specs.declared.call.CallKind.{CallKind}
 use Rattle.my_session.specs.declared.task.Task.{Task}
-use Rattle.my_session.specs.declared.task.Task.TheVariants.{Nothing, Begun, Cleaning, Own, Giving, Arranging, Running, Finishing, Clearing, Setting, Reading, Dropping, Taking, Skipping, Leaving, Failing}
+use Rattle.my_session.specs.declared.task.Task.TheVariants.{Nothing, Begun, Cleaning, Undoing, Cleaned, Own, Giving, Arranging, Running, Finishing, Clearing, Asking, Reading, Dropping, Taking, Skipping, Leaving, Failing}
 use Rattle.my_reading.specs.declared.error.Error.{Error}
-use Rattle.my_reading.specs.Calls.{asks, is_connect}
+use Rattle.my_reading.specs.declared.transaction.TxStatus.{TxStatus}
+use Rattle.my_reading.specs.Calls.{asks, is_connect, is_unrefused}
 use Rattle.my_session.specs.Tasks.{kind_in, fault_in}
 use Rattle.my_session.specs.Fits.{may_be_told, OwnError, is_begun}
 use Rattle.my_reading.specs.Told.{Told, ToldReady, ToldRow, ToldEnd, ToldNone, ToldStatement, ToldFlag, ToldError, Dropped}
-use Rattle.my_session.specs.Machine.{Doing, Goes, Passes, Sends, Needs, Tells, Move, fell, with_task, with_taken, with_statements, failed_by}
+use Rattle.my_session.specs.Machine.{Doing, Goes, Passes, Sends, Needs, Tells, Move, fell, with_task, with_taken, with_statements, with_status, failed_by}
+use Rattle.my_session.specs.Queries.{has_queries}
 use Rattle.my_reading.specs.Statements.{Statements}
 use Rattle.my_session.specs.Seen.{Seen}
 
--- only a call that sends a command cleans, and only such a call or the handshake has an exchange of its own
+-- only a call that sends a command cleans, only such a call or the handshake has an exchange of its own, only two kinds have queries of
+-- their own, and two have nothing to do on a closed session
 abbrev pub is_proper : Task → Bool
 is_proper Nothing = true
 is_proper (Begun c) = true
 is_proper (Cleaning c) = asks c
+is_proper (Undoing c) = asks c
+is_proper (Cleaned c) = asks c
 is_proper (Own c) = asks c || is_connect c
 is_proper Giving = true
 is_proper (Arranging n) = true
 is_proper (Running n) = true
 is_proper (Finishing n) = true
 is_proper Clearing = true
-is_proper (Setting n) = true
+is_proper (Asking c n) = has_queries c
 is_proper Reading = true
 is_proper Dropping = true
 is_proper Taking = true
 is_proper Skipping = true
-is_proper Leaving = true
+is_proper (Leaving c) = is_unrefused c
 is_proper (Failing c fault) = true
 
 -- a call that goes on was stepped, and is what it was
@@ -66,6 +71,9 @@ on_taken s n w = record { login = w.login; ended = w.ended; alive = w.alive }
 
 pub on_statements : (s n : Seen) (st : Statements) → IsOn s n → IsOn s (with_statements n st)
 on_statements s n st w = record { login = w.login; ended = w.ended; alive = w.alive }
+
+pub on_status : (s n : Seen) (status : TxStatus) → IsOn s n → IsOn s (with_status n status)
+on_status s n status w = record { login = w.login; ended = w.ended; alive = w.alive }
 
 pub on_fell : (s n : Seen) → IsOn s n → IsOn s (fell n)
 on_fell s n w = record { login = w.login; ended = w.ended; alive = λ e. let no : true ≡ false = e in cc }

@@ -17,24 +17,28 @@ use Rattle.my_reading.specs.Executions.{Values, Fitting, Unfitting, values_for}
 use Rattle.my_reading.specs.Facts.{prepared_by}
 use Rattle.my_reading.specs.Statements.{held_in, is_mixed_text, known_in, leaving, names_of, query_of, statement_with}
 use Rattle.my_reading.specs.declared.call.CallKind.{CallKind}
-use Rattle.my_reading.specs.declared.call.CallKind.TheVariants.{Connect, Query, Prepare, Execute, Batch, CloseStmt, NextRow, DropResult, TakeSet, SkipTaken, Ping, Reset, Quit}
+use Rattle.my_reading.specs.declared.call.CallKind.TheVariants.{Connect, Query, Prepare, Execute, Batch, CloseStmt, NextRow, DropResult, TakeSet, SkipTaken, Ping, Reset, Begin, Rollback, ForgetTransaction, Quit}
 use Rattle.my_session.specs.declared.task.Task.{Task}
-use Rattle.my_session.specs.declared.task.Task.TheVariants.{Nothing, Begun, Cleaning, Own, Giving, Arranging, Running, Finishing, Clearing, Setting, Reading, Dropping, Taking, Skipping, Leaving, Failing}
+use Rattle.my_session.specs.declared.task.Task.TheVariants.{Nothing, Begun, Cleaning, Undoing, Cleaned, Own, Giving, Arranging, Running, Finishing, Clearing, Asking, Reading, Dropping, Taking, Skipping, Leaving, Failing}
 use Rattle.my_session.specs.declared.tables.Plan.{Plan}
 use Rattle.my_session.specs.declared.tables.Plan.TheVariants as plans
-use Rattle.my_reading.specs.Calls.{asks, call_of, id_in, params_in, statement_in, text_in, lists_in}
+use Rattle.my_reading.specs.Calls.{asks, call_of, id_in, opts_in, params_in, statement_in, text_in, lists_in}
 use Rattle.my_session.specs.Tasks.{kind_in, fault_in}
-use Rattle.my_reading.specs.Commands.{closing, command_of, connecting, execution, queried, setup_texts}
+use Rattle.my_reading.specs.Commands.{closing, command_of, connecting, execution, queried}
 use Rattle.my_session.specs.Fits.{may_be_told, is_begun}
 use Rattle.my_reading.specs.Told.{ToldReady, ToldEnd, ToldNone, ToldStatement}
+use Rattle.my_reading.specs.declared.transaction.TxStatus.TheVariants as txs
+use Rattle.my_reading.specs.Transactions.{begin_refusal, is_given_up, rollback_text}
 use Rattle.my_reading.specs.Versions.{can_reset}
 use Rattle.my_handshake.specs.Version.{version_of}
-use Rattle.my_session.specs.Machine.{Goes, Sends, Move, next_terms, unless_exceeds, unless_refused, refusal, refused_by, looked, with_kept, kept, asked, batched, ran, arranged, offered, set_up, queued, planned, with_task}
+use Rattle.my_session.specs.Machine.{Goes, Sends, Move, next_terms, unless_exceeds, unless_refused, refusal, refused_by, looked, with_kept, kept, asked, batched, ran, arranged, offered, undone, done, queried_by, admitted, queued, planned, with_task}
+use Rattle.my_session.specs.Queries.{has_queries, queries_of}
 use Rattle.my_session.specs.Seen.{Seen}
-use Rattle.my_session.specs.Tables.{plan_of, clean_plan, ask_plan, run_plan, own_plan, query_plan, execute_plan, prepare_plan, read_plan, drop_plan, take_plan, skip_plan, first_plan}
-use Rattle.my_session.proofs.Fits.Moves.{is_proper, GoesOn, going, IsOn, on_here, on_task, on_taken, on_statements, on_fell, MoveFits, any_error, failed_fits}
+use Rattle.my_session.specs.Tables.{plan_of, clean_plan, leave_plan, ask_plan, run_plan, own_plan, query_plan, execute_plan, prepare_plan, read_plan, drop_plan, take_plan, skip_plan, first_plan}
+use Rattle.my_session.proofs.Fits.Moves.{is_proper, GoesOn, going, IsOn, on_here, on_task, on_taken, on_statements, on_status, on_fell, MoveFits, any_error, failed_fits}
 use Rattle.my_session.proofs.Fits.Reacts.{reading_fits}
-use Rattle.my_session.proofs.Refusals.{refusal_own, values_own}
+use Rattle.my_session.proofs.CallKinds.{of_queries, of_unrefused}
+use Rattle.my_session.proofs.Refusals.{refusal_own, values_own, begin_own}
 use Rattle.my_params.specs.declared.params.Params.{Params}
 use Rattle.std.specs.List.{slice_get}
 
@@ -68,6 +72,9 @@ asked_fits s TakeSet a o r = cc
 asked_fits s SkipTaken a o r = cc
 asked_fits s Ping a o r = begins_if s s (Some Ping) (Own Ping) (Asked (next_terms s) (packet_bytes packets.Ping)) _ (on_here s) refl refl
 asked_fits s Reset a o r = begins_if s s (Some Reset) (Own Reset) (Asked (next_terms s) (packet_bytes packets.ResetConnection)) _ (on_here s) refl refl
+asked_fits s Begin a o r = cc
+asked_fits s Rollback a o r = cc
+asked_fits s ForgetTransaction a o r = cc
 asked_fits s Quit a o r = begins_if s s (Some Quit) (Own Quit) (Silent (next_terms s) (packet_bytes packets.Quit)) _ (on_here s) refl refl
 
 arranged_fits : (s : Seen) (c : Option CallKind) (n : ℕ) (o : Option Talk) → may_be_told c ToldReady ≡ true → MoveFits c s (arranged s n o)
@@ -98,9 +105,26 @@ offered_fits : (s : Seen) (b : Bool) → MoveFits (Some Reset) s (offered s b)
 offered_fits s true = record { fits = going (Some Reset) (Cleaning Reset) refl refl refl refl; is_on = on_task s s (Cleaning Reset) s.untold (on_here s); own = λ _. tt }
 offered_fits s false = record { fits = refl; is_on = on_task s s Nothing s.untold (on_here s); own = λ _. tt }
 
-set_up_fits : (s : Seen) (n : ℕ) (o : Option (List ℕ)) → MoveFits (Some Reset) s (set_up s n o)
-set_up_fits s n None = record { fits = refl; is_on = on_task s s Nothing s.untold (on_here s); own = λ _. tt }
-set_up_fits s n (Some text) = begins_if s s (Some Reset) (Setting (suc n)) (queried (next_terms s) text) _ (on_here s) refl refl
+-- the queries of a call's own
+done_fits : (s : Seen) (c : CallKind) → has_queries c ≡ true → MoveFits (Some c) s (done s c)
+done_fits s c own = of_queries (λ x. MoveFits (Some x) s (done s x))
+    (record { fits = refl; is_on = on_task s s Nothing s.untold (on_here s); own = λ _. tt })
+    (record { fits = refl; is_on = on_status s (with_task s Nothing s.untold) txs.InTransaction (on_task s s Nothing s.untold (on_here s)); own = λ _. tt })
+    c own
+
+queried_fits : (s : Seen) (c : CallKind) (n : ℕ) (o : Option (List ℕ)) → has_queries c ≡ true → MoveFits (Some c) s (queried_by s c n o)
+queried_fits s c n None own = done_fits s c own
+queried_fits s c n (Some text) own = begins_if s s (Some c) (Asking c (suc n)) (queried (next_terms s) text) _ (on_here s) refl refl
+
+-- a transaction begins, unless it is refused
+admitted_fits : (s : Seen) (o : Option DriverError) → begin_refusal (opts_in s.call) (version_of s.facts.version) s.status ≡ o → MoveFits (Some Begin) s (admitted s o)
+admitted_fits s None is = queried_fits s Begin 0 (slice_get (queries_of s.login Begin s.call) 0) refl
+admitted_fits s (Some e) is = record { fits = refl; is_on = on_task s s Nothing s.untold (on_here s); own = λ _. begin_own (opts_in s.call) (version_of s.facts.version) s.status e is }
+
+-- one that was given up is rolled back
+undone_fits : (s : Seen) (c : CallKind) (b : Bool) → asks c ≡ true → MoveFits (Some c) s (undone s c b)
+undone_fits s c true a = begins_if s s (Some c) (Undoing c) (queried (next_terms s) rollback_text) _ (on_here s) refl refl
+undone_fits s c false a = record { fits = going (Some c) (Cleaned c) a refl refl refl; is_on = on_task s s (Cleaned c) s.untold (on_here s); own = λ _. tt }
 
 -- what a task may plan
 abbrev PlanFits : Task → Option CallKind → Plan → Type 0
@@ -114,7 +138,12 @@ PlanFits t c (plans.Notes n) = Some Batch ≡ c
 PlanFits t c (plans.Arranges n) = may_be_told c ToldReady ≡ true
 PlanFits t c plans.Resets = Some Reset ≡ c
 PlanFits t c plans.Clears = Some Reset ≡ c
-PlanFits t c (plans.Sets n) = Some Reset ≡ c
+PlanFits t c (plans.Queries d n) = (has_queries d ≡ true) × (Some d ≡ c)
+PlanFits t c (plans.Undoes d) = (asks d ≡ true) × (Some d ≡ c)
+PlanFits t c (plans.Settles d) = (asks d ≡ true) × (Some d ≡ c)
+PlanFits t c plans.Admits = Some Begin ≡ c
+PlanFits t c plans.GivesUp = Some Rollback ≡ c
+PlanFits t c plans.Forsakes = may_be_told c ToldReady ≡ true
 PlanFits t c plans.Readies = may_be_told c ToldReady ≡ true
 PlanFits t c plans.Finds = Some Prepare ≡ c
 PlanFits t c plans.Checks = Some Execute ≡ c
@@ -142,8 +171,13 @@ planned_fits s (plans.Runs n) a e f = subst (λ (k : Option CallKind). MoveFits 
 planned_fits s (plans.Notes n) a e f = record { fits = going (kind_in s.task) (Finishing n) refl f refl refl; is_on = on_statements s (with_task s (Finishing n) s.untold) _ (on_task s s (Finishing n) s.untold (on_here s)); own = λ _. tt }
 planned_fits s (plans.Arranges n) a e f = arranged_fits s (kind_in s.task) n (connecting s.login (next_terms s) (suc n)) f
 planned_fits s plans.Resets a e f = subst (λ (k : Option CallKind). MoveFits k s (offered s (can_reset (version_of s.facts.version)))) f (offered_fits s (can_reset (version_of s.facts.version)))
-planned_fits s plans.Clears a e f = record { fits = going (kind_in s.task) (Setting 0) refl f refl refl; is_on = on_statements s (with_task s (Setting 0) s.untold) _ (on_task s s (Setting 0) s.untold (on_here s)); own = λ _. tt }
-planned_fits s (plans.Sets n) a e f = subst (λ (k : Option CallKind). MoveFits k s (set_up s n (slice_get (setup_texts s.login) n))) f (set_up_fits s n (slice_get (setup_texts s.login) n))
+planned_fits s plans.Clears a e f = record { fits = going (kind_in s.task) (Asking Reset 0) refl f refl refl; is_on = on_statements s (with_task s (Asking Reset 0) s.untold) _ (on_task s s (Asking Reset 0) s.untold (on_here s)); own = λ _. tt }
+planned_fits s (plans.Queries c n) a e f = subst (λ (k : Option CallKind). MoveFits k s (queried_by s c n (slice_get (queries_of s.login c s.call) n))) f.1 (queried_fits s c n (slice_get (queries_of s.login c s.call) n) f.0)
+planned_fits s (plans.Undoes c) a e f = subst (λ (k : Option CallKind). MoveFits k s (undone s c (is_given_up s.status))) f.1 (undone_fits s c (is_given_up s.status) f.0)
+planned_fits s (plans.Settles c) a e f = record { fits = going (kind_in s.task) (Cleaned c) f.0 f.1 refl refl; is_on = on_status s (with_task s (Cleaned c) s.untold) _ (on_task s s (Cleaned c) s.untold (on_here s)); own = λ _. tt }
+planned_fits s plans.Admits a e f = subst (λ (k : Option CallKind). MoveFits k s (admitted s (begin_refusal (opts_in s.call) (version_of s.facts.version) s.status))) f (admitted_fits s (begin_refusal (opts_in s.call) (version_of s.facts.version) s.status) refl)
+planned_fits s plans.GivesUp a e f = record { fits = going (kind_in s.task) (Cleaning Rollback) refl f refl refl; is_on = on_status s (with_task s (Cleaning Rollback) s.untold) _ (on_task s s (Cleaning Rollback) s.untold (on_here s)); own = λ _. tt }
+planned_fits s plans.Forsakes a e f = record { fits = f; is_on = on_status s (with_task s Nothing s.untold) _ (on_task s s Nothing s.untold (on_here s)); own = λ _. tt }
 planned_fits s plans.Readies a e f = record { fits = f; is_on = on_task s s Nothing s.untold (on_here s); own = λ _. tt }
 planned_fits s plans.Learns a e f = record { fits = f; is_on = on_statements s (with_task s Nothing s.untold) _ (on_task s s Nothing s.untold (on_here s)); own = λ _. tt }
 planned_fits s plans.Keeps a e f = subst (λ (k : Option CallKind). MoveFits k s (kept (with_kept s) (leaving (query_of (text_in s.call)) (prepared_by s.facts) s.statements))) f (kept_fits s (leaving (query_of (text_in s.call)) (prepared_by s.facts) s.statements))
@@ -168,6 +202,9 @@ first_plan_fits t TakeSet = going (Some TakeSet) Taking refl refl refl refl
 first_plan_fits t SkipTaken = going (Some SkipTaken) Skipping refl refl refl refl
 first_plan_fits t Ping = going (Some Ping) (Cleaning Ping) refl refl refl refl
 first_plan_fits t Reset = refl
+first_plan_fits t Begin = going (Some Begin) (Cleaning Begin) refl refl refl refl
+first_plan_fits t Rollback = refl
+first_plan_fits t ForgetTransaction = refl
 first_plan_fits t Quit = going (Some Quit) (Cleaning Quit) refl refl refl refl
 
 clean_plan_fits : (t : Task) (c : Option CallKind) (p : Plan) → is_begun t ≡ false → PlanFits t c p → (spot : Spot) (untold : Bool) → PlanFits t c (clean_plan p spot untold)
@@ -248,6 +285,9 @@ own_plan_fits TakeSet spot = refl
 own_plan_fits SkipTaken spot = refl
 own_plan_fits Ping spot = refl
 own_plan_fits Reset spot = refl
+own_plan_fits Begin spot = refl
+own_plan_fits Rollback spot = refl
+own_plan_fits ForgetTransaction spot = refl
 own_plan_fits Quit spot = refl
 
 read_plan_fits : (spot : Spot) → PlanFits Reading (Some NextRow) (read_plan spot)
@@ -327,6 +367,9 @@ ask_plan_fits t TakeSet a = (a, refl, refl)
 ask_plan_fits t SkipTaken a = (a, refl, refl)
 ask_plan_fits t Ping a = (a, refl, refl)
 ask_plan_fits t Reset a = (a, refl, refl)
+ask_plan_fits t Begin a = refl
+ask_plan_fits t Rollback a = refl
+ask_plan_fits t ForgetTransaction a = (a, refl, refl)
 ask_plan_fits t Quit a = (a, refl, refl)
 
 run_plan_fits : (n : ℕ) (spot : Spot) → PlanFits (Running n) (Some Batch) (run_plan n spot)
@@ -348,14 +391,16 @@ run_plan_fits n spots.FieldsEnd = refl
 pub plan_fits : (t : Task) (spot : Spot) (untold : Bool) → is_proper t ≡ true → fault_in t ≡ None → PlanFits t (kind_in t) (plan_of t spot untold)
 plan_fits Nothing spot untold a e = refl
 plan_fits (Begun c) spot untold a e = first_plan_fits (Begun c) c
-plan_fits (Cleaning c) spot untold a e = clean_plan_fits (Cleaning c) (Some c) (ask_plan c) refl (ask_plan_fits (Cleaning c) c a) spot untold
+plan_fits (Cleaning c) spot untold a e = clean_plan_fits (Cleaning c) (Some c) (plans.Undoes c) refl (a, refl) spot untold
+plan_fits (Undoing c) spot untold a e = clean_plan_fits (Undoing c) (Some c) (plans.Settles c) refl (a, refl) spot untold
+plan_fits (Cleaned c) spot untold a e = ask_plan_fits (Cleaned c) c a
 plan_fits (Own c) spot untold a e = own_plan_fits c spot
 plan_fits Giving spot untold a e = refl
 plan_fits (Arranging n) spot untold a e = clean_plan_fits (Arranging n) (Some Connect) (plans.Arranges n) refl refl spot untold
 plan_fits (Running n) spot untold a e = run_plan_fits n spot
 plan_fits (Finishing n) spot untold a e = clean_plan_fits (Finishing n) (Some Batch) (plans.Runs n) refl refl spot untold
 plan_fits Clearing spot untold a e = refl
-plan_fits (Setting n) spot untold a e = clean_plan_fits (Setting n) (Some Reset) (plans.Sets n) refl refl spot untold
+plan_fits (Asking c n) spot untold a e = clean_plan_fits (Asking c n) (Some c) (plans.Queries c n) refl (a, refl) spot untold
 plan_fits Reading spot true a e = refl
 plan_fits Reading spot false a e = read_plan_fits spot
 plan_fits Dropping spot true a e = refl
@@ -364,5 +409,5 @@ plan_fits Taking spot true a e = refl
 plan_fits Taking spot false a e = take_plan_fits spot
 plan_fits Skipping spot true a e = refl
 plan_fits Skipping spot false a e = skip_plan_fits spot
-plan_fits Leaving spot untold a e = refl
+plan_fits (Leaving c) spot untold a e = of_unrefused (λ x. PlanFits (Leaving x) (Some x) (leave_plan x)) refl refl c a
 plan_fits (Failing c fault) spot untold a e = cc

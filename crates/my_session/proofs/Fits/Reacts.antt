@@ -8,9 +8,9 @@ use Rattle.my_grammar.specs.declared.spot.Kind.{Kind}
 use Rattle.my_grammar.specs.declared.spot.Kind.TheVariants as kinds
 use Rattle.my_grammar.specs.Kinds.{kind_there}
 use Rattle.my_reading.specs.declared.call.CallKind.{CallKind}
-use Rattle.my_reading.specs.declared.call.CallKind.TheVariants.{Connect, Query, Prepare, Execute, Batch, CloseStmt, NextRow, DropResult, TakeSet, SkipTaken, Ping, Reset, Quit}
+use Rattle.my_reading.specs.declared.call.CallKind.TheVariants.{Connect, Query, Prepare, Execute, Batch, CloseStmt, NextRow, DropResult, TakeSet, SkipTaken, Ping, Reset, Begin, Rollback, ForgetTransaction, Quit}
 use Rattle.my_session.specs.declared.task.Task.{Task}
-use Rattle.my_session.specs.declared.task.Task.TheVariants.{Nothing, Begun, Cleaning, Own, Giving, Arranging, Running, Finishing, Clearing, Setting, Reading, Dropping, Taking, Skipping, Leaving, Failing}
+use Rattle.my_session.specs.declared.task.Task.TheVariants.{Nothing, Begun, Cleaning, Undoing, Cleaned, Own, Giving, Arranging, Running, Finishing, Clearing, Asking, Reading, Dropping, Taking, Skipping, Leaving, Failing}
 use Rattle.my_session.specs.declared.reactions.Reaction.{Reaction}
 use Rattle.my_session.specs.declared.reactions.Reaction.TheVariants as reactions
 use Rattle.my_session.specs.Tasks.{kind_in, fault_in}
@@ -146,24 +146,29 @@ own_react TakeSet k = tt
 own_react SkipTaken k = tt
 own_react Ping k = single_react (Own Ping) (reactions.Readies false) k refl
 own_react Reset k = single_react (Own Reset) (reactions.Goes Clearing) k (going (Some Reset) Clearing refl refl refl refl)
+own_react Begin k = tt
+own_react Rollback k = tt
+own_react ForgetTransaction k = tt
 own_react Quit k = tt
 
 react_fits : (t : Task) (k : Kind) → is_proper t ≡ true → ReactionFits t (kind_in t) (react t k)
 react_fits Nothing k a = tt
 react_fits (Begun c) k a = tt
 react_fits (Cleaning c) k a = whole_react (Cleaning c) k a refl refl
+react_fits (Undoing c) k a = whole_react (Undoing c) k a refl refl
+react_fits (Cleaned c) k a = tt
 react_fits (Own c) k a = own_react c k
 react_fits Giving k a = tt
 react_fits (Arranging n) k a = whole_react (Arranging n) k a refl refl
 react_fits (Running n) k a = head_react (Running n) (reactions.Goes (Finishing n)) k (going (Some Batch) (Running n) refl refl refl refl) (going (Some Batch) (Finishing n) refl refl refl refl)
 react_fits (Finishing n) k a = whole_react (Finishing n) k a refl refl
 react_fits Clearing k a = tt
-react_fits (Setting n) k a = whole_react (Setting n) k a refl refl
+react_fits (Asking c n) k a = whole_react (Asking c n) k a refl refl
 react_fits Reading k a = reading_react k
 react_fits Dropping k a = dropping_react k
 react_fits Taking k a = head_react Taking reactions.Takes k (going (Some TakeSet) Taking refl refl refl refl) refl
 react_fits Skipping k a = skipping_react k
-react_fits Leaving k a = tt
+react_fits (Leaving c) k a = tt
 react_fits (Failing c fault) k a = tt
 
 gave_fits : (s n : Seen) (c : Option CallKind) (x : Option RowParts) → IsOn s n → ((row : RowParts) → may_be_told c (ToldRow row) ≡ true) → MoveFits c s (gave s n x)

@@ -27,7 +27,7 @@ use Rattle.my_reading.specs.declared.call.CallKind.TheVariants.{Connect, Prepare
 use Rattle.my_reading.specs.declared.error.Error.TheVariants as errors
 use Rattle.my_reading.specs.declared.facts.Facts.{Facts}
 use Rattle.my_reading.specs.Calls.{kind_of as call_kind, id_in, is_connect}
-use Rattle.my_reading.specs.Commands.{arranging_texts, setup_texts}
+use Rattle.my_reading.specs.Commands.{arranging_texts}
 use Rattle.my_reading.specs.Course.{Part, All, Head, Item, Set, Rest, Reply, Keep, Give, Learn, Clear, Step, Goes, step, step_of, unless_cached, failure, unfit, return, with_front, reads, after_payload, parts_of_texts, is_rows, is_greeting}
 use Rattle.my_reading.specs.Errors.{codec_error, invalid_data, server_error}
 use Rattle.my_reading.specs.Leads.{Leads, Here, Then}
@@ -40,14 +40,15 @@ use Rattle.my_session.specs.declared.reactions.Reaction.TheVariants as reactions
 use Rattle.my_session.specs.declared.task.Task.{Task}
 use Rattle.my_session.specs.declared.task.Task.TheVariants as tasks
 use Rattle.my_session.specs.Machine.{Goes as MachineGoes, Passes, Tells, Move, advanced, fell, failed_by, with_task, with_taken as with_mark, refused, gave, passed, reacted, above, unless_above, reply_to, reply_bytes}
-use Rattle.my_session.specs.Mirror.{Mirrors, StandsAt, OpenAt, MoveReads, TaskStandsAt, own_parts, parts_left, parts_of_setup, refusal_at}
+use Rattle.my_session.specs.Mirror.{Mirrors, StandsAt, OpenAt, MoveReads, TaskStandsAt, own_parts, parts_left, parts_of_own, refusal_at}
+use Rattle.my_session.specs.Queries.{queries_of}
 use Rattle.my_session.specs.Seen.{Seen}
 use Rattle.my_session.specs.Stands.{owes, call_with, is_shaking}
 use Rattle.my_session.specs.Tables.{react, react_head, react_single, react_whole, is_breaking, is_connecting}
 use Rattle.my_session.specs.Tasks.{kind_in, fault_in}
 use Rattle.my_session.proofs.Faults.Payloads.{row_reads}
 use Rattle.my_reading.proofs.Described.{told_columns}
-use Rattle.my_session.proofs.Mirror.Fields.{mirrors_fallen, mirrors_read, mirrors_with_end, mirrors_with_taken, step_here, front_here, kind_here, place_here}
+use Rattle.my_session.proofs.Mirror.Fields.{Knows, mirrors_fallen, mirrors_read, mirrors_with_end, mirrors_with_taken, step_here, front_here, kind_here, place_here}
 use Rattle.my_session.proofs.Stands.Spots.{is_known, known, row_spot, end_spot, not_greeting}
 use Rattle.my_session.proofs.Stands.Wired.{silent, limit_is}
 
@@ -61,6 +62,21 @@ fallen_at s q n m marked = record {
   task_at = tt;
   settled = λ _. refl;
   statements_are = λ no. cc;
+  status_is = λ no. cc;
+  checked = refl;
+}
+
+-- a session that is closed rests where it stands
+pub resting_at : (s : Seen) (q : Place) → s.closed ≡ true → s.owed ≡ [] → StandsAt s q → StandsAt (with_task s tasks.Nothing s.untold) q
+resting_at s q shut nothing at = record {
+  mirrors = at.mirrors;
+  end_is = λ alive _. let no : true ≡ false = sym shut ∙ alive in cc;
+  taken_is = at.taken_is;
+  own_end = λ no. cc;
+  task_at = tt;
+  settled = λ _. nothing;
+  statements_are = at.statements_are;
+  status_is = at.status_is;
   checked = refl;
 }
 
@@ -167,7 +183,7 @@ good_not_rows spots.FieldsEnd d status e = cc
 no_rows : (b : Bool) (x : Spot) → x ≡ spots.Rows → is_rows x ≡ b → b ≡ false → ⊥
 no_rows b x e f g = let h : is_rows x ≡ true = ap is_rows e in let i : true ≡ false = sym h ∙ f ∙ g in cc
 
-module _ (s : Seen) (call : Call) (p : Place) (m : Mirrors s.context s.number s.unread s.owed s.closed s.facts s.login p) (marked : p.taken ≡ s.taken) (known_are : s.statements ≡ p.statements)
+module _ (s : Seen) (call : Call) (p : Place) (m : Mirrors s.context s.number s.unread s.owed s.closed s.facts s.login p) (marked : p.taken ≡ s.taken) (known_are : Knows s p)
     (alive : s.closed ≡ false) (nothing : s.owed ≡ []) (call_is : call_with (kind_in s.task) s.call ≡ Some call)
     (payload rest : List ℕ) (next : ℕ) (at : front_at s.number s.context.terms.limit s.unread ≡ Whole payload rest next)
     (whole : IsWhole s.number s.context.terms.limit s.unread payload rest next)
@@ -210,7 +226,7 @@ module _ (s : Seen) (call : Call) (p : Place) (m : Mirrors s.context s.number s.
       → TaskStandsAt t (spot_by k) (connects_in (exchanges p)) → (owes t ≡ false → not_greets k ≡ true)
       → OpenAt (with_task (following k) t false) call (parts_left s.login s.call t) (new k)
   goes_to t k checks e good same sound stands quiet = record {
-    at = record { mirrors = mirrors_new k e good; end_is = λ _ _. refl; taken_is = taken_new k e good; own_end = λ _. refl; task_at = stands; settled = λ no. none_owed k (quiet no); statements_are = λ _. known_are; checked = checks };
+    at = record { mirrors = mirrors_new k e good; end_is = λ _ _. refl; taken_is = taken_new k e good; own_end = λ _. refl; task_at = stands; settled = λ no. none_owed k (quiet no); statements_are = λ _. known_are.0; status_is = λ _. known_are.1; checked = checks };
     alive = alive;
     sound = sound;
     call_is = ap (λ c. call_with c s.call) same ∙ call_is;
@@ -227,7 +243,7 @@ module _ (s : Seen) (call : Call) (p : Place) (m : Mirrors s.context s.number s.
 
   -- the call ends, and the session rests
   rests_at : (k : Kind) → kind_there s.context s.facts.columns payload ≡ k → is_bad k ≡ false → not_greets k ≡ true → StandsAt (with_task (following k) tasks.Nothing false) (new k)
-  rests_at k e good quiet = record { mirrors = mirrors_new k e good; end_is = λ _ _. refl; taken_is = taken_new k e good; own_end = λ _. refl; task_at = tt; settled = λ _. none_owed k quiet; statements_are = λ _. known_are; checked = refl }
+  rests_at k e good quiet = record { mirrors = mirrors_new k e good; end_is = λ _ _. refl; taken_is = taken_new k e good; own_end = λ _. refl; task_at = tt; settled = λ _. none_owed k quiet; statements_are = λ _. known_are.0; status_is = λ _. known_are.1; checked = refl }
 
   one : (parts more : List Part) (q : Place) → step s.login call parts p ≡ Goes more q → Leads s.login call parts p more q
   one parts more q e = Then parts p more q more q e (Here more q)
@@ -361,26 +377,26 @@ module _ (s : Seen) (call : Call) (p : Place) (m : Mirrors s.context s.number s.
     dropping_reads kinds.Bad e = unfits (All ∷ []) (all_is [] reading kinds.Bad e)
 
   -- the handshake
-  module _ (reading : step s.login call (own_parts s.login Connect) p ≡ reads s.login All (parts_of_texts (arranging_texts s.login)) p)
+  module _ (reading : step s.login call (own_parts s.login Connect s.call) p ≡ reads s.login All (parts_of_texts (arranging_texts s.login)) p)
       (task : s.task ≡ tasks.Own Connect) (shaking : is_shaking s.context.spot ≡ true) (first : connects_in (exchanges p) ≡ 1) (connect : is_connect (call_kind call) ≡ true) where
     abbrev setting_up : List Part
     setting_up = parts_of_texts (arranging_texts s.login)
 
     greets : (n : CapabilityFlags) → kind_there s.context s.facts.columns payload ≡ kinds.Greets n → (b : Bool) → nat_lt s.context.terms.limit (length (response s.login payload)) ≡ b
-        → MoveReads s call (own_parts s.login Connect) p (move_at (tasks.Own Connect) (kinds.Greets n))
+        → MoveReads s call (own_parts s.login Connect s.call) p (move_at (tasks.Own Connect) (kinds.Greets n))
     greets n e b is = by_length b is
         (reading ∙ reads_it All setting_up (kinds.Greets n) e
         ∙ ap (λ l. cond (nat_lt l (length (response s.login payload))) (failure p (codec_error (TooLarge (length (response s.login payload)) l))) (Goes (All ∷ setting_up) (new (kinds.Greets n))))
         (sym (limit_is p.talk) ∙ ap (λ (c : Context). c.terms.limit) (sym m.context_is)))
       where
         by_length : (b : Bool) → nat_lt s.context.terms.limit (length (response s.login payload)) ≡ b
-            → step s.login call (own_parts s.login Connect) p ≡ cond (nat_lt s.context.terms.limit (length (response s.login payload))) (failure p (codec_error (TooLarge (length (response s.login payload)) s.context.terms.limit))) (Goes (All ∷ setting_up) (new (kinds.Greets n)))
-            → MoveReads s call (own_parts s.login Connect) p (move_at (tasks.Own Connect) (kinds.Greets n))
-        by_length true i f = rw i (returns (own_parts s.login Connect) (ToldError (codec_error (TooLarge (length (response s.login payload)) s.context.terms.limit))) (fell s) p (f ∙ rw i refl) (fallen_at s p s m marked) refl)
+            → step s.login call (own_parts s.login Connect s.call) p ≡ cond (nat_lt s.context.terms.limit (length (response s.login payload))) (failure p (codec_error (TooLarge (length (response s.login payload)) s.context.terms.limit))) (Goes (All ∷ setting_up) (new (kinds.Greets n)))
+            → MoveReads s call (own_parts s.login Connect s.call) p (move_at (tasks.Own Connect) (kinds.Greets n))
+        by_length true i f = rw i (returns (own_parts s.login Connect s.call) (ToldError (codec_error (TooLarge (length (response s.login payload)) s.context.terms.limit))) (fell s) p (f ∙ rw i refl) (fallen_at s p s m marked) refl)
         by_length false i f = rw i (record {
-          rest = own_parts s.login Connect;
+          rest = own_parts s.login Connect s.call;
           place = new (kinds.Greets n);
-          leads = one (own_parts s.login Connect) (own_parts s.login Connect) (new (kinds.Greets n)) (f ∙ rw i refl);
+          leads = one (own_parts s.login Connect s.call) (own_parts s.login Connect s.call) (new (kinds.Greets n)) (f ∙ rw i refl);
           comes = goes_to (tasks.Own Connect) (kinds.Greets n) refl e refl (ap kind_in (sym task)) refl (ap is_shaking (authenticates s.context.spot (knows (kinds.Greets n) e)), first) (λ no. cc);
         })
           where
@@ -400,12 +416,12 @@ module _ (s : Seen) (call : Call) (p : Place) (m : Mirrors s.context s.number s.
             authenticates (spots.Fields left) k = cc
             authenticates spots.FieldsEnd k = cc
 
-    pub connect_reads : (k : Kind) → kind_there s.context s.facts.columns payload ≡ k → MoveReads s call (own_parts s.login Connect) p (move_at (tasks.Own Connect) k)
+    pub connect_reads : (k : Kind) → kind_there s.context s.facts.columns payload ≡ k → MoveReads s call (own_parts s.login Connect s.call) p (move_at (tasks.Own Connect) k)
     unfolding is_simple
     connect_reads (kinds.Greets n) e = greets n e (nat_lt s.context.terms.limit (length (response s.login payload))) refl
     connect_reads (kinds.Good status) e = all_goes setting_up reading (tasks.Arranging 0) (kinds.Good status) refl refl e refl refl (ap kind_in (sym task)) refl
         (not_greeting s.context.spot (deprecates_eof s.context.terms.kept) (kinds.Good status), first) (all_is setting_up reading (kinds.Good status) e)
-    connect_reads kinds.Failed e = errs (own_parts s.login Connect) (err_at (is_greeting s.context.spot) payload) refl e true (ap is_connecting task) connect (all_is setting_up reading kinds.Failed e)
+    connect_reads kinds.Failed e = errs (own_parts s.login Connect s.call) (err_at (is_greeting s.context.spot) payload) refl e true (ap is_connecting task) connect (all_is setting_up reading kinds.Failed e)
     connect_reads (kinds.Count n) e = absurd (simple_shaking s.context.spot (kinds.Count n) shaking refl (knows (kinds.Count n) e))
     connect_reads kinds.Column e = absurd (simple_shaking s.context.spot kinds.Column shaking refl (knows kinds.Column e))
     connect_reads kinds.ColumnsDone e = absurd (simple_shaking s.context.spot kinds.ColumnsDone shaking refl (knows kinds.ColumnsDone e))
@@ -414,7 +430,7 @@ module _ (s : Seen) (call : Call) (p : Place) (m : Mirrors s.context s.number s.
     connect_reads (kinds.Prepared params columns) e = absurd (simple_shaking s.context.spot (kinds.Prepared params columns) shaking refl (knows (kinds.Prepared params columns) e))
     connect_reads kinds.Parameter e = absurd (simple_shaking s.context.spot kinds.Parameter shaking refl (knows kinds.Parameter e))
     connect_reads kinds.Field e = absurd (simple_shaking s.context.spot kinds.Field shaking refl (knows kinds.Field e))
-    connect_reads kinds.Bad e = unfits (own_parts s.login Connect) (all_is setting_up reading kinds.Bad e)
+    connect_reads kinds.Bad e = unfits (own_parts s.login Connect s.call) (all_is setting_up reading kinds.Bad e)
 
   -- a response of one payload
   module _ (parts : List Part) (reading : step s.login call (All ∷ parts) p ≡ reads s.login All parts p) (single : s.context.spot ≡ spots.Single) where
@@ -476,7 +492,7 @@ module _ (s : Seen) (call : Call) (p : Place) (m : Mirrors s.context s.number s.
 
   -- the answer to a reset
   abbrev resetting : List Part
-  resetting = Clear ∷ parts_of_setup (setup_texts s.login)
+  resetting = Clear ∷ parts_of_own Reset (queries_of s.login Reset s.call)
 
   pub reset_reads : step s.login call (All ∷ resetting) p ≡ reads s.login All resetting p → s.task ≡ tasks.Own Reset → s.context.spot ≡ spots.Single → call_kind call ≡ Reset
       → (k : Kind) → kind_there s.context s.facts.columns payload ≡ k → MoveReads s call (All ∷ resetting) p (move_at (tasks.Own Reset) k)
@@ -562,7 +578,7 @@ module _ (s : Seen) (call : Call) (p : Place) (m : Mirrors s.context s.number s.
       comes = inl (record {
         place = ended;
         stops = lone_here [];
-        at = record { mirrors = lone_mirrors; end_is = λ _ _. refl; taken_is = taken_new lone e refl; own_end = λ no. cc; task_at = tt; settled = λ _. none_owed lone refl; statements_are = λ _. known_are; checked = refl };
+        at = record { mirrors = lone_mirrors; end_is = λ _ _. refl; taken_is = taken_new lone e refl; own_end = λ no. cc; task_at = tt; settled = λ _. none_owed lone refl; statements_are = λ _. known_are.0; status_is = λ _. known_are.1; checked = refl };
         closed_is = alive ∙ sym stays_open ∙ ap (closes ToldReady) (sym is);
       });
     }
@@ -678,7 +694,7 @@ module _ (s : Seen) (call : Call) (p : Place) (m : Mirrors s.context s.number s.
         let w = mirrors_with_end n.context n.number rest n.owed s.closed n.facts s.login (new k) (not_greeting s.context.spot (deprecates_eof s.context.terms.kept) k) (mirrors_new k e refl) in
         let v = mirrors_with_taken n.context n.number rest n.owed s.closed n.facts s.login (with_end (new k)) w in
         returns (Set ∷ []) ToldReady (with_mark (with_task n tasks.Nothing true)) (with_taken (with_end (new k))) (set_is k e)
-        (record { mirrors = v; end_is = λ _ _. refl; taken_is = refl; own_end = λ no. cc; task_at = tt; settled = λ _. none_owed k refl; statements_are = λ _. known_are; checked = refl })
+        (record { mirrors = v; end_is = λ _ _. refl; taken_is = refl; own_end = λ no. cc; task_at = tt; settled = λ _. none_owed k refl; statements_are = λ _. known_are.0; status_is = λ _. known_are.1; checked = refl })
         (alive ∙ ap (closes ToldReady) (sym take))
 
     pub taking_reads : (k : Kind) → kind_there s.context s.facts.columns payload ≡ k → MoveReads s call (Set ∷ []) p (move_at tasks.Taking k)

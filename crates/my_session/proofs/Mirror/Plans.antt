@@ -12,16 +12,17 @@ use Rattle.my_grammar.specs.Talk.{context_of}
 use Rattle.my_flags.specs.Sets.{deprecates_eof}
 use Rattle.my_reading.specs.declared.call.Call.{Call}
 use Rattle.my_reading.specs.declared.call.CallKind.{CallKind}
-use Rattle.my_reading.specs.declared.call.CallKind.TheVariants.{Connect, Query, Prepare, Execute, Batch, CloseStmt, NextRow, DropResult, TakeSet, SkipTaken, Ping, Reset, Quit}
-use Rattle.my_reading.specs.Calls.{kind_of, call_of, is_connect, lists_in, params_in, statement_in, text_in}
-use Rattle.my_reading.specs.Commands.{arranging_texts, setup_texts}
+use Rattle.my_reading.specs.declared.call.CallKind.TheVariants.{Connect, Query, Prepare, Execute, Batch, CloseStmt, NextRow, DropResult, TakeSet, SkipTaken, Ping, Reset, Begin, Rollback, ForgetTransaction, Quit}
+use Rattle.my_reading.specs.Calls.{kind_of, call_of, is_connect, is_quit, lists_in, params_in, statement_in, text_in}
+use Rattle.my_reading.specs.Commands.{arranging_texts}
 use Rattle.my_reading.specs.Executions.{values_for}
 use Rattle.my_reading.specs.Statements.{held_in, is_mixed_text, query_of}
-use Rattle.my_reading.specs.Course.{Part, All, Head, Item, Set, Rest, Clear, Goes, step, return, reads, parts_of, parts_of_lists, parts_of_texts, is_rows, is_greeting}
+use Rattle.my_reading.specs.Course.{Part, All, Head, Item, Set, Rest, Clear, Undo, Undone, Goes, step, return, reads, parts_of, parts_of_lists, parts_of_texts, is_rows, is_greeting}
 use Rattle.my_reading.specs.Errors.{invalid_data}
 use Rattle.my_reading.specs.Leads.{Here, Then}
 use Rattle.my_reading.specs.Place.{Place, exchanges, connects_in, without_end, with_taken}
 use Rattle.my_reading.specs.Told.{ToldReady, ToldEnd, ToldNone, closes}
+use Rattle.my_reading.specs.Transactions.{is_given_up}
 use Rattle.my_reading.specs.Versions.{can_reset}
 use Rattle.my_handshake.specs.Version.{version_of}
 use Rattle.my_session.specs.declared.tables.Plan.{Plan}
@@ -30,17 +31,19 @@ use Rattle.my_session.specs.declared.reactions.Reaction.TheVariants as reactions
 use Rattle.my_session.specs.declared.task.Task.{Task}
 use Rattle.my_session.specs.declared.task.Task.TheVariants as tasks
 use Rattle.my_session.specs.Machine.{failed_by, with_task, reacted, above, unless_above, reply_to, advanced, planned, when_owed, next_by, next}
-use Rattle.my_session.specs.Mirror.{OpenAt, MoveReads, EachMoveReads, TaskStandsAt, OwnStandsAt, BegunStandsAt, ask_parts, is_own, own_parts, parts_left, parts_of_setup, passes_end, refusal_at}
+use Rattle.my_session.specs.Mirror.{OpenAt, MoveReads, EachMoveReads, TaskStandsAt, OwnStandsAt, BegunStandsAt, ask_parts, is_own, own_parts, parts_left, parts_of_own, passes_end, refusal_at}
+use Rattle.my_session.specs.Queries.{queries_of}
 use Rattle.my_session.specs.Seen.{Seen}
 use Rattle.my_session.specs.Stands.{call_with, is_shaking}
-use Rattle.my_session.specs.Tables.{plan_of, ask_plan, clean_plan, read_plan, drop_plan, take_plan, skip_plan, query_plan, own_plan, first_plan, react, react_whole, is_breaking, is_connecting}
+use Rattle.my_session.specs.Tables.{plan_of, clean_plan, read_plan, drop_plan, take_plan, skip_plan, query_plan, own_plan, first_plan, react, react_whole, is_breaking, is_connecting}
 use Rattle.my_session.specs.Tasks.{kind_in, fault_in}
 use Rattle.my_session.proofs.Mirror.Fields.{mirrors_with_taken, owes_here}
 use Rattle.my_session.proofs.Mirror.Payloads.{fallen_at, connect_reads, head_reads, ping_reads, reset_reads, readies, reading_reads, dropping_reads, taking_reads, skipping_reads, whole_reads_all}
-use Rattle.my_session.proofs.Mirror.Commands.{asks_reads, runs_on, arranges_reads, passed}
+use Rattle.my_session.proofs.Mirror.Commands.{after_rest, rest_first, asks_reads, queries_reads, runs_on, arranges_reads, passed}
 use Rattle.my_session.proofs.Stands.Spots.{not_greeting}
 use Rattle.my_session.proofs.Mirror.Opened.{and_false, and_true, asks_not, call_here, kind_here_is, end_at, known_here, goes_at, rests_at, quiet_mirrors, here, all_here, item_here, head_here, reads_front, starts, cleans_now}
-use Rattle.my_session.proofs.Mirror.Resets.{after_rest, rest_first, sets_reads, offered_reads, clears_reads}
+use Rattle.my_session.proofs.Mirror.Resets.{offered_reads, clears_reads}
+use Rattle.my_session.proofs.Mirror.Transactions.{undoes_reads, settles_reads, gives_up, forsakes}
 use Rattle.my_session.proofs.Mirror.Prepared.{looked_reads, checked_reads, batched_reads, forgets, running_by, execution_by, prepare_by, gives_reads}
 
 module _ (s : Seen) (call : Call) (p : Place) (o : OpenAt s call (parts_left s.login s.call s.task) p) (nothing : s.owed ≡ []) (bytes : AreBytes s.unread) where
@@ -49,9 +52,9 @@ module _ (s : Seen) (call : Call) (p : Place) (o : OpenAt s call (parts_left s.l
 
   begun_reads : (c : CallKind) → s.task ≡ tasks.Begun c → BegunStandsAt c s.context.spot (connects_in (exchanges p)) → MoveReads s call (parts_of s.login (call_of c s.call)) p (planned s (first_plan c))
   begun_reads Connect task at = record {
-    rest = own_parts s.login Connect;
+    rest = own_parts s.login Connect s.call;
     place = p;
-    leads = Here (own_parts s.login Connect) p;
+    leads = Here (own_parts s.login Connect s.call) p;
     comes = goes_at s call p o nothing bytes (tasks.Own Connect) s.untold p (known_here s call p o nothing bytes) refl (λ _. begun_quiet task at.0) o.at.mirrors o.at.taken_is (ap kind_in (sym task)) refl (end_at s call p o nothing bytes (tasks.Begun Connect) task) (ap is_shaking at.0, at.1);
   }
   begun_reads Query task at = cleans_now s call p o nothing bytes Query task refl refl at
@@ -65,6 +68,9 @@ module _ (s : Seen) (call : Call) (p : Place) (o : OpenAt s call (parts_left s.l
   begun_reads SkipTaken task at = starts s call p o nothing bytes tasks.Skipping (Rest ∷ []) refl refl (ap kind_in (sym task)) refl refl (ap passes_end task) (λ no. cc) at
   begun_reads Ping task at = cleans_now s call p o nothing bytes Ping task refl refl at
   begun_reads Reset task at = offered_reads s call p o nothing bytes task at (can_reset (version_of s.facts.version)) refl
+  begun_reads Begin task at = cleans_now s call p o nothing bytes Begin task refl refl at
+  begun_reads Rollback task at = gives_up s call p o nothing bytes task at
+  begun_reads ForgetTransaction task at = forsakes s call p o nothing bytes task
   begun_reads Quit task at = cleans_now s call p o nothing bytes Quit task refl refl at
 
   -- a task that reads the rest of an older response, and then does what the plan says
@@ -236,7 +242,8 @@ module _ (s : Seen) (call : Call) (p : Place) (o : OpenAt s call (parts_left s.l
           own_end = λ no. cc;
           task_at = tt;
           settled = λ _. nothing;
-          statements_are = λ _. known_here s call p o nothing bytes;
+          statements_are = λ _. (known_here s call p o nothing bytes).0;
+          status_is = o.at.status_is;
           checked = refl;
         };
         closed_is = o.alive ∙ ap (closes ToldReady) (sym (kind_here_is s call p o nothing bytes TakeSet (ap kind_in task)));
@@ -387,7 +394,7 @@ module _ (s : Seen) (call : Call) (p : Place) (o : OpenAt s call (parts_left s.l
   shaking_on spots.FieldsEnd e = cc
 
   -- nothing is left to be passed over where the own exchange of connecting, of a ping, or of a reset, is read
-  own_reads : (c : CallKind) → s.task ≡ tasks.Own c → OwnStandsAt c s.context.spot (connects_in (exchanges p)) → p.end_left ≡ false → MoveReads s call (own_parts s.login c) p (planned s (own_plan c s.context.spot))
+  own_reads : (c : CallKind) → s.task ≡ tasks.Own c → OwnStandsAt c s.context.spot (connects_in (exchanges p)) → p.end_left ≡ false → MoveReads s call (own_parts s.login c s.call) p (planned s (own_plan c s.context.spot))
   own_reads Connect task at none =
       let on = shaking_on s.context.spot at.0 in
       reads_front s call p o nothing bytes All (parts_of_texts (arranging_texts s.login)) (tasks.Own Connect) task (all_here s call p o nothing bytes _ none on)
@@ -419,10 +426,13 @@ module _ (s : Seen) (call : Call) (p : Place) (o : OpenAt s call (parts_left s.l
       (ap (parts_left s.login s.call) (sym task))
   own_reads Reset task at none =
       let on : is_idle s.context.spot ≡ false = ap is_idle at in
-      let parts = Clear ∷ parts_of_setup (setup_texts s.login) in
+      let parts = Clear ∷ parts_of_own Reset (queries_of s.login Reset s.call) in
       reads_front s call p o nothing bytes All parts (tasks.Own Reset) task (all_here s call p o nothing bytes parts none on)
       (λ payload rest next e whole single k kind. reset_reads s call p o.at.mirrors o.at.taken_is (known_here s call p o nothing bytes) o.alive nothing o.call_is payload rest next e whole single (all_here s call p o nothing bytes parts none on) task at (kind_here_is s call p o nothing bytes Reset (ap kind_in task)) k kind)
       (ap (parts_left s.login s.call) (sym task))
+  own_reads Begin task at none = absurd at
+  own_reads Rollback task at none = absurd at
+  own_reads ForgetTransaction task at none = absurd at
   own_reads Quit task at none = record {
     rest = [];
     place = p;
@@ -431,17 +441,46 @@ module _ (s : Seen) (call : Call) (p : Place) (o : OpenAt s call (parts_left s.l
   }
 
   -- the parameters were looked at before the call cleaned
-  refusals_are : (c : CallKind) → s.task ≡ tasks.Cleaning c → refusal_at (tasks.Cleaning c) s.call ≡ None
-  refusals_are c task = ap (λ t. refusal_at t s.call) (sym task) ∙ o.at.checked
+  refusals_are : (t : Task) → s.task ≡ t → refusal_at t s.call ≡ None
+  refusals_are t task = ap (λ t. refusal_at t s.call) (sym task) ∙ o.at.checked
+
+  -- a call on a closed session, which an open one isn't
+  leaves : (c : CallKind) → s.task ≡ tasks.Leaving c → (quit : Bool) → is_quit c ≡ quit → MoveReads s call [] p (planned s (cond quit plans.Quits plans.Readies))
+  leaves c task true e = record {
+    rest = [];
+    place = p;
+    leads = Here [] p;
+    comes = inl (record { place = p; stops = here s call p o nothing bytes []; at = fallen_at s p s o.at.mirrors o.at.taken_is; closed_is = sym e ∙ ap (closes ToldReady) (sym (kind_here_is s call p o nothing bytes c (ap kind_in task))) });
+  }
+  leaves c task false e = record {
+    rest = [];
+    place = p;
+    leads = Here [] p;
+    comes = inl (record {
+      place = p;
+      stops = here s call p o nothing bytes [];
+      at = rests_at s call p o nothing bytes s.untold p (known_here s call p o nothing bytes) o.at.mirrors o.at.taken_is (end_at s call p o nothing bytes (tasks.Leaving c) task);
+      closed_is = o.alive ∙ sym e ∙ ap (closes ToldReady) (sym (kind_here_is s call p o nothing bytes c (ap kind_in task)));
+    });
+  }
 
   plan_reads : (t : Task) → s.task ≡ t → TaskStandsAt t s.context.spot (connects_in (exchanges p)) → MoveReads s call (parts_left s.login s.call t) p (planned s (plan_of t s.context.spot s.untold))
   plan_reads tasks.Nothing task at = let no : None ≡ Some call = sym (ap (λ u. call_with (kind_in u) s.call) task) ∙ o.call_is in cc
   plan_reads (tasks.Begun c) task at = begun_reads c task at
   plan_reads (tasks.Cleaning c) task at =
-      cleans (tasks.Cleaning c) task (refusals_are c task) (ask_parts s.login c s.call) refl refl refl at.1
+      cleans (tasks.Cleaning c) task (refusals_are (tasks.Cleaning c) task) (Undo ∷ All ∷ Undone ∷ ask_parts s.login c s.call) refl refl refl at.1
       (λ k. (at.0, not_greeting s.context.spot (deprecates_eof s.context.terms.kept) k)) at (λ _. refl) false (ap is_connecting task)
-      (ap is_connect (kind_here_is s call p o nothing bytes c (ap kind_in task)) ∙ asks_not c at.0) (ask_plan c)
-      (λ told none idle. asks_reads s call p o.at.mirrors o.at.taken_is (known_here s call p o nothing bytes) o.alive nothing o.call_is told none idle c task at.0 (call_here s call p o nothing bytes c (ap kind_in task)) (refusals_are c task)) s.context.spot refl
+      (ap is_connect (kind_here_is s call p o nothing bytes c (ap kind_in task)) ∙ asks_not c at.0) (plans.Undoes c)
+      (λ told none idle. undoes_reads s call p o nothing bytes c at.0 (refusals_are (tasks.Cleaning c) task) (ap kind_in task) none told idle (is_given_up s.status) refl) s.context.spot refl
+  plan_reads (tasks.Undoing c) task at =
+      cleans (tasks.Undoing c) task (refusals_are (tasks.Undoing c) task) (Undone ∷ ask_parts s.login c s.call) refl refl refl at.1
+      (λ k. (at.0, not_greeting s.context.spot (deprecates_eof s.context.terms.kept) k)) at (λ _. refl) false (ap is_connecting task)
+      (ap is_connect (kind_here_is s call p o nothing bytes c (ap kind_in task)) ∙ asks_not c at.0) (plans.Settles c)
+      (λ told none idle. settles_reads s call p o nothing bytes c at.0 (refusals_are (tasks.Undoing c) task) (ap kind_in task) none told idle) s.context.spot refl
+  plan_reads (tasks.Cleaned c) task at =
+      let told = o.at.own_end (ap is_own task) in
+      asks_reads s call p o.at.mirrors o.at.taken_is (known_here s call p o nothing bytes) o.alive nothing o.call_is told
+      (end_at s call p o nothing bytes (tasks.Cleaned c) task ∙ and_true s.untold ∙ told) (ap is_idle at.1) c task at.0 (call_here s call p o nothing bytes c (ap kind_in task)) (refusals_are (tasks.Cleaned c) task)
   plan_reads (tasks.Own c) task at = own_reads c task at (end_at s call p o nothing bytes (tasks.Own c) task ∙ and_true s.untold ∙ o.at.own_end (ap is_own task))
   plan_reads tasks.Giving task at = gives_reads s call p o nothing bytes task
   plan_reads (tasks.Arranging n) task at =
@@ -456,23 +495,18 @@ module _ (s : Seen) (call : Call) (p : Place) (o : OpenAt s call (parts_left s.l
       (ap is_connect (kind_here_is s call p o nothing bytes Batch (ap kind_in task))) (plans.Runs n)
       (λ told none idle. runs_on s call p o.at.mirrors o.at.taken_is (known_here s call p o nothing bytes) o.alive nothing o.call_is told none idle n (ap kind_in task) (call_here s call p o nothing bytes Batch (ap kind_in task)) (slice_get (lists_in s.call) n) refl) s.context.spot refl
   plan_reads tasks.Clearing task at = clears_reads s call p o nothing bytes task at
-  plan_reads (tasks.Setting n) task at =
-      let texts = drop n (setup_texts s.login) in
-      subst (λ xs. MoveReads s call xs p (planned s (plan_of (tasks.Setting n) s.context.spot s.untold))) (rest_first texts)
-      (cleans (tasks.Setting n) task refl (after_rest texts) (rest_first texts) refl refl at
-      (λ k. not_greeting s.context.spot (deprecates_eof s.context.terms.kept) k) at (λ _. refl) false (ap is_connecting task)
-      (ap is_connect (kind_here_is s call p o nothing bytes Reset (ap kind_in task))) (plans.Sets n)
-      (λ told none idle. sets_reads s call p o.at.mirrors o.at.taken_is (known_here s call p o nothing bytes) o.alive nothing o.call_is told none idle n (ap kind_in task) (slice_get (setup_texts s.login) n) refl) s.context.spot refl)
+  plan_reads (tasks.Asking c n) task at =
+      let texts = drop n (queries_of s.login c s.call) in
+      subst (λ xs. MoveReads s call xs p (planned s (plan_of (tasks.Asking c n) s.context.spot s.untold))) (rest_first c texts)
+      (cleans (tasks.Asking c n) task refl (after_rest c texts) (rest_first c texts) refl refl at.1
+      (λ k. (at.0, not_greeting s.context.spot (deprecates_eof s.context.terms.kept) k, at.2)) at (λ _. refl) false (ap is_connecting task)
+      (ap is_connect (kind_here_is s call p o nothing bytes c (ap kind_in task)) ∙ asks_not c at.0) (plans.Queries c n)
+      (λ told none idle. queries_reads s call p o.at.mirrors o.at.taken_is (known_here s call p o nothing bytes) o.alive nothing o.call_is told none idle c n at.2 (ap kind_in task) (call_here s call p o nothing bytes c (ap kind_in task)) (slice_get (queries_of s.login c s.call) n) refl) s.context.spot refl)
   plan_reads tasks.Reading task at = items task at s.untold refl
   plan_reads tasks.Dropping task at = drops task at s.untold refl
   plan_reads tasks.Taking task at = takes task at s.untold refl
   plan_reads tasks.Skipping task at = skips task at s.untold refl
-  plan_reads tasks.Leaving task at = record {
-    rest = [];
-    place = p;
-    leads = Here [] p;
-    comes = inl (record { place = p; stops = here s call p o nothing bytes []; at = fallen_at s p s o.at.mirrors o.at.taken_is; closed_is = ap (closes ToldReady) (sym (kind_here_is s call p o nothing bytes Quit (ap kind_in task))) });
-  }
+  plan_reads (tasks.Leaving c) task at = leaves c task (is_quit c) refl
   plan_reads (tasks.Failing c fault) task at = let no : Some fault ≡ None = sym (ap fault_in task) ∙ o.sound in cc
 
 module _ (s : Seen) (call : Call) (p : Place) (o : OpenAt s call (parts_left s.login s.call s.task) p) (bytes : AreBytes s.unread) where

@@ -23,7 +23,7 @@ use Rattle.my_reading.specs.Commands.{closing}
 use Rattle.my_reading.specs.Executions.{Values, Fitting, Unfitting, values_for}
 use Rattle.my_reading.specs.Facts.{prepared_by}
 use Rattle.my_reading.specs.Statements.{Statements, held_in, is_mixed_text, leaving, names_of, query_of, statement_with, with_columns, with_fetched, with_prepared, without_statement}
-use Rattle.my_reading.specs.Course.{Part, All, Head, Command, Find, Check, Reply, Keep, Give, Learn, Forget, Step, Goes, step, step_of, return, failure, first_above, unless_long, with_command, found, looked_for, checked, closing_of, reads, parts_of_lists, is_rows, is_greeting}
+use Rattle.my_reading.specs.Course.{Part, All, Head, Command, Find, Check, Reply, Keep, Give, Learn, Forget, Step, Goes, step, step_of, return, failure, first_above, unless_long, with_command, found, looked_for, checked, closing_of, reads, clean, parts_of_batch, parts_of_lists, is_rows, is_greeting}
 use Rattle.my_reading.specs.Errors.{mixed_params}
 use Rattle.my_reading.specs.Leads.{Leads, Here, Then}
 use Rattle.my_reading.specs.Place.{Place, exchanges, facts_at, terms_of, with_statements as place_with, with_exchange}
@@ -49,7 +49,7 @@ module _ (s : Seen) (call : Call) (p : Place) (o : OpenAt s call (parts_left s.l
   -- a statement to prepare is looked for first
   module _ (task : s.task ≡ tasks.Begun Prepare) (past : is_greeting s.context.spot ≡ false) where
     abbrev preparing : List Part
-    preparing = All ∷ Command ∷ Reply ∷ Keep ∷ Give ∷ []
+    preparing = clean (Command ∷ Reply ∷ Keep ∷ Give ∷ [])
 
     abbrev text : List ℕ
     text = text_in s.call
@@ -62,7 +62,7 @@ module _ (s : Seen) (call : Call) (p : Place) (o : OpenAt s call (parts_left s.l
         here s call p o nothing bytes (Find ∷ preparing)
         ∙ ap (looked_for preparing p) text_is
         ∙ ap (λ b. cond b (failure p mixed_params) (found preparing p text (held_in p.statements (query_of text)))) e
-        ∙ ap (λ x. cond mixed (failure p mixed_params) (found preparing p text x)) (ap (λ known. held_in known (query_of text)) (sym (known_here s call p o nothing bytes)) ∙ is)
+        ∙ ap (λ x. cond mixed (failure p mixed_params) (found preparing p text x)) (ap (λ known. held_in known (query_of text)) (sym (known_here s call p o nothing bytes).0) ∙ is)
 
     pub looked_reads : (mixed : Bool) → is_mixed_text text ≡ mixed → (h : Option Held) → held_in s.statements (query_of text) ≡ h → MoveReads s call (Find ∷ preparing) p (looked s mixed h)
     looked_reads true e h is = record {
@@ -71,7 +71,7 @@ module _ (s : Seen) (call : Call) (p : Place) (o : OpenAt s call (parts_left s.l
       leads = Here (Find ∷ preparing) p;
       comes = inl (record { place = p; stops = looks true e h is; at = rests_at s call p o nothing bytes s.untold p (known_here s call p o nothing bytes) o.at.mirrors o.at.taken_is (end_at s call p o nothing bytes (tasks.Begun Prepare) task); closed_is = o.alive });
     }
-    looked_reads false e None is = cleans_first s call p o nothing bytes Prepare task refl past refl (Find ∷ preparing) p s.statements (Then (Find ∷ preparing) p preparing p preparing p (looks false e None is) (Here preparing p)) o.at.mirrors o.at.taken_is refl (known_here s call p o nothing bytes) s.untold refl
+    looked_reads false e None is = cleans_first s call p o nothing bytes Prepare task refl past refl (Find ∷ preparing) p s.statements s.status (Then (Find ∷ preparing) p preparing p preparing p (looks false e None is) (Here preparing p)) o.at.mirrors o.at.taken_is refl (known_here s call p o nothing bytes) s.untold refl
     looked_reads false e (Some h) is =
         let q : Place = place_with (with_fetched (query_of text) p.statements) p in
         record {
@@ -88,7 +88,8 @@ module _ (s : Seen) (call : Call) (p : Place) (o : OpenAt s call (parts_left s.l
               own_end = λ no. cc;
               task_at = tt;
               settled = λ _. nothing;
-              statements_are = λ _. ap (with_fetched (query_of text)) (known_here s call p o nothing bytes);
+              statements_are = λ _. ap (with_fetched (query_of text)) (known_here s call p o nothing bytes).0;
+              status_is = o.at.status_is;
               checked = refl;
             };
             closed_is = o.alive;
@@ -99,7 +100,7 @@ module _ (s : Seen) (call : Call) (p : Place) (o : OpenAt s call (parts_left s.l
   module _ (c : CallKind) (task : s.task ≡ tasks.Begun c) (sends : asks c ≡ true) (past : is_greeting s.context.spot ≡ false) (params : Params) (executes : statement_in (call_of c s.call) ≡ statement_in s.call)
       (first_refusal : refusal_at (tasks.Cleaning c) s.call ≡ refused_by (values_for (statement_in s.call) params)) where
     abbrev executing : List Part
-    executing = All ∷ ask_parts s.login c s.call
+    executing = clean (ask_parts s.login c s.call)
 
     checks_it : (v : Values) → values_for (statement_in s.call) params ≡ v → step s.login call (Check params ∷ executing) p ≡ checked executing p v
     checks_it v is =
@@ -110,7 +111,7 @@ module _ (s : Seen) (call : Call) (p : Place) (o : OpenAt s call (parts_left s.l
 
     pub checked_reads : (v : Values) → values_for (statement_in s.call) params ≡ v → MoveReads s call (Check params ∷ executing) p (unless_refused s (refused_by v) (record { seen = with_task s (tasks.Cleaning c) s.untold; does = MachineGoes }))
     checked_reads (Fitting values) is =
-        cleans_first s call p o nothing bytes c task sends past (first_refusal ∙ ap refused_by is) (Check params ∷ executing) p s.statements (Then (Check params ∷ executing) p executing p executing p (checks_it (Fitting values) is) (Here executing p)) o.at.mirrors o.at.taken_is refl (known_here s call p o nothing bytes) s.untold refl
+        cleans_first s call p o nothing bytes c task sends past (first_refusal ∙ ap refused_by is) (Check params ∷ executing) p s.statements s.status (Then (Check params ∷ executing) p executing p executing p (checks_it (Fitting values) is) (Here executing p)) o.at.mirrors o.at.taken_is refl (known_here s call p o nothing bytes) s.untold refl
     checked_reads (Unfitting e) is = record {
       rest = Check params ∷ executing;
       place = p;
@@ -119,8 +120,8 @@ module _ (s : Seen) (call : Call) (p : Place) (o : OpenAt s call (parts_left s.l
     }
 
   -- a batch without any parameters is done at once
-  pub batched_reads : s.task ≡ tasks.Begun Batch → is_greeting s.context.spot ≡ false → (o : Option Params) → slice_get (lists_in s.call) 0 ≡ o → MoveReads s call (parts_of_lists (lists_in s.call)) p (batched s o)
-  batched_reads task past None at = subst (λ xs. MoveReads s call (parts_of_lists xs) p (batched s None)) (sym (items_end (lists_in s.call) 0 at)) (record {
+  pub batched_reads : s.task ≡ tasks.Begun Batch → is_greeting s.context.spot ≡ false → (o : Option Params) → slice_get (lists_in s.call) 0 ≡ o → MoveReads s call (parts_of_batch (lists_in s.call)) p (batched s o)
+  batched_reads task past None at = subst (λ xs. MoveReads s call (parts_of_batch xs) p (batched s None)) (sym (items_end (lists_in s.call) 0 at)) (record {
     rest = [];
     place = p;
     leads = Here [] p;
@@ -135,21 +136,24 @@ module _ (s : Seen) (call : Call) (p : Place) (o : OpenAt s call (parts_left s.l
       let lists = params ∷ drop 1 (lists_in s.call) in
       let all : lists_in s.call ≡ lists = items_go_on (lists_in s.call) 0 params at in
       let move = batched s (Some params) in
-      subst (λ xs. MoveReads s call xs p move) (ap (λ xs. Check params ∷ All ∷ parts_of_runs xs) all ∙ sym (ap parts_of_lists all))
+      subst (λ xs. MoveReads s call xs p move) (ap (λ xs. Check params ∷ clean (parts_of_runs xs)) all ∙ sym (ap parts_of_batch all))
       (checked_reads Batch task refl past params refl (ap (refused_at (statement_in s.call)) at) (values_for (statement_in s.call) params) refl)
 
   -- a statement to close is forgotten first
-  pub forgets : s.task ≡ tasks.Begun CloseStmt → is_greeting s.context.spot ≡ false → MoveReads s call (Forget ∷ All ∷ Command ∷ []) p (planned s plans.Forgets)
+  abbrev closing_parts : List Part
+  closing_parts = clean (Command ∷ [])
+
+  pub forgets : s.task ≡ tasks.Begun CloseStmt → is_greeting s.context.spot ≡ false → MoveReads s call (Forget ∷ closing_parts) p (planned s plans.Forgets)
   forgets task past =
       let known = without_statement (id_in s.call) s.statements in
       let q : Place = place_with known p in
-      let one : step s.login call (Forget ∷ All ∷ Command ∷ []) p ≡ Goes (All ∷ Command ∷ []) q =
-      here s call p o nothing bytes (Forget ∷ All ∷ Command ∷ [])
-      ∙ ap (λ (x : Call). Goes (All ∷ Command ∷ []) (place_with (without_statement (id_in x) p.statements) p)) (call_here s call p o nothing bytes CloseStmt (ap kind_in task))
-      ∙ ap (λ known. Goes (All ∷ Command ∷ []) (place_with (without_statement (id_in s.call) known) p)) (sym (known_here s call p o nothing bytes)) in
-      cleans_first s call p o nothing bytes CloseStmt task refl past refl (Forget ∷ All ∷ Command ∷ []) q known
-      (Then (Forget ∷ All ∷ Command ∷ []) p (All ∷ Command ∷ []) q (All ∷ Command ∷ []) q one (Here (All ∷ Command ∷ []) q))
-      (mirrors_with_statements s.context s.number s.unread s.owed s.closed s.facts s.login p known o.at.mirrors) o.at.taken_is refl refl s.untold refl
+      let one : step s.login call (Forget ∷ closing_parts) p ≡ Goes closing_parts q =
+      here s call p o nothing bytes (Forget ∷ closing_parts)
+      ∙ ap (λ (x : Call). Goes closing_parts (place_with (without_statement (id_in x) p.statements) p)) (call_here s call p o nothing bytes CloseStmt (ap kind_in task))
+      ∙ ap (λ known. Goes closing_parts (place_with (without_statement (id_in s.call) known) p)) (sym (known_here s call p o nothing bytes).0) in
+      cleans_first s call p o nothing bytes CloseStmt task refl past refl (Forget ∷ closing_parts) q known s.status
+      (Then (Forget ∷ closing_parts) p closing_parts q closing_parts q one (Here closing_parts q))
+      (mirrors_with_statements s.context s.number s.unread s.owed s.closed s.facts s.login p known o.at.mirrors) o.at.taken_is refl (refl, (known_here s call p o nothing bytes).1) s.untold refl
 
   -- after the head of an execution the columns are known
   learns : (after : List Part) → is_rows s.context.spot ≡ true → (c : CallKind) → kind_in s.task ≡ Some c
@@ -163,7 +167,7 @@ module _ (s : Seen) (call : Call) (p : Place) (o : OpenAt s call (parts_left s.l
       ∙ ap (λ b. Goes after (cond b (place_with (with_columns (id_in call) (facts_at s.login p).columns p.statements) p) p)) there
       ∙ ap (λ (x : Call). Goes after (place_with (with_columns (id_in x) (facts_at s.login p).columns p.statements) p)) (call_here s call p o nothing bytes c open_kind)
       ∙ ap (λ (f : Facts). Goes after (place_with (with_columns (id_in (call_of c s.call)) f.columns p.statements) p)) (sym o.at.mirrors.facts_are)
-      ∙ ap (λ known. Goes after (place_with (with_columns (id_in (call_of c s.call)) s.facts.columns known) p)) (sym (known_here s call p o nothing bytes)) in
+      ∙ ap (λ known. Goes after (place_with (with_columns (id_in (call_of c s.call)) s.facts.columns known) p)) (sym (known_here s call p o nothing bytes).0) in
       Then (Head ∷ Learn ∷ after) p (Learn ∷ after) p after q first (Then (Learn ∷ after) p after q after q second (Here after q))
 
   -- an execution of a batch, after whose head the rest is read whole
@@ -197,6 +201,7 @@ module _ (s : Seen) (call : Call) (p : Place) (o : OpenAt s call (parts_left s.l
               task_at = past;
               settled = λ _. nothing;
               statements_are = λ _. refl;
+              status_is = o.at.status_is;
               checked = refl;
             };
             alive = o.alive;
@@ -247,7 +252,7 @@ module _ (s : Seen) (call : Call) (p : Place) (o : OpenAt s call (parts_left s.l
           comes = inl (record {
             place = q;
             stops = step_here s.context s.number s.unread s.owed s.closed s.facts s.login q call [] o.alive w nothing;
-            at = record { mirrors = w; end_is = λ _ _. end_at s call p o nothing bytes (tasks.Own Execute) task; taken_is = o.at.taken_is; own_end = λ no. cc; task_at = tt; settled = λ _. nothing; statements_are = λ _. refl; checked = refl };
+            at = record { mirrors = w; end_is = λ _ _. end_at s call p o nothing bytes (tasks.Own Execute) task; taken_is = o.at.taken_is; own_end = λ no. cc; task_at = tt; settled = λ _. nothing; statements_are = λ _. refl; status_is = o.at.status_is; checked = refl };
             closed_is = o.alive ∙ ap (closes ToldReady) (sym (kind_here_is s call p o nothing bytes Execute (ap kind_in task)));
           });
         }
@@ -301,7 +306,7 @@ module _ (s : Seen) (call : Call) (p : Place) (o : OpenAt s call (parts_left s.l
         here s call p o nothing bytes (Keep ∷ Give ∷ [])
         ∙ ap (λ f. keep_step f call p.statements) (sym o.at.mirrors.facts_are)
         ∙ ap (λ x. keep_step s.facts x p.statements) (call_here s call p o nothing bytes Prepare (ap kind_in task))
-        ∙ ap (keep_step s.facts s.call) (sym (known_here s call p o nothing bytes))
+        ∙ ap (keep_step s.facts s.call) (sym (known_here s call p o nothing bytes).0)
         ∙ ap (λ t. with_command (calls.Prepare (text_in s.call)) (Give ∷ []) kept_place (closing_of t (leaving (query_of (text_in s.call)) (prepared_by s.facts) s.statements))) (terms_here s.context s.number s.unread s.owed s.closed s.facts s.login p o.at.mirrors)
         ∙ ap (λ x. with_command (calls.Prepare (text_in s.call)) (Give ∷ []) kept_place (closing_of (next_terms s) x)) is
 
@@ -314,7 +319,7 @@ module _ (s : Seen) (call : Call) (p : Place) (o : OpenAt s call (parts_left s.l
       place = kept_place;
       leads = Then replying p (Keep ∷ Give ∷ []) p (Give ∷ []) kept_place (reply_here s call p o nothing bytes (Keep ∷ Give ∷ []) true idle) (Then (Keep ∷ Give ∷ []) p (Give ∷ []) kept_place (Give ∷ []) kept_place (keeps_it None is) (Here (Give ∷ []) kept_place));
       comes = record {
-        at = record { mirrors = mirrors_kept; end_is = λ _ _. no_end; taken_is = o.at.taken_is; own_end = λ _. refl; task_at = past; settled = λ _. nothing; statements_are = λ _. refl; checked = refl };
+        at = record { mirrors = mirrors_kept; end_is = λ _ _. no_end; taken_is = o.at.taken_is; own_end = λ _. refl; task_at = past; settled = λ _. nothing; statements_are = λ _. refl; status_is = o.at.status_is; checked = refl };
         alive = o.alive;
         sound = refl;
         call_is = ap (λ k. call_with k s.call) (ap kind_in (sym task)) ∙ o.call_is;
@@ -327,7 +332,7 @@ module _ (s : Seen) (call : Call) (p : Place) (o : OpenAt s call (parts_left s.l
             → MoveReads s call replying p (unless_exceeds (with_kept s) long (record { seen = queued (with_kept s) tasks.Giving (closing (next_terms s) id); does = Sends }))
         closing_by long e =
             let talk : Talk = closing (next_terms s) id in
-            let w = begins_here (with_kept s) call kept_place mirrors_kept o.at.taken_is refl o.alive nothing o.call_is told_here no_end idle tasks.Giving (Give ∷ []) (calls.Prepare (text_in s.call)) talk (ap kind_in (sym task)) refl refl refl refl (record { kinds = tt; within = tt }) refl refl refl
+            let w = begins_here (with_kept s) call kept_place mirrors_kept o.at.taken_is (refl, (known_here s call p o nothing bytes).1) o.alive nothing o.call_is told_here no_end idle tasks.Giving (Give ∷ []) (calls.Prepare (text_in s.call)) talk (ap kind_in (sym task)) refl refl refl refl (record { kinds = tt; within = tt }) refl refl refl
             (some_bytes (packet_bytes (packets.CloseStatement id)) 0) refl (Keep ∷ Give ∷ []) p long
             (keeps_it (Some id) is ∙ ap (λ x. unless_long kept_place s.facts.settings.limit x (Goes (Give ∷ []) (with_exchange kept_place (calls.Prepare (text_in s.call)) talk))) e) in
             record {

@@ -21,30 +21,35 @@ use Rattle.my_grammar.specs.Talk.{Talk, Asked, Preparing, Queried, Silent, turns
 use Rattle.my_reading.specs.declared.call.Call.{Call}
 use Rattle.my_reading.specs.declared.call.Call.TheVariants as calls
 use Rattle.my_reading.specs.declared.call.CallKind.{CallKind}
-use Rattle.my_reading.specs.declared.call.CallKind.TheVariants.{Connect, Query, Prepare, Execute, Batch, CloseStmt, NextRow, DropResult, TakeSet, SkipTaken, Ping, Reset, Quit}
+use Rattle.my_reading.specs.declared.call.CallKind.TheVariants.{Connect, Query, Prepare, Execute, Batch, CloseStmt, NextRow, DropResult, TakeSet, SkipTaken, Ping, Reset, Begin, Rollback, ForgetTransaction, Quit}
 use Rattle.my_session.specs.declared.task.Task.{Task}
-use Rattle.my_session.specs.declared.task.Task.TheVariants.{Nothing, Cleaning, Own, Giving, Arranging, Running, Finishing, Setting}
+use Rattle.my_session.specs.declared.task.Task.TheVariants.{Nothing, Cleaning, Undoing, Cleaned, Own, Giving, Arranging, Running, Finishing, Asking}
 use Rattle.my_reading.specs.declared.error.Error.{Error}
 use Rattle.my_session.specs.declared.tables.Plan.TheVariants as plans
-use Rattle.my_reading.specs.Calls.{kind_of, call_of, asks, id_in, is_connect, lists_in, params_in, statement_in, text_in}
+use Rattle.my_reading.specs.Calls.{kind_of, call_of, asks, id_in, is_connect, lists_in, opts_in, params_in, statement_in, text_in}
 use Rattle.my_session.specs.Tasks.{kind_in, is_open}
-use Rattle.my_reading.specs.Commands.{arranging, arranging_texts, closing, command_of, connecting, execution, opening, queried, setup_texts}
-use Rattle.my_session.specs.Entries.{Opens, OwnsFirst, IsTied, terms_by, calls_in, connects, has_connected, connecting_in}
+use Rattle.my_reading.specs.Commands.{arranging, arranging_texts, closing, command_of, connecting, execution, opening, queried}
+use Rattle.my_session.specs.Entries.{Opens, OwnsFirst, IsTied, may_lack, terms_by, calls_in, connects, has_connected, connecting_in}
 use Rattle.my_reading.specs.Errors.{codec_error}
-use Rattle.my_reading.specs.Told.{Told, ToldReady, ToldFlag, closes, closes_by}
+use Rattle.my_reading.specs.Told.{Told, ToldReady, ToldFlag, ToldError, closes, closes_by}
+use Rattle.my_reading.specs.Transactions.{begin_refusal, rollback_text}
+use Rattle.my_handshake.specs.Version.{version_of}
+use Rattle.my_reading.specs.declared.transaction.TxStatus.TheVariants as txs
 use Rattle.my_session.specs.Groups.{given, given_after}
 use Rattle.my_session.specs.History.{History, answered, has_closed}
-use Rattle.my_session.specs.Machine.{Move, Sends, with_task, failed_by, queued, unless_exceeds, unless_refused, refusal, refused_by, next_terms, begins, asked, ran, arranged, set_up, planned, is_greeting}
+use Rattle.my_session.specs.Machine.{Move, Sends, with_task, failed_by, queued, unless_exceeds, unless_refused, refusal, refused_by, next_terms, begins, asked, ran, arranged, done, queried_by, admitted, planned, is_greeting}
+use Rattle.my_session.specs.Queries.{has_queries, queries_of}
 use Rattle.my_session.specs.Seen.{Seen}
 use Rattle.my_session.specs.ServerErrors.{errors_in, errors_of, errors_told, with_told}
-use Rattle.my_session.specs.Stands.{Stands, Heard, TaskIs, TieIs, IsArranged, call_with, is_left, keeps, owes}
+use Rattle.my_session.specs.Stands.{Stands, Heard, TaskIs, TieIs, IsArranged, CleansAt, call_with, is_left, keeps, owes}
 use Rattle.my_session.specs.Steps.{is_settled}
 use Rattle.my_session.specs.Tables.{ask_plan}
-use Rattle.my_session.proofs.Refusals.{refusal_closes, values_close}
+use Rattle.my_session.proofs.Refusals.{refusal_closes, values_close, begin_stays, some_query}
 use Rattle.my_session.proofs.Stands.Arranged.{all_sent}
 use Rattle.my_session.proofs.Stands.Keeps.{Keeps}
 use Rattle.my_session.proofs.Stands.Reacts.{fell_stands}
-use Rattle.my_session.proofs.Stands.Ties.{answered_stands, owns_all, all_begun, none_waits, quiet_more, arranged_more}
+use Rattle.my_session.proofs.Stands.Ties.{answered_stands, status_stands, owns_all, all_begun, none_waits, quiet_more, arranged_more, asks_not}
+use Rattle.my_session.proofs.CallKinds.{of_queries, asks_more, asks_too, queries_ask, same_queries}
 use Rattle.my_session.proofs.Stands.Wired.{wire_queued}
 
 -- what connecting begins is by the table
@@ -52,7 +57,8 @@ connect_opens : (login : Login) (terms : Terms) (c : Call) (n : ℕ) (t : Talk) 
 connect_opens login terms c n t e (inl w) = subst (λ (x : Call). opening login terms w.0 x n ≡ Some t) e w.1
 connect_opens login terms c n t e (inr (inl w)) = let no : Connect ≡ Prepare = ap kind_of (sym e) ∙ w.1 in cc
 connect_opens login terms c n t e (inr (inr (inl w))) = let no : Connect ≡ Batch = ap kind_of (sym e) ∙ w.kind in cc
-connect_opens login terms c n t e (inr (inr (inr w))) = let no : Connect ≡ Reset = ap kind_of (sym e) ∙ w.kind in cc
+connect_opens login terms c n t e (inr (inr (inr (inl w)))) = let no : None ≡ Some w.text = subst (λ (x : Call). slice_get (queries_of login (kind_of x) x) w.place ≡ Some w.text) e w.listed in cc
+connect_opens login terms c n t e (inr (inr (inr (inr w)))) = let no : false ≡ true = ap (λ (x : Call). asks (kind_of x)) (sym e) ∙ w.cleans in cc
 
 module _ (s : Seen) (h : History) (st : Stands s h) (open_still : s.closed ≡ false) (nothing : s.owed ≡ []) (op : is_open s.task ≡ true) where
   abbrev HeardAs : Task → Type 0
@@ -62,8 +68,8 @@ module _ (s : Seen) (h : History) (st : Stands s h) (open_still : s.closed ≡ f
   fails e fatal = fell_stands s h e fatal op st
 
   -- a command's exchange begins
-  queues : (t u : Task) (call : Call) (talk : Talk) → HeardAs t → kind_in u ≡ kind_in t → keeps u ≡ false → owes u ≡ true → s.context.spot ≡ spots.Idle → Opens s.login (next_terms s) call (connecting_in (st.newest ∷ st.older)) talk → origin talk ≡ talk → Fits talk → server_bytes (turns talk) ≡ [] → packets_of talk ≡ [] → errors_in talk ≡ [] → login_in s.login talk ≡ s.login → is_greeting (context_of talk).spot ≡ false → TaskIs u (context_of talk).spot s.closed (has_connected h.calls) (connecting_in (record { call = call; talk = talk; given = None } ∷ st.newest ∷ st.older)) (record { call = call; talk = talk; given = None }) → TieIs u s.call (context_of talk).spot h.calls call (st.newest ∷ st.older) → IsArranged s.login h.calls (record { call = call; talk = talk; given = None }) (st.newest ∷ st.older) → Stands (queued s u talk) h
-  queues t u call talk hd same lost owe idle opens orig fits none packets calm log past at tie arr = record {
+  queues : (t u : Task) (call : Call) (talk : Talk) → HeardAs t → kind_in u ≡ kind_in t → keeps u ≡ false → owes u ≡ true → s.context.spot ≡ spots.Idle → Opens s.login (next_terms s) call (connecting_in (st.newest ∷ st.older)) talk → origin talk ≡ talk → Fits talk → server_bytes (turns talk) ≡ [] → packets_of talk ≡ [] → errors_in talk ≡ [] → login_in s.login talk ≡ s.login → is_greeting (context_of talk).spot ≡ false → TaskIs u (context_of talk).spot s.closed (has_connected h.calls) (connecting_in (record { call = call; talk = talk; given = None } ∷ st.newest ∷ st.older)) (record { call = call; talk = talk; given = None }) → TieIs u s.call (context_of talk).spot h.calls call (st.newest ∷ st.older) → IsArranged s.login h.calls (record { call = call; talk = talk; given = None }) (st.newest ∷ st.older) → CleansAt u false s.status → Stands (queued s u talk) h
+  queues t u call talk hd same lost owe idle opens orig fits none packets calm log past at tie arr clean = record {
     newest = record { call = call; talk = talk; given = None };
     older = st.newest ∷ st.older;
     wire = wire_queued s.context s.number s.unread s.owed s.closed s.facts s.login h.taken h.sent st.newest st.older call talk open_still idle nothing opens orig fits none packets log st.wire;
@@ -83,20 +89,38 @@ module _ (s : Seen) (h : History) (st : Stands s h) (open_still : s.closed ≡ f
     arranged = arr;
     ended_is = st.ended_is;
     settled = λ no. let stop : true ≡ false = sym owe ∙ no in cc;
+    cleans = clean;
   }
 
   unless_long : (u : Task) (talk : Talk) (long : Option ℕ) → Stands (queued s u talk) h → Keeps (unless_exceeds s long (record { seen = queued s u talk; does = Sends })) h
   unless_long u talk (Some len) w = fails (codec_error _) (λ c. refl)
   unless_long u talk None w = w
 
-  -- the own command of a call
-  commands : (c : CallKind) (talk : Talk) → HeardAs (Cleaning c) → s.context.spot ≡ spots.Idle → is_connect (kind_of (call_of c s.call)) ≡ false → Opens s.login (next_terms s) (call_of c s.call) (connecting_in (st.newest ∷ st.older)) talk → origin talk ≡ talk → Fits talk → server_bytes (turns talk) ≡ [] → packets_of talk ≡ [] → errors_in talk ≡ [] → login_in s.login talk ≡ s.login → is_greeting (context_of talk).spot ≡ false → TaskIs (Own c) (context_of talk).spot s.closed (has_connected h.calls) (connecting_in (record { call = call_of c s.call; talk = talk; given = None } ∷ st.newest ∷ st.older)) (record { call = call_of c s.call; talk = talk; given = None }) → Keeps (begins s (Own c) talk) h
-  commands c talk hd idle other opens orig fits none packets calm log past at =
-      unless_long (Own c) talk _ (queues (Cleaning c) (Own c) (call_of c s.call) talk hd refl refl refl idle opens orig fits none packets calm log past at
-      (refl, all_begun s.context.spot h.calls st.newest.call st.older hd.at.2 hd.tie)
-      (λ made. (ap (λ b. cond b (suc (connecting_in (st.newest ∷ st.older))) (connecting_in (st.newest ∷ st.older))) other ∙ (st.arranged made).0, λ own. let no : true ≡ false = sym own ∙ other in cc)))
+  -- the connection stays set up by an exchange that isn't of connecting
+  still_arranged : (call : Call) (talk : Talk) → is_connect (kind_of call) ≡ false → IsArranged s.login h.calls (record { call = call; talk = talk; given = None }) (st.newest ∷ st.older)
+  still_arranged call talk other made = (ap (λ b. cond b (suc (connecting_in (st.newest ∷ st.older))) (connecting_in (st.newest ∷ st.older))) other ∙ (st.arranged made).0, λ own. let no : true ≡ false = sym own ∙ other in cc)
 
-  executes : HeardAs (Cleaning Execute) → s.context.spot ≡ spots.Idle → (v : Values) → values_for (statement_in s.call) (params_in s.call) ≡ v → refused_by v ≡ None → Keeps (asked s (Own Execute) (execution (next_terms s) s.statements (statement_in s.call).inner.id v)) h
+  -- a call that has cleaned may have begun an exchange, the ROLLBACK, and begins its own
+  owned_so : (c : CallKind) → HeardAs (Cleaned c) → OwnsFirst (call_of c s.call) (st.newest.call ∷ calls_in st.older) (IsTied h.calls) ⊎ IsTied h.calls (st.newest.call ∷ calls_in st.older)
+  owned_so c hd = elim hd.tie as (λ _. OwnsFirst (call_of c s.call) (st.newest.call ∷ calls_in st.older) (IsTied h.calls) ⊎ IsTied h.calls (st.newest.call ∷ calls_in st.older)) [
+    | inl w ↦ inl w
+    | inr w ↦ inr (all_begun s.context.spot h.calls st.newest.call st.older (ap is_greeting hd.at.2) w.1)
+  ]
+
+  -- the exchanges of a call that sends commands, with one more
+  one_more : (c : CallKind) → asks c ≡ true → OwnsFirst (call_of c s.call) (st.newest.call ∷ calls_in st.older) (IsTied h.calls) ⊎ IsTied h.calls (st.newest.call ∷ calls_in st.older) → OwnsFirst (call_of c s.call) (call_of c s.call ∷ st.newest.call ∷ calls_in st.older) (IsTied h.calls)
+  one_more c asking (inl w) = (refl, inr (asks_more c s.call asking, w))
+  one_more c asking (inr w) = (refl, inl w)
+
+  own_tie : (c : CallKind) → HeardAs (Cleaned c) → OwnsFirst (call_of c s.call) (call_of c s.call ∷ st.newest.call ∷ calls_in st.older) (IsTied h.calls)
+  own_tie c hd = one_more c hd.at.0 (owned_so c hd)
+
+  -- the own command of a call
+  commands : (c : CallKind) (talk : Talk) → HeardAs (Cleaned c) → s.context.spot ≡ spots.Idle → is_connect (kind_of (call_of c s.call)) ≡ false → Opens s.login (next_terms s) (call_of c s.call) (connecting_in (st.newest ∷ st.older)) talk → origin talk ≡ talk → Fits talk → server_bytes (turns talk) ≡ [] → packets_of talk ≡ [] → errors_in talk ≡ [] → login_in s.login talk ≡ s.login → is_greeting (context_of talk).spot ≡ false → TaskIs (Own c) (context_of talk).spot s.closed (has_connected h.calls) (connecting_in (record { call = call_of c s.call; talk = talk; given = None } ∷ st.newest ∷ st.older)) (record { call = call_of c s.call; talk = talk; given = None }) → Keeps (begins s (Own c) talk) h
+  commands c talk hd idle other opens orig fits none packets calm log past at =
+      unless_long (Own c) talk _ (queues (Cleaned c) (Own c) (call_of c s.call) talk hd refl refl refl idle opens orig fits none packets calm log past at (own_tie c hd) (still_arranged (call_of c s.call) talk other) tt)
+
+  executes : HeardAs (Cleaned Execute) → s.context.spot ≡ spots.Idle → (v : Values) → values_for (statement_in s.call) (params_in s.call) ≡ v → refused_by v ≡ None → Keeps (asked s (Own Execute) (execution (next_terms s) s.statements (statement_in s.call).inner.id v)) h
   executes hd idle (Fitting values) is fit =
       let id = (statement_in s.call).inner.id in
       let ahead = ahead_of id values in
@@ -109,7 +133,7 @@ module _ (s : Seen) (h : History) (st : Stands s h) (open_still : s.closed ≡ f
   refused_or c None m is keep = keep refl
   refused_or c (Some e) m is keep = fails (errors.Driver e) (λ _. refusal_closes c s.call e is)
 
-  asked_keep : (c : CallKind) → HeardAs (Cleaning c) → s.context.spot ≡ spots.Idle → ask_plan c ≡ plans.Asks c → refusal c s.call ≡ None → Keeps (asked s (Own c) (command_of (next_terms s) s.statements (call_of c s.call))) h
+  asked_keep : (c : CallKind) → HeardAs (Cleaned c) → s.context.spot ≡ spots.Idle → ask_plan c ≡ plans.Asks c → refusal c s.call ≡ None → Keeps (asked s (Own c) (command_of (next_terms s) s.statements (call_of c s.call))) h
   asked_keep Connect hd idle own fit = let no : asks Connect ≡ true = hd.at.0 in cc
   asked_keep Query hd idle own fit = commands Query (Queried (next_terms s) (packet_bytes (packets.Query (text_in s.call))) (NoSets ByText)) hd idle refl (inl (s.statements, refl)) refl (record { kinds = tt; within = tt }) refl refl refl refl refl (hd.at.1, refl, refl)
   asked_keep Prepare hd idle own fit = commands Prepare (Preparing (next_terms s) (packet_bytes (packets.Prepare (query_of (text_in s.call)))) Unanswered) hd idle refl (inl (s.statements, refl)) refl (record { kinds = tt; within = tt }) refl refl refl refl refl (hd.at.1, refl)
@@ -122,9 +146,12 @@ module _ (s : Seen) (h : History) (st : Stands s h) (open_still : s.closed ≡ f
   asked_keep SkipTaken hd idle own fit = let no : asks SkipTaken ≡ true = hd.at.0 in cc
   asked_keep Ping hd idle own fit = commands Ping (Asked (next_terms s) (packet_bytes packets.Ping)) hd idle refl (inl (s.statements, refl)) refl (record { kinds = tt; within = tt }) refl refl refl refl refl (hd.at.1, refl)
   asked_keep Reset hd idle own fit = commands Reset (Asked (next_terms s) (packet_bytes packets.ResetConnection)) hd idle refl (inl (s.statements, refl)) refl (record { kinds = tt; within = tt }) refl refl refl refl refl (hd.at.1, refl)
+  asked_keep Begin hd idle own fit = cc
+  asked_keep Rollback hd idle own fit = cc
+  asked_keep ForgetTransaction hd idle own fit = let no : asks ForgetTransaction ≡ true = hd.at.0 in cc
   asked_keep Quit hd idle own fit = commands Quit (Silent (next_terms s) (packet_bytes packets.Quit)) hd idle refl (inl (s.statements, refl)) refl (record { kinds = tt; within = tt }) refl refl refl refl refl hd.at.1
 
-  asks_own : (c : CallKind) → HeardAs (Cleaning c) → s.context.spot ≡ spots.Idle → ask_plan c ≡ plans.Asks c → Keeps (planned s (plans.Asks c)) h
+  asks_own : (c : CallKind) → HeardAs (Cleaned c) → s.context.spot ≡ spots.Idle → ask_plan c ≡ plans.Asks c → Keeps (planned s (plans.Asks c)) h
   asks_own c hd idle own = refused_or c (refusal c s.call) (asked s (Own c) (command_of (next_terms s) s.statements (call_of c s.call))) refl (asked_keep c hd idle own)
 
   -- unless these parameters are refused
@@ -154,17 +181,13 @@ module _ (s : Seen) (h : History) (st : Stands s h) (open_still : s.closed ≡ f
     arranged = arranged_more s.login (record { call = call_of c s.call; what = w }) h.calls st.newest st.older quiet_one st.arranged;
     ended_is = st.ended_is;
     settled = λ _. nothing;
+    cleans = tt;
   })
 
   -- a batch, whose newest exchange is one of its own or an earlier call's
   module _ (n : ℕ) (t : Task) (hd : HeardAs t) (is_batch : kind_in t ≡ Some Batch) (made : has_connected h.calls ≡ true) (told : s.untold ≡ false) (idle : s.context.spot ≡ spots.Idle)
       (tie : OwnsFirst (call_of Batch s.call) (st.newest.call ∷ calls_in st.older) (IsTied h.calls) ⊎ IsTied h.calls (st.newest.call ∷ calls_in st.older))
       (answer_tie : slice_get (lists_in s.call) n ≡ None → IsTied (record { call = call_of Batch s.call; what = ToldReady } ∷ h.calls) (st.newest.call ∷ calls_in st.older)) where
-    -- the exchanges of the call, with one more
-    more_tie : OwnsFirst (call_of Batch s.call) (st.newest.call ∷ calls_in st.older) (IsTied h.calls) ⊎ IsTied h.calls (st.newest.call ∷ calls_in st.older) → OwnsFirst (call_of Batch s.call) (call_of Batch s.call ∷ st.newest.call ∷ calls_in st.older) (IsTied h.calls)
-    more_tie (inl w) = (refl, inr (refl, w))
-    more_tie (inr w) = (refl, inl w)
-
     runs_with : (params : Params) → slice_get (lists_in s.call) n ≡ Some params → (v : Values) → values_for (statement_in s.call) params ≡ v → refused_by v ≡ None → Keeps (asked s (Running (suc n)) (execution (next_terms s) s.statements (statement_in s.call).inner.id v)) h
     runs_with params at (Fitting values) is fit =
         let id = (statement_in s.call).inner.id in
@@ -173,7 +196,7 @@ module _ (s : Seen) (h : History) (st : Stands s h) (open_still : s.closed ≡ f
         unless_long (Running (suc n)) talk _ (queues t (Running (suc n)) (call_of Batch s.call) talk hd (sym is_batch) refl refl idle
         (inr (inr (inl (record { kind = refl; place = n; params = params; listed = at; statements = s.statements; executes = ap (execution (next_terms s) s.statements id) is }))))
         refl (record { kinds = tt; within = tt }) (commands_silent (body_of id values) (ByStatement (ahead_of id values) known)) refl refl refl refl (made, refl)
-        (more_tie tie) (λ all. ((st.arranged all).0, λ own. cc)))
+        (one_more Batch refl tie) (λ all. ((st.arranged all).0, λ own. cc)) tt)
     runs_with params at (Unfitting e) is fit = cc
 
     -- no list is left: the batch is done
@@ -186,51 +209,97 @@ module _ (s : Seen) (h : History) (st : Stands s h) (open_still : s.closed ≡ f
         let v = values_for (statement_in s.call) params in
         values_or params (refused_by v) (asked s (Running (suc n)) (execution (next_terms s) s.statements (statement_in s.call).inner.id v)) refl (runs_with params at v refl)
 
+  -- the answer of a call that has cleaned, and needs no exchange of its own
+  clean_tie : (c : CallKind) (w : Told) → HeardAs (Cleaned c) → may_lack w (call_of c s.call) ≡ true → IsTied (record { call = call_of c s.call; what = w } ∷ h.calls) (st.newest.call ∷ calls_in st.older)
+  clean_tie c w hd lack = elim (owned_so c hd) as (λ _. IsTied (record { call = call_of c s.call; what = w } ∷ h.calls) (st.newest.call ∷ calls_in st.older)) [
+    | inl o ↦ inr o
+    | inr o ↦ quiet_more (record { call = call_of c s.call; what = w }) h.calls (st.newest.call ∷ calls_in st.older) lack o
+  ]
+
   -- the first execution of a batch
-  first_runs : HeardAs (Cleaning Batch) → s.untold ≡ false → s.context.spot ≡ spots.Idle → Keeps (planned s (plans.Runs 0)) h
-  first_runs hd told idle =
-      let older_tie = all_begun s.context.spot h.calls st.newest.call st.older hd.at.2 hd.tie in
-      runs_by 0 (Cleaning Batch) hd refl hd.at.1 told idle (inr older_tie)
-      (λ none. quiet_more (record { call = call_of Batch s.call; what = ToldReady }) h.calls (st.newest.call ∷ calls_in st.older) (ap (λ o. not (is_some o)) none) older_tie) (slice_get (lists_in s.call) 0) refl
+  first_runs : HeardAs (Cleaned Batch) → s.untold ≡ false → Keeps (planned s (plans.Runs 0)) h
+  first_runs hd told =
+      runs_by 0 (Cleaned Batch) hd refl hd.at.1 told hd.at.2 (owned_so Batch hd)
+      (λ none. clean_tie Batch ToldReady hd (ap (λ o. not (is_some o)) none)) (slice_get (lists_in s.call) 0) refl
 
   -- the next one, or none
   pub runs_keep : (n : ℕ) → HeardAs (Finishing n) → s.untold ≡ false → s.context.spot ≡ spots.Idle → Keeps (planned s (plans.Runs n)) h
   runs_keep n hd told idle = runs_by n (Finishing n) hd refl hd.at.0 told idle (inl hd.tie) (λ _. inr hd.tie) (slice_get (lists_in s.call) n) refl
 
-  -- the next query that sets the server's session up after a reset, or none
-  sets_by : (n : ℕ) → HeardAs (Setting n) → s.untold ≡ false → s.context.spot ≡ spots.Idle → (o : Option (List ℕ)) → slice_get (setup_texts s.login) n ≡ o → Keeps (set_up s n o) h
-  sets_by n hd told idle None is = ends (Setting n) Reset (ToldFlag true) hd refl hd.at.0 told idle refl refl refl refl (inr hd.tie)
-  sets_by n hd told idle (Some text) is =
+  -- a query of the call's own, after n others
+  query_keeps : (t : Task) (c : CallKind) (n : ℕ) → HeardAs t → kind_in t ≡ Some c → has_queries c ≡ true → has_connected h.calls ≡ true → s.context.spot ≡ spots.Idle → OwnsFirst (call_of c s.call) (call_of c s.call ∷ st.newest.call ∷ calls_in st.older) (IsTied h.calls) → (text : List ℕ) → slice_get (queries_of s.login c s.call) n ≡ Some text → Keeps (begins s (Asking c (suc n)) (queried (next_terms s) text)) h
+  query_keeps t c n hd is_kind own made idle tie text is =
       let talk : Talk = queried (next_terms s) text in
-      unless_long (Setting (suc n)) talk _ (queues (Setting n) (Setting (suc n)) (call_of Reset s.call) talk hd refl refl refl idle
-      (inr (inr (inr (record { kind = refl; place = n; text = text; listed = is; queries = refl }))))
-      refl (record { kinds = tt; within = tt }) refl refl refl refl refl (hd.at.0, refl)
-      (refl, inr (refl, hd.tie)) (λ made. ((st.arranged made).0, λ own. cc)))
+      let listed : slice_get (queries_of s.login (kind_of (call_of c s.call)) (call_of c s.call)) n ≡ Some text = ap (λ texts. slice_get texts n) (same_queries s.login c s.call) ∙ is in
+      unless_long (Asking c (suc n)) talk _ (queues t (Asking c (suc n)) (call_of c s.call) talk hd (sym is_kind) refl refl idle
+      (inr (inr (inr (inl (record { place = n; text = text; listed = listed; queries = refl })))))
+      refl (record { kinds = tt; within = tt }) refl refl refl refl refl (own, made, refl)
+      tie (still_arranged (call_of c s.call) talk (asks_not c s.call (queries_ask c own))) tt)
 
-  pub sets_keep : (n : ℕ) → HeardAs (Setting n) → s.untold ≡ false → s.context.spot ≡ spots.Idle → Keeps (planned s (plans.Sets n)) h
-  sets_keep n hd told idle = sets_by n hd told idle (slice_get (setup_texts s.login) n) refl
+  -- all of them were sent and answered
+  done_keeps : (c : CallKind) (n : ℕ) → HeardAs (Asking c n) → s.untold ≡ false → s.context.spot ≡ spots.Idle → Keeps (done s c) h
+  done_keeps c n hd told idle = of_queries (λ x. HeardAs (Asking x n) → Keeps (done s x) h)
+      (λ g. ends (Asking Reset n) Reset (ToldFlag true) g refl g.at.1 told idle refl refl refl refl (inr g.tie))
+      (λ g. status_stands (with_task s Nothing s.untold) (answered h ToldReady) txs.InTransaction tt (ends (Asking Begin n) Begin ToldReady g refl g.at.1 told idle refl refl refl refl (inr g.tie)))
+      c hd.at.0 hd
 
-  pub asks_keep : (c : CallKind) → HeardAs (Cleaning c) → s.untold ≡ false → s.context.spot ≡ spots.Idle → Keeps (planned s (ask_plan c)) h
-  asks_keep Connect hd told idle = asks_own Connect hd idle refl
-  asks_keep Query hd told idle = asks_own Query hd idle refl
-  asks_keep Prepare hd told idle = asks_own Prepare hd idle refl
-  asks_keep Execute hd told idle = asks_own Execute hd idle refl
-  asks_keep Batch hd told idle = first_runs hd told idle
-  asks_keep CloseStmt hd told idle = asks_own CloseStmt hd idle refl
-  asks_keep NextRow hd told idle = asks_own NextRow hd idle refl
-  asks_keep DropResult hd told idle = asks_own DropResult hd idle refl
-  asks_keep TakeSet hd told idle = asks_own TakeSet hd idle refl
-  asks_keep SkipTaken hd told idle = asks_own SkipTaken hd idle refl
-  asks_keep Ping hd told idle = asks_own Ping hd idle refl
-  asks_keep Reset hd told idle = asks_own Reset hd idle refl
-  asks_keep Quit hd told idle = asks_own Quit hd idle refl
+  queried_keeps : (c : CallKind) (n : ℕ) → HeardAs (Asking c n) → s.untold ≡ false → s.context.spot ≡ spots.Idle → (o : Option (List ℕ)) → slice_get (queries_of s.login c s.call) n ≡ o → Keeps (queried_by s c n o) h
+  queried_keeps c n hd told idle None is = done_keeps c n hd told idle
+  queried_keeps c n hd told idle (Some text) is = query_keeps (Asking c n) c n hd refl hd.at.0 hd.at.1 idle (one_more c (queries_ask c hd.at.0) (inl hd.tie)) text is
+
+  pub queries_keep : (c : CallKind) (n : ℕ) → HeardAs (Asking c n) → s.untold ≡ false → s.context.spot ≡ spots.Idle → Keeps (planned s (plans.Queries c n)) h
+  queries_keep c n hd told idle = queried_keeps c n hd told idle (slice_get (queries_of s.login c s.call) n) refl
+
+  -- a transaction begins by the first of its queries, unless it is refused
+  begins_by : HeardAs (Cleaned Begin) → (o : Option (List ℕ)) → slice_get (queries_of s.login Begin s.call) 0 ≡ o → Keeps (queried_by s Begin 0 o) h
+  begins_by hd None is = absurd (some_query (opts_in s.call) is)
+  begins_by hd (Some text) is = query_keeps (Cleaned Begin) Begin 0 hd refl refl hd.at.1 hd.at.2 (own_tie Begin hd) text is
+
+  admits : HeardAs (Cleaned Begin) → s.untold ≡ false → (o : Option DriverError) → begin_refusal (opts_in s.call) (version_of s.facts.version) s.status ≡ o → Keeps (admitted s o) h
+  admits hd told None is = begins_by hd (slice_get (queries_of s.login Begin s.call) 0) refl
+  admits hd told (Some e) is = ends (Cleaned Begin) Begin (ToldError (errors.Driver e)) hd refl hd.at.1 told hd.at.2 (begin_stays (opts_in s.call) (version_of s.facts.version) s.status e is) refl refl refl (clean_tie Begin (ToldError (errors.Driver e)) hd refl)
+
+  -- nothing is left to be done once a transaction was rolled back
+  rolls_back : HeardAs (Cleaned Rollback) → s.untold ≡ false → Keeps (planned s plans.Readies) h
+  rolls_back hd told = ends (Cleaned Rollback) Rollback ToldReady hd refl hd.at.1 told hd.at.2 refl refl refl refl
+      (elim hd.tie as (λ _. IsTied (record { call = calls.Rollback; what = ToldReady } ∷ h.calls) (st.newest.call ∷ calls_in st.older)) [
+        | inl w ↦ inr w
+        | inr w ↦ let no : true ≡ false = w.0 in cc
+      ])
+
+  -- what a call does once it has cleaned
+  pub asks_keep : (c : CallKind) → HeardAs (Cleaned c) → s.untold ≡ false → Keeps (planned s (ask_plan c)) h
+  asks_keep Connect hd told = asks_own Connect hd hd.at.2 refl
+  asks_keep Query hd told = asks_own Query hd hd.at.2 refl
+  asks_keep Prepare hd told = asks_own Prepare hd hd.at.2 refl
+  asks_keep Execute hd told = asks_own Execute hd hd.at.2 refl
+  asks_keep Batch hd told = first_runs hd told
+  asks_keep CloseStmt hd told = asks_own CloseStmt hd hd.at.2 refl
+  asks_keep NextRow hd told = asks_own NextRow hd hd.at.2 refl
+  asks_keep DropResult hd told = asks_own DropResult hd hd.at.2 refl
+  asks_keep TakeSet hd told = asks_own TakeSet hd hd.at.2 refl
+  asks_keep SkipTaken hd told = asks_own SkipTaken hd hd.at.2 refl
+  asks_keep Ping hd told = asks_own Ping hd hd.at.2 refl
+  asks_keep Reset hd told = asks_own Reset hd hd.at.2 refl
+  asks_keep Begin hd told = admits hd told (begin_refusal (opts_in s.call) (version_of s.facts.version) s.status) refl
+  asks_keep Rollback hd told = rolls_back hd told
+  asks_keep ForgetTransaction hd told = asks_own ForgetTransaction hd hd.at.2 refl
+  asks_keep Quit hd told = asks_own Quit hd hd.at.2 refl
+
+  -- the ROLLBACK of a transaction that was given up
+  pub undoes_keep : (c : CallKind) → HeardAs (Cleaning c) → s.context.spot ≡ spots.Idle → Keeps (begins s (Undoing c) (queried (next_terms s) rollback_text)) h
+  undoes_keep c hd idle =
+      let talk : Talk = queried (next_terms s) rollback_text in
+      unless_long (Undoing c) talk _ (queues (Cleaning c) (Undoing c) (call_of c s.call) talk hd refl refl refl idle
+      (inr (inr (inr (inr (record { cleans = asks_too c s.call hd.at.0; queries = refl })))))
+      refl (record { kinds = tt; within = tt }) refl refl refl refl refl (hd.at.0, hd.at.1, refl)
+      (one_more c hd.at.0 (inr (all_begun s.context.spot h.calls st.newest.call st.older hd.at.2 hd.tie))) (still_arranged (call_of c s.call) talk (asks_not c s.call hd.at.0)) tt)
 
   -- the close of the statement that has to go for one that was prepared
   pub closes_keep : (id : ℕ) → HeardAs (Own Prepare) → s.context.spot ≡ spots.Idle → Keeps (begins s Giving (closing (next_terms s) id)) h
   closes_keep id hd idle =
       unless_long Giving (closing (next_terms s) id) _ (queues (Own Prepare) Giving (call_of Prepare s.call) (closing (next_terms s) id) hd refl refl refl idle (inr (inl (id, refl, refl))) refl (record { kinds = tt; within = tt }) refl refl refl refl refl (hd.at.0, refl)
-      (refl, inr (refl, (sym hd.tie.0, inl hd.tie.1)))
-      (λ made. ((st.arranged made).0, λ own. cc)))
+      (refl, inr (refl, hd.tie)) (λ made. ((st.arranged made).0, λ own. cc)) tt)
 
   -- all queries that set the connection up were answered
   all_arranged : (n : ℕ) → HeardAs (Arranging n) → slice_get (arranging_texts s.login) n ≡ None → connecting_in (st.newest ∷ st.older) ≡ suc (length (arranging_texts s.login))
@@ -263,6 +332,7 @@ module _ (s : Seen) (h : History) (st : Stands s h) (open_still : s.closed ≡ f
     arranged = λ _. (all_arranged n hd none, λ _. hd.at.3 (ap is_idle idle));
     ended_is = st.ended_is;
     settled = λ _. nothing;
+    cleans = tt;
   })
 
   arranges_by : (n : ℕ) → HeardAs (Arranging n) → s.untold ≡ false → s.context.spot ≡ spots.Idle → (x : Option (List ℕ)) → slice_get (arranging_texts s.login) n ≡ x → Keeps (arranged s n (arranging (next_terms s) x)) h
@@ -271,7 +341,7 @@ module _ (s : Seen) (h : History) (st : Stands s h) (open_still : s.closed ≡ f
       let talk : Talk = Queried (next_terms s) (packet_bytes (packets.Query text)) (NoSets ByText) in
       let opens : opening s.login (next_terms s) s.statements calls.Connect (connecting_in (st.newest ∷ st.older)) ≡ Some talk = ap (connecting s.login (next_terms s)) hd.at.1 ∙ ap (arranging (next_terms s)) is in
       unless_long (Arranging (suc n)) talk _ (queues (Arranging n) (Arranging (suc n)) calls.Connect talk hd refl refl refl idle (inl (s.statements, opens)) refl (record { kinds = tt; within = tt }) refl refl refl refl refl
-      (hd.at.0, ap suc hd.at.1, refl, λ no. cc) (refl, inr (refl, hd.tie)) (λ made. let no : true ≡ false = sym made ∙ hd.at.0 in cc))
+      (hd.at.0, ap suc hd.at.1, refl, λ no. cc) (refl, inr (refl, hd.tie)) (λ made. let no : true ≡ false = sym made ∙ hd.at.0 in cc) tt)
 
   pub arranges_keep : (n : ℕ) → HeardAs (Arranging n) → s.untold ≡ false → s.context.spot ≡ spots.Idle → Keeps (planned s (plans.Arranges n)) h
   arranges_keep n hd told idle = arranges_by n hd told idle (slice_get (arranging_texts s.login) n) refl

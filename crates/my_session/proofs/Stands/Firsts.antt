@@ -1,5 +1,5 @@
 -- The head of a query's first set.
-use Rattle.std.proofs.Common.{◌≡◌, ℕ, ◌-◌, List, [], ◌∷◌, Bool, true, false, cond, leb, ◌&&◌, Some, inl, inr, refl, sym, ap, ◌∙◌}
+use Rattle.std.proofs.Common.{◌≡◌, ℕ, ◌-◌, List, [], ◌∷◌, Bool, true, false, cond, leb, ◌&&◌, Some, None, inl, inr, refl, sym, ap, ◌∙◌}
 use Rattle.my_flags.specs.declared.flags.StatusFlags.{StatusFlags}
 use Rattle.my_flags.specs.Sets.{deprecates_eof}
 use Rattle.my_grammar.specs.declared.login.Login.{Login}
@@ -11,7 +11,7 @@ use Rattle.my_grammar.specs.Sets.{ByStatement, ByText, SetHead, Sets, NoSets, Lo
 use Rattle.my_grammar.specs.Talk.{Talk, Start, Unwelcome, Greeted, Settled, Asked, Replied, Queried, Preparing, Silent, context_of, Fits, origin}
 use Rattle.my_grammar.specs.declared.spot.Terms.{Terms}
 use Rattle.my_reading.specs.declared.call.Call.TheVariants as calls
-use Rattle.my_reading.specs.declared.call.CallKind.TheVariants.{Query, Prepare, Execute, Batch, Reset}
+use Rattle.my_reading.specs.declared.call.CallKind.TheVariants.{Query, Prepare, Execute, Batch}
 use Rattle.my_command.specs.declared.client.ClientPacket.TheVariants as packets
 use Rattle.my_command.specs.Client.Packet.{client_bytes as packet_bytes}
 use Rattle.my_params.specs.LongData.{ahead_of}
@@ -21,6 +21,7 @@ use Rattle.my_statements.specs.Prepared.{StatementView}
 use Rattle.my_reading.specs.Commands.{execution, queried}
 use Rattle.my_reading.specs.Executions.{Values, Fitting, Unfitting, values_for}
 use Rattle.my_reading.specs.Statements.{Statements, known_in}
+use Rattle.my_reading.specs.Transactions.{rollback_text}
 use Rattle.my_session.specs.Entries.{Opens, sets_of, IsGiven}
 use Rattle.my_session.specs.Groups.{groups}
 use Rattle.my_session.proofs.Stands.Spots.{is_known}
@@ -153,7 +154,8 @@ query_talk login terms n text t (inl w) =
     queried_origin terms (packet_bytes (packets.Query text)) (NoSets ByText) t same
 query_talk login terms n text t (inr (inl w)) = let no : Query ≡ Prepare = w.1 in cc
 query_talk login terms n text t (inr (inr (inl w))) = let no : Query ≡ Batch = w.kind in cc
-query_talk login terms n text t (inr (inr (inr w))) = let no : Query ≡ Reset = w.kind in cc
+query_talk login terms n text t (inr (inr (inr (inl w)))) = let no : None ≡ Some w.text = w.listed in cc
+query_talk login terms n text t (inr (inr (inr (inr w)))) = queried_origin terms (packet_bytes (packets.Query rollback_text)) (NoSets ByText) t w.queries
 
 -- and so is that of an execution
 execution_talk : (terms : Terms) (known : Statements) (id : ℕ) (v : Values) (t : Talk) → execution terms known id v ≡ Some (origin t) → is_queried t ≡ true
@@ -166,7 +168,8 @@ pub execute_talk : (login : Login) (terms : Terms) (n : ℕ) (statement : Statem
 execute_talk login terms n statement params t (inl w) = execution_talk terms w.0 statement.inner.id (values_for statement params) t w.1
 execute_talk login terms n statement params t (inr (inl w)) = let no : Execute ≡ Prepare = w.1 in cc
 execute_talk login terms n statement params t (inr (inr (inl w))) = let no : Execute ≡ Batch = w.kind in cc
-execute_talk login terms n statement params t (inr (inr (inr w))) = let no : Execute ≡ Reset = w.kind in cc
+execute_talk login terms n statement params t (inr (inr (inr (inl w)))) = let no : None ≡ Some w.text = w.listed in cc
+execute_talk login terms n statement params t (inr (inr (inr (inr w)))) = queried_origin terms (packet_bytes (packets.Query rollback_text)) (NoSets ByText) t w.queries
 
 pub first_on : (k : Kind) (t : Talk) (p : List ℕ) → is_queried t ≡ true → is_first (sets_of t) ≡ true → is_known (context_of t).spot k ≡ true → is_part k ≡ true → is_first (sets_of (grow k t p)) ≡ true
 first_on k (Start l) p q e i part = cc

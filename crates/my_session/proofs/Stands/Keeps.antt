@@ -1,5 +1,5 @@
 -- Each move keeps the relation to histories.
-use Rattle.std.proofs.Common.{◌≡◌, ℕ, List, [], ◌∷◌, Bool, true, false, cond, Option, Some, None, inl, refl, sym, ap, ◌∙◌, subst}
+use Rattle.std.proofs.Common.{◌≡◌, ℕ, List, [], ◌∷◌, Bool, true, false, cond, Option, Some, None, refl, sym, ap, ◌∙◌, subst}
 use Rattle.my_flags.specs.declared.flags.StatusFlags.{StatusFlags}
 use Rattle.my_flags.specs.Sets.{deprecates_eof}
 use Rattle.my_reply.specs.declared.err.ErrPacket.{ErrPacket}
@@ -17,11 +17,11 @@ use Rattle.my_reading.proofs.Described.{kind_is}
 use Rattle.my_grammar.specs.Kinds.{kind_there}
 use Rattle.my_reading.specs.declared.call.Call.TheVariants as calls
 use Rattle.my_reading.specs.declared.call.CallKind.{CallKind}
-use Rattle.my_reading.specs.declared.call.CallKind.TheVariants.{Connect, Query, Prepare, Execute, Batch, CloseStmt, NextRow, DropResult, TakeSet, SkipTaken, Ping, Reset, Quit}
+use Rattle.my_reading.specs.declared.call.CallKind.TheVariants.{Connect, Query, Prepare, Execute, Batch, CloseStmt, NextRow, DropResult, TakeSet, SkipTaken, Ping, Reset, Begin, Rollback, ForgetTransaction, Quit}
 use Rattle.my_session.specs.declared.reactions.Reaction.{Reaction}
 use Rattle.my_session.specs.declared.reactions.Reaction.TheVariants as reactions
 use Rattle.my_session.specs.declared.task.Task.{Task}
-use Rattle.my_session.specs.declared.task.Task.TheVariants.{Nothing, Begun, Cleaning, Own, Giving, Arranging, Running, Finishing, Clearing, Setting, Reading, Dropping, Taking, Skipping, Leaving, Failing}
+use Rattle.my_session.specs.declared.task.Task.TheVariants.{Nothing, Begun, Cleaning, Undoing, Cleaned, Own, Giving, Arranging, Running, Finishing, Clearing, Asking, Reading, Dropping, Taking, Skipping, Leaving, Failing}
 use Rattle.my_reading.specs.declared.error.Error.TheVariants as errors
 use Rattle.my_reading.specs.Calls.{kind_of, call_of, is_connect}
 use Rattle.my_session.specs.Tasks.{kind_in, is_open}
@@ -33,13 +33,14 @@ use Rattle.my_session.specs.Machine.{Move, fell, advanced, with_task, failed_by,
 use Rattle.my_reading.specs.Rows.{row_at}
 use Rattle.my_session.specs.Seen.{Seen}
 use Rattle.my_session.specs.ServerErrors.{error_onto, errors_in}
-use Rattle.my_session.specs.Stands.{Stands, Heard, TaskIs, TieIs, begun_of, is_reading, is_shaking, keeps}
+use Rattle.my_session.specs.Stands.{Stands, Heard, TaskIs, TieIs, CleansAt, begun_of, is_reading, is_shaking, keeps}
 use Rattle.my_session.specs.Steps.{is_settled}
 use Rattle.my_session.specs.Tables.{react, react_whole, react_connect, react_head, react_query, react_running, react_single, react_ping, react_reset, react_own, react_reading, react_dropping, react_taking, react_skipping, is_breaking, is_connecting}
 use Rattle.my_session.proofs.Stands.Blames.{is_failed, failed_blames}
 use Rattle.my_session.proofs.Stands.Reacts.{fell_stands, goes, refuses, refuses_connect, newest_by, answers, is_query, is_execution, pongs, part_calm, readies, first_parts, shows, heads, row_gives, end_gives, good_gives, left_lone, knows, tied_on, tied_now}
 use Rattle.my_session.proofs.Stands.Spots.{row_spot, end_spot, good_spot, not_greeting, settled_more, greets_on, settled_not_greeting, settled_reads, reading_after, heading_after}
 use Rattle.my_session.proofs.Stands.Ties.{answered_stands, noted_stands, taken_stands, closed_tie, all_begun, none_waits, quiet_more, asks_not}
+use Rattle.my_session.proofs.CallKinds.{queries_ask}
 use Rattle.my_session.proofs.Stands.Views.{is_part}
 
 -- what a move leads to
@@ -51,18 +52,20 @@ abbrev pub is_reader : Task → Bool
 is_reader Nothing = false
 is_reader (Begun c) = false
 is_reader (Cleaning c) = false
+is_reader (Undoing c) = false
+is_reader (Cleaned c) = false
 is_reader (Own c) = false
 is_reader Giving = false
 is_reader (Arranging n) = false
 is_reader (Running n) = false
 is_reader (Finishing n) = false
 is_reader Clearing = false
-is_reader (Setting n) = false
+is_reader (Asking c n) = false
 is_reader Reading = true
 is_reader Dropping = true
 is_reader Taking = true
 is_reader Skipping = true
-is_reader Leaving = false
+is_reader (Leaving c) = false
 is_reader (Failing c fault) = false
 
 module _ (s : Seen) (h : History) (st : Stands s h) (open_still : s.closed ≡ false) (nothing : s.owed ≡ []) (op : is_open s.task ≡ true) (p rest : List ℕ) (next : ℕ) (whole : IsWhole s.number s.context.terms.limit s.unread p rest next) where
@@ -104,9 +107,9 @@ module _ (s : Seen) (h : History) (st : Stands s h) (open_still : s.closed ≡ f
   tied_own k t c call tie y lack = closed_tie t c s.call (spot_after (deprecates_eof s.context.terms.kept) s.context.spot k) h.calls st.newest.call st.older (record { call = call_of c s.call; what = y }) call refl lack tie
 
   -- a response that is read whole
-  module _ (t : Task) (lost : keeps t ≡ false) (hd : HeardAs t) (at : (k : Kind) → kind_there s.context s.facts.columns p ≡ k → is_bad k ≡ false → not_greets k ≡ true → TaskIs t (spot_after (deprecates_eof s.context.terms.kept) s.context.spot k) s.closed (has_connected h.calls) (connecting_in (st.newest ∷ st.older)) (newest_by s h st open_still nothing p rest next whole k st.newest.given)) (tie : (k : Kind) → TieIs t s.call (spot_after (deprecates_eof s.context.terms.kept) s.context.spot k) h.calls st.newest.call st.older) (fails : kind_there s.context s.facts.columns p ≡ kinds.Failed → Keeps (refused s (after kinds.Failed) (err_at (is_greeting s.context.spot) p)) h) where
+  module _ (t : Task) (lost : keeps t ≡ false) (hd : HeardAs t) (at : (k : Kind) → kind_there s.context s.facts.columns p ≡ k → is_bad k ≡ false → not_greets k ≡ true → TaskIs t (spot_after (deprecates_eof s.context.terms.kept) s.context.spot k) s.closed (has_connected h.calls) (connecting_in (st.newest ∷ st.older)) (newest_by s h st open_still nothing p rest next whole k st.newest.given)) (tie : (k : Kind) → TieIs t s.call (spot_after (deprecates_eof s.context.terms.kept) s.context.spot k) h.calls st.newest.call st.older) (fails : kind_there s.context s.facts.columns p ≡ kinds.Failed → Keeps (refused s (after kinds.Failed) (err_at (is_greeting s.context.spot) p)) h) (clean : CleansAt t false s.status) where
     whole_goes : (k : Kind) → kind_there s.context s.facts.columns p ≡ k → is_bad k ≡ false → is_failed k ≡ false → not_greets k ≡ true → Stands (with_task (after k) t false) h
-    whole_goes k e good calm quiet = goes s h st open_still nothing p rest next whole t t k e good calm lost refl hd (at k e good quiet) (tie k) (λ _. quiet) (λ _. quiet)
+    whole_goes k e good calm quiet = goes s h st open_still nothing p rest next whole t t k e good calm lost refl hd (at k e good quiet) (tie k) (λ _. quiet) (λ _. quiet) clean
 
     whole_keeps : (k : Kind) → kind_there s.context s.facts.columns p ≡ k → is_breaking (react_whole t k) ≡ false → Keeps (reacted s (after k) p (react_whole t k)) h
     whole_keeps (kinds.Greets n) e b = cc
@@ -122,25 +125,31 @@ module _ (s : Seen) (h : History) (st : Stands s h) (open_still : s.closed ≡ f
     whole_keeps kinds.Field e b = whole_goes kinds.Field e refl refl refl
     whole_keeps kinds.Bad e b = cc
 
-  cleaning_keeps : (c : CallKind) (k : Kind) → HeardAs (Cleaning c) → is_connecting s.task ≡ false → kind_there s.context s.facts.columns p ≡ k → is_breaking (react_whole (Cleaning c) k) ≡ false → Keeps (reacted s (after k) p (react_whole (Cleaning c) k)) h
-  cleaning_keeps c k hd off e b =
+  cleaning_keeps : (c : CallKind) (k : Kind) → s.task ≡ Cleaning c → HeardAs (Cleaning c) → is_connecting s.task ≡ false → kind_there s.context s.facts.columns p ≡ k → is_breaking (react_whole (Cleaning c) k) ≡ false → Keeps (reacted s (after k) p (react_whole (Cleaning c) k)) h
+  cleaning_keeps c k task hd off e b =
       let following = λ (x : Kind). not_greeting s.context.spot (deprecates_eof s.context.terms.kept) x in
       whole_keeps (Cleaning c) refl hd (λ x _ _ _. (hd.at.0, hd.at.1, following x))
       (λ x. none_waits (spot_after (deprecates_eof s.context.terms.kept) s.context.spot x) h.calls st.newest.call st.older (following x) (all_begun s.context.spot h.calls st.newest.call st.older hd.at.2 hd.tie))
-      (λ f. refuse (Cleaning c) c (err_at (is_greeting s.context.spot) p) refl hd f refl off (asks_not c s.call hd.at.0) hd.at.1 (tied_after kinds.Failed c hd.at.2 hd.tie)) k e b
+      (λ f. refuse (Cleaning c) c (err_at (is_greeting s.context.spot) p) refl hd f refl off (asks_not c s.call hd.at.0) hd.at.1 (tied_after kinds.Failed c hd.at.2 hd.tie)) (subst (λ (t : Task). CleansAt t s.untold s.status) task st.cleans) k e b
+
+  -- so is that to the ROLLBACK before a call's own command
+  undoing_keeps : (c : CallKind) (k : Kind) → HeardAs (Undoing c) → is_connecting s.task ≡ false → kind_there s.context s.facts.columns p ≡ k → is_breaking (react_whole (Undoing c) k) ≡ false → Keeps (reacted s (after k) p (react_whole (Undoing c) k)) h
+  undoing_keeps c k hd off e b =
+      whole_keeps (Undoing c) refl hd (λ x _ _ _. (hd.at.0, hd.at.1, not_greeting s.context.spot (deprecates_eof s.context.terms.kept) x)) (λ x. hd.tie)
+      (λ f. refuse (Undoing c) c (err_at (is_greeting s.context.spot) p) refl hd f refl off (asks_not c s.call hd.at.0) hd.at.1 (tied_own kinds.Failed (Undoing c) c refl hd.tie)) tt k e b
 
   arranging_keeps : (n : ℕ) (k : Kind) → HeardAs (Arranging n) → is_connecting s.task ≡ true → kind_there s.context s.facts.columns p ≡ k → is_breaking (react_whole (Arranging n) k) ≡ false → Keeps (reacted s (after k) p (react_whole (Arranging n) k)) h
   arranging_keeps n k hd on e b =
       whole_keeps (Arranging n) refl hd (λ x is good quiet. (hd.at.0, hd.at.1, not_greeting s.context.spot (deprecates_eof s.context.terms.kept) x, λ _. answers s h st open_still nothing p rest next whole x is good quiet)) (λ x. hd.tie)
-      (λ f. refuse_connect (Arranging n) (err_at (is_greeting s.context.spot) p) refl hd f refl on (tied_own kinds.Failed (Arranging n) Connect refl hd.tie)) k e b
+      (λ f. refuse_connect (Arranging n) (err_at (is_greeting s.context.spot) p) refl hd f refl on (tied_own kinds.Failed (Arranging n) Connect refl hd.tie)) tt k e b
 
   connect_keeps : (k : Kind) → HeardAs (Own Connect) → is_connecting s.task ≡ true → kind_there s.context s.facts.columns p ≡ k → is_breaking (react_connect k) ≡ false → Keeps (reacted s (after k) p (react_connect k)) h
   connect_keeps (kinds.Greets n) hd on e b =
       let spot : spot_after (deprecates_eof s.context.terms.kept) s.context.spot (kinds.Greets n) ≡ spots.Authentication = greets_on s.context.spot (deprecates_eof s.context.terms.kept) n (knows s h st open_still nothing p rest next whole (kinds.Greets n) e) in
-      goes s h st open_still nothing p rest next whole (Own Connect) (Own Connect) (kinds.Greets n) e refl refl refl refl hd (hd.at.0, ap is_shaking spot, hd.at.2) hd.tie (λ made. let no : true ≡ false = sym made ∙ hd.at.0 in cc) (λ no. cc)
+      goes s h st open_still nothing p rest next whole (Own Connect) (Own Connect) (kinds.Greets n) e refl refl refl refl hd (hd.at.0, ap is_shaking spot, hd.at.2) hd.tie (λ made. let no : true ≡ false = sym made ∙ hd.at.0 in cc) (λ no. cc) tt
   connect_keeps (kinds.Good status) hd on e b =
       goes s h st open_still nothing p rest next whole (Own Connect) (Arranging 0) (kinds.Good status) e refl refl refl refl hd
-      (hd.at.0, hd.at.2, not_greeting s.context.spot (deprecates_eof s.context.terms.kept) (kinds.Good status), λ _. answers s h st open_still nothing p rest next whole (kinds.Good status) e refl refl) (sym hd.tie.0, inl hd.tie.1) (λ _. refl) (λ no. cc)
+      (hd.at.0, hd.at.2, not_greeting s.context.spot (deprecates_eof s.context.terms.kept) (kinds.Good status), λ _. answers s h st open_still nothing p rest next whole (kinds.Good status) e refl refl) hd.tie (λ _. refl) (λ no. cc) tt
   connect_keeps kinds.Failed hd on e b = refuse_connect (Own Connect) (err_at (is_greeting s.context.spot) p) refl hd e refl on (tied_own kinds.Failed (Own Connect) Connect refl hd.tie)
   connect_keeps (kinds.Count n) hd on e b = cc
   connect_keeps kinds.Column hd on e b = cc
@@ -185,27 +194,27 @@ module _ (s : Seen) (h : History) (st : Stands s h) (open_still : s.closed ≡ f
   running_keeps n k hd off e b =
       let following = λ (x : Kind). not_greeting s.context.spot (deprecates_eof s.context.terms.kept) x in
       head_keeps (reactions.Goes (Finishing n)) (Running n)
-      (λ status f. goes s h st open_still nothing p rest next whole (Running n) (Finishing n) (kinds.Good status) f refl refl refl refl hd (hd.at.0, following (kinds.Good status)) hd.tie (λ _. refl) (λ _. refl))
+      (λ status f. goes s h st open_still nothing p rest next whole (Running n) (Finishing n) (kinds.Good status) f refl refl refl refl hd (hd.at.0, following (kinds.Good status)) hd.tie (λ _. refl) (λ _. refl) tt)
       (λ x f part good quiet. goes s h st open_still nothing p rest next whole (Running n) (Running n) x f good (part_calm x part) refl refl hd
-      (hd.at.0, heading_after s.context.spot (deprecates_eof s.context.terms.kept) x hd.at.1 (knows s h st open_still nothing p rest next whole x f) part) hd.tie (λ _. quiet) (λ _. quiet))
+      (hd.at.0, heading_after s.context.spot (deprecates_eof s.context.terms.kept) x hd.at.1 (knows s h st open_still nothing p rest next whole x f) part) hd.tie (λ _. quiet) (λ _. quiet) tt)
       (λ f. refuse (Running n) Batch (err_at (is_greeting s.context.spot) p) refl hd f refl off refl hd.at.0 (tied_own kinds.Failed (Running n) Batch refl hd.tie)) k e b
 
   finishing_keeps : (n : ℕ) (k : Kind) → HeardAs (Finishing n) → is_connecting s.task ≡ false → kind_there s.context s.facts.columns p ≡ k → is_breaking (react_whole (Finishing n) k) ≡ false → Keeps (reacted s (after k) p (react_whole (Finishing n) k)) h
   finishing_keeps n k hd off e b =
       whole_keeps (Finishing n) refl hd (λ x _ _ _. (hd.at.0, not_greeting s.context.spot (deprecates_eof s.context.terms.kept) x)) (λ x. hd.tie)
-      (λ f. refuse (Finishing n) Batch (err_at (is_greeting s.context.spot) p) refl hd f refl off refl hd.at.0 (tied_own kinds.Failed (Finishing n) Batch refl hd.tie)) k e b
+      (λ f. refuse (Finishing n) Batch (err_at (is_greeting s.context.spot) p) refl hd f refl off refl hd.at.0 (tied_own kinds.Failed (Finishing n) Batch refl hd.tie)) tt k e b
 
-  -- the response to a query that sets the server's session up after a reset
-  setting_keeps : (n : ℕ) (k : Kind) → HeardAs (Setting n) → is_connecting s.task ≡ false → kind_there s.context s.facts.columns p ≡ k → is_breaking (react_whole (Setting n) k) ≡ false → Keeps (reacted s (after k) p (react_whole (Setting n) k)) h
-  setting_keeps n k hd off e b =
-      whole_keeps (Setting n) refl hd (λ x _ _ _. (hd.at.0, not_greeting s.context.spot (deprecates_eof s.context.terms.kept) x)) (λ x. hd.tie)
-      (λ f. refuse (Setting n) Reset (err_at (is_greeting s.context.spot) p) refl hd f refl off refl hd.at.0 (tied_own kinds.Failed (Setting n) Reset refl hd.tie)) k e b
+  -- the response to one of a call's own queries
+  asking_keeps : (c : CallKind) (n : ℕ) (k : Kind) → HeardAs (Asking c n) → is_connecting s.task ≡ false → kind_there s.context s.facts.columns p ≡ k → is_breaking (react_whole (Asking c n) k) ≡ false → Keeps (reacted s (after k) p (react_whole (Asking c n) k)) h
+  asking_keeps c n k hd off e b =
+      whole_keeps (Asking c n) refl hd (λ x _ _ _. (hd.at.0, hd.at.1, not_greeting s.context.spot (deprecates_eof s.context.terms.kept) x)) (λ x. hd.tie)
+      (λ f. refuse (Asking c n) c (err_at (is_greeting s.context.spot) p) refl hd f refl off (asks_not c s.call (queries_ask c hd.at.0)) hd.at.1 (tied_own kinds.Failed (Asking c n) c refl hd.tie)) tt k e b
 
   -- the reply to a statement to prepare
   prepare_keeps : (k : Kind) → HeardAs (Own Prepare) → is_connecting s.task ≡ false → kind_there s.context s.facts.columns p ≡ k → is_breaking (react_whole (Own Prepare) k) ≡ false → Keeps (reacted s (after k) p (react_whole (Own Prepare) k)) h
   prepare_keeps k hd off e b =
       whole_keeps (Own Prepare) refl hd (λ x _ _ _. (hd.at.0, not_greeting s.context.spot (deprecates_eof s.context.terms.kept) x)) (λ x. hd.tie)
-      (λ f. refuse (Own Prepare) Prepare (err_at (is_greeting s.context.spot) p) refl hd f refl off refl hd.at.0 (tied_own kinds.Failed (Own Prepare) Prepare refl hd.tie)) k e b
+      (λ f. refuse (Own Prepare) Prepare (err_at (is_greeting s.context.spot) p) refl hd f refl off refl hd.at.0 (tied_own kinds.Failed (Own Prepare) Prepare refl hd.tie)) tt k e b
 
   -- a response of one payload
   single_keeps : (good : Reaction) → ((status : StatusFlags) → kind_there s.context s.facts.columns p ≡ kinds.Good status → Keeps (reacted s (after (kinds.Good status)) p good) h) → (kind_there s.context s.facts.columns p ≡ kinds.Failed → Keeps (refused s (after kinds.Failed) (err_at (is_greeting s.context.spot) p)) h) → (k : Kind) → kind_there s.context s.facts.columns p ≡ k → is_breaking (react_single good k) ≡ false → Keeps (reacted s (after k) p (react_single good k)) h
@@ -231,7 +240,7 @@ module _ (s : Seen) (h : History) (st : Stands s h) (open_still : s.closed ≡ f
   reset_keeps k hd off e b =
       single_keeps (reactions.Goes Clearing)
       (λ status f. goes s h st open_still nothing p rest next whole (Own Reset) Clearing (kinds.Good status) f refl refl refl refl hd
-      (hd.at.0, ap (λ (x : Spot). spot_after (deprecates_eof s.context.terms.kept) x (kinds.Good status)) hd.at.1) (sym hd.tie.0, inl hd.tie.1) (λ _. refl) (λ _. refl))
+      (hd.at.0, ap (λ (x : Spot). spot_after (deprecates_eof s.context.terms.kept) x (kinds.Good status)) hd.at.1) hd.tie (λ _. refl) (λ _. refl) tt)
       (λ f. refuse (Own Reset) Reset (err_at (is_greeting s.context.spot) p) refl hd f refl off refl hd.at.0 (tied_own kinds.Failed (Own Reset) Reset refl hd.tie)) k e b
 
   own_keeps : (c : CallKind) (k : Kind) → s.task ≡ Own c → HeardAs (Own c) → kind_there s.context s.facts.columns p ≡ k → is_breaking (react_own c k) ≡ false → Keeps (reacted s (after k) p (react_own c k)) h
@@ -247,6 +256,9 @@ module _ (s : Seen) (h : History) (st : Stands s h) (open_still : s.closed ≡ f
   own_keeps SkipTaken k task hd e b = cc
   own_keeps Ping k task hd e b = ping_keeps k hd (ap is_connecting task) e b
   own_keeps Reset k task hd e b = reset_keeps k hd (ap is_connecting task) e b
+  own_keeps Begin k task hd e b = cc
+  own_keeps Rollback k task hd e b = cc
+  own_keeps ForgetTransaction k task hd e b = cc
   own_keeps Quit k task hd e b = cc
 
   rests : (k : Kind) (m : List Made) → has_connected m ≡ true → is_settled (spot_after (deprecates_eof s.context.terms.kept) s.context.spot k) ≡ true → s.closed ≡ false → cond (has_connected m) (is_settled (spot_after (deprecates_eof s.context.terms.kept) s.context.spot k)) (is_greeting (spot_after (deprecates_eof s.context.terms.kept) s.context.spot k)) ≡ true
@@ -268,19 +280,19 @@ module _ (s : Seen) (h : History) (st : Stands s h) (open_still : s.closed ≡ f
     give (Some row) e is = answered_stands (with_task (after kinds.Row) Nothing false) h calls.NextRow (ToldRow row) hd.pending_is
         (shows s h st open_still nothing told p rest next whole Reading NextRow refl refl hd.at.1 hd.at.0 hd hd.tie Nothing kinds.Row (ToldRow row) e refl refl refl refl refl refl refl hd.at.0
         (ap (λ gs. gs ∷ givens st.older) (sym (row_gives s h st open_still nothing told p rest next whole Reading NextRow refl refl hd.at.1 hd.at.0 hd hd.tie row e is)))
-        (λ m made. rests kinds.Row m made (row_rests e)) (λ m t. t))
+        (λ m made. rests kinds.Row m made (row_rests e)) (λ m t. t) tt)
 
     read_head : (k : Kind) → kind_there s.context s.facts.columns p ≡ k → is_part k ≡ true → is_bad k ≡ false → not_greets k ≡ true → Stands (with_task (after k) Reading false) h
     read_head k e part good quiet = heads s h st open_still nothing told p rest next whole Reading NextRow refl refl hd.at.1 hd.at.0 hd hd.tie k e part good quiet refl
         (hd.at.0, reading_after s.context.spot (deprecates_eof s.context.terms.kept) k hd.at.1)
-        (tied_on s h st open_still nothing told p rest next whole Reading NextRow refl refl hd.at.1 hd.at.0 hd hd.tie k h.calls (tied_now s h st open_still nothing told p rest next whole Reading NextRow refl refl hd.at.1 hd.at.0 hd hd.tie))
+        (tied_on s h st open_still nothing told p rest next whole Reading NextRow refl refl hd.at.1 hd.at.0 hd hd.tie k h.calls (tied_now s h st open_still nothing told p rest next whole Reading NextRow refl refl hd.at.1 hd.at.0 hd hd.tie)) tt
 
     reading_keeps : (k : Kind) → kind_there s.context s.facts.columns p ≡ k → is_breaking (react_reading k) ≡ false → Keeps (reacted s (after k) p (react_reading k)) h
     reading_keeps (kinds.Greets n) e b = cc
     reading_keeps (kinds.Good status) e b = answered_stands (with_task (after (kinds.Good status)) Nothing false) h calls.NextRow ToldEnd hd.pending_is
         (shows s h st open_still nothing told p rest next whole Reading NextRow refl refl hd.at.1 hd.at.0 hd hd.tie Nothing (kinds.Good status) ToldEnd e refl refl refl refl refl refl refl hd.at.0
         (ap (λ gs. gs ∷ givens st.older) (sym (good_gives s h st open_still nothing told p rest next whole Reading NextRow refl refl hd.at.1 hd.at.0 hd hd.tie status e)))
-        (λ m made. rests (kinds.Good status) m made (good_rests status hd.at.1 e)) (λ m t. t))
+        (λ m made. rests (kinds.Good status) m made (good_rests status hd.at.1 e)) (λ m t. t) tt)
     reading_keeps kinds.Failed e b = refuse Reading NextRow (err_at (is_greeting s.context.spot) p) refl hd e refl (ap is_connecting task) refl hd.at.0 (tied_after kinds.Failed NextRow (settled_not_greeting s.context.spot hd.at.1) hd.tie)
     reading_keeps (kinds.Count n) e b = read_head (kinds.Count n) e refl refl refl
     reading_keeps kinds.Column e b = read_head kinds.Column e refl refl refl
@@ -289,7 +301,7 @@ module _ (s : Seen) (h : History) (st : Stands s h) (open_still : s.closed ≡ f
     reading_keeps (kinds.End status) e b = answered_stands (with_task (after (kinds.End status)) Nothing false) h calls.NextRow ToldEnd hd.pending_is
         (shows s h st open_still nothing told p rest next whole Reading NextRow refl refl hd.at.1 hd.at.0 hd hd.tie Nothing (kinds.End status) ToldEnd e refl refl refl refl refl refl refl hd.at.0
         (ap (λ gs. gs ∷ givens st.older) (sym (end_gives s h st open_still nothing told p rest next whole Reading NextRow refl refl hd.at.1 hd.at.0 hd hd.tie status e)))
-        (λ m made. rests (kinds.End status) m made (end_rests status e)) (λ m t. t))
+        (λ m made. rests (kinds.End status) m made (end_rests status e)) (λ m t. t) tt)
     reading_keeps (kinds.Prepared params columns) e b = read_head (kinds.Prepared params columns) e refl refl refl
     reading_keeps kinds.Parameter e b = read_head kinds.Parameter e refl refl refl
     reading_keeps kinds.Field e b = read_head kinds.Field e refl refl refl
@@ -305,19 +317,19 @@ module _ (s : Seen) (h : History) (st : Stands s h) (open_still : s.closed ≡ f
     pass (Some row) e is = same_task kinds.Row (noted h (ToldRow row)) (noted_stands (with_task (after kinds.Row) Dropping false) h calls.DropResult (ToldRow row) hd.pending_is
         (shows s h st open_still nothing told p rest next whole Dropping DropResult refl refl hd.at.1 hd.at.0 hd hd.tie Dropping kinds.Row (ToldRow row) e refl refl refl refl refl refl refl hd.at.0
         (ap (λ gs. gs ∷ givens st.older) (sym (row_gives s h st open_still nothing told p rest next whole Dropping DropResult refl refl hd.at.1 hd.at.0 hd hd.tie row e is)))
-        (λ m made. (made, reading_after s.context.spot (deprecates_eof s.context.terms.kept) kinds.Row hd.at.1)) (λ m t. t)))
+        (λ m made. (made, reading_after s.context.spot (deprecates_eof s.context.terms.kept) kinds.Row hd.at.1)) (λ m t. t) tt))
 
     drop_head : (k : Kind) → kind_there s.context s.facts.columns p ≡ k → is_part k ≡ true → is_bad k ≡ false → not_greets k ≡ true → Stands (with_task (after k) Dropping false) h
     drop_head k e part good quiet = heads s h st open_still nothing told p rest next whole Dropping DropResult refl refl hd.at.1 hd.at.0 hd hd.tie k e part good quiet refl
         (hd.at.0, reading_after s.context.spot (deprecates_eof s.context.terms.kept) k hd.at.1)
-        (tied_on s h st open_still nothing told p rest next whole Dropping DropResult refl refl hd.at.1 hd.at.0 hd hd.tie k h.calls (tied_now s h st open_still nothing told p rest next whole Dropping DropResult refl refl hd.at.1 hd.at.0 hd hd.tie))
+        (tied_on s h st open_still nothing told p rest next whole Dropping DropResult refl refl hd.at.1 hd.at.0 hd hd.tie k h.calls (tied_now s h st open_still nothing told p rest next whole Dropping DropResult refl refl hd.at.1 hd.at.0 hd hd.tie)) tt
 
     dropping_keeps : (k : Kind) → kind_there s.context s.facts.columns p ≡ k → is_breaking (react_dropping k) ≡ false → Keeps (reacted s (after k) p (react_dropping k)) h
     dropping_keeps (kinds.Greets n) e b = cc
     dropping_keeps (kinds.Good status) e b = same_task (kinds.Good status) (noted h ToldEnd) (noted_stands (with_task (after (kinds.Good status)) Dropping false) h calls.DropResult ToldEnd hd.pending_is
         (shows s h st open_still nothing told p rest next whole Dropping DropResult refl refl hd.at.1 hd.at.0 hd hd.tie Dropping (kinds.Good status) ToldEnd e refl refl refl refl refl refl refl hd.at.0
         (ap (λ gs. gs ∷ givens st.older) (sym (good_gives s h st open_still nothing told p rest next whole Dropping DropResult refl refl hd.at.1 hd.at.0 hd hd.tie status e)))
-        (λ m made. (made, reading_after s.context.spot (deprecates_eof s.context.terms.kept) (kinds.Good status) hd.at.1)) (λ m t. t)))
+        (λ m made. (made, reading_after s.context.spot (deprecates_eof s.context.terms.kept) (kinds.Good status) hd.at.1)) (λ m t. t) tt))
     dropping_keeps kinds.Failed e b = refuse Dropping DropResult (err_at (is_greeting s.context.spot) p) refl hd e refl (ap is_connecting task) refl hd.at.0 (tied_after kinds.Failed DropResult (settled_not_greeting s.context.spot hd.at.1) hd.tie)
     dropping_keeps (kinds.Count n) e b = drop_head (kinds.Count n) e refl refl refl
     dropping_keeps kinds.Column e b = drop_head kinds.Column e refl refl refl
@@ -326,7 +338,7 @@ module _ (s : Seen) (h : History) (st : Stands s h) (open_still : s.closed ≡ f
     dropping_keeps (kinds.End status) e b = same_task (kinds.End status) (noted h ToldEnd) (noted_stands (with_task (after (kinds.End status)) Dropping false) h calls.DropResult ToldEnd hd.pending_is
         (shows s h st open_still nothing told p rest next whole Dropping DropResult refl refl hd.at.1 hd.at.0 hd hd.tie Dropping (kinds.End status) ToldEnd e refl refl refl refl refl refl refl hd.at.0
         (ap (λ gs. gs ∷ givens st.older) (sym (end_gives s h st open_still nothing told p rest next whole Dropping DropResult refl refl hd.at.1 hd.at.0 hd hd.tie status e)))
-        (λ m made. (made, reading_after s.context.spot (deprecates_eof s.context.terms.kept) (kinds.End status) hd.at.1)) (λ m t. t)))
+        (λ m made. (made, reading_after s.context.spot (deprecates_eof s.context.terms.kept) (kinds.End status) hd.at.1)) (λ m t. t) tt))
     dropping_keeps (kinds.Prepared params columns) e b = drop_head (kinds.Prepared params columns) e refl refl refl
     dropping_keeps kinds.Parameter e b = drop_head kinds.Parameter e refl refl refl
     dropping_keeps kinds.Field e b = drop_head kinds.Field e refl refl refl
@@ -337,7 +349,7 @@ module _ (s : Seen) (h : History) (st : Stands s h) (open_still : s.closed ≡ f
     take_head : (k : Kind) → kind_there s.context s.facts.columns p ≡ k → is_part k ≡ true → is_bad k ≡ false → not_greets k ≡ true → Stands (with_task (after k) Taking false) h
     take_head k e part good quiet = heads s h st open_still nothing told p rest next whole Taking TakeSet refl refl hd.at.1 hd.at.0 hd hd.tie k e part good quiet refl
         (hd.at.0, reading_after s.context.spot (deprecates_eof s.context.terms.kept) k hd.at.1)
-        (tied_on s h st open_still nothing told p rest next whole Taking TakeSet refl refl hd.at.1 hd.at.0 hd hd.tie k h.calls (tied_now s h st open_still nothing told p rest next whole Taking TakeSet refl refl hd.at.1 hd.at.0 hd hd.tie))
+        (tied_on s h st open_still nothing told p rest next whole Taking TakeSet refl refl hd.at.1 hd.at.0 hd hd.tie k h.calls (tied_now s h st open_still nothing told p rest next whole Taking TakeSet refl refl hd.at.1 hd.at.0 hd hd.tie)) tt
 
     taking_keeps : (k : Kind) → kind_there s.context s.facts.columns p ≡ k → is_breaking (react_taking k) ≡ false → Keeps (reacted s (after k) p (react_taking k)) h
     taking_keeps =
@@ -361,7 +373,7 @@ module _ (s : Seen) (h : History) (st : Stands s h) (open_still : s.closed ≡ f
     skip (Some row) e is = skips_on kinds.Row (noted h (ToldRow row)) (noted_stands (with_task (after kinds.Row) Skipping false) h calls.SkipTaken (ToldRow row) hd.pending_is
         (shows s h st open_still nothing told p rest next whole Skipping SkipTaken refl refl reads_still hd.at.0 hd hd.tie Skipping kinds.Row (ToldRow row) e refl refl refl refl refl refl refl hd.at.0
         (ap (λ gs. gs ∷ givens st.older) (sym (row_gives s h st open_still nothing told p rest next whole Skipping SkipTaken refl refl reads_still hd.at.0 hd hd.tie row e is)))
-        (λ m made. (made, row_rests e)) (λ m t. t)))
+        (λ m made. (made, row_rests e)) (λ m t. t) tt))
 
     skipping_keeps : (k : Kind) → kind_there s.context s.facts.columns p ≡ k → is_breaking (react_skipping k) ≡ false → Keeps (reacted s (after k) p (react_skipping k)) h
     skipping_keeps (kinds.Greets n) e b = cc
@@ -374,7 +386,7 @@ module _ (s : Seen) (h : History) (st : Stands s h) (open_still : s.closed ≡ f
     skipping_keeps (kinds.End status) e b = skips_on (kinds.End status) (noted h ToldEnd) (noted_stands (with_task (after (kinds.End status)) Skipping false) h calls.SkipTaken ToldEnd hd.pending_is
         (shows s h st open_still nothing told p rest next whole Skipping SkipTaken refl refl reads_still hd.at.0 hd hd.tie Skipping (kinds.End status) ToldEnd e refl refl refl refl refl refl refl hd.at.0
         (ap (λ gs. gs ∷ givens st.older) (sym (end_gives s h st open_still nothing told p rest next whole Skipping SkipTaken refl refl reads_still hd.at.0 hd hd.tie status e)))
-        (λ m made. (made, end_rests status e)) (λ m t. t)))
+        (λ m made. (made, end_rests status e)) (λ m t. t) tt))
     skipping_keeps (kinds.Prepared params columns) e b = cc
     skipping_keeps kinds.Parameter e b = cc
     skipping_keeps kinds.Field e b = cc
@@ -383,17 +395,19 @@ module _ (s : Seen) (h : History) (st : Stands s h) (open_still : s.closed ≡ f
   pub react_keeps : (t : Task) → s.task ≡ t → HeardAs t → (is_reader t ≡ true → s.untold ≡ false) → (k : Kind) → kind_there s.context s.facts.columns p ≡ k → is_breaking (react t k) ≡ false → Keeps (reacted s (after k) p (react t k)) h
   react_keeps Nothing task hd told k e b = cc
   react_keeps (Begun c) task hd told k e b = cc
-  react_keeps (Cleaning c) task hd told k e b = cleaning_keeps c k hd (ap is_connecting task) e b
+  react_keeps (Cleaning c) task hd told k e b = cleaning_keeps c k task hd (ap is_connecting task) e b
+  react_keeps (Undoing c) task hd told k e b = undoing_keeps c k hd (ap is_connecting task) e b
+  react_keeps (Cleaned c) task hd told k e b = cc
   react_keeps (Own c) task hd told k e b = own_keeps c k task hd e b
   react_keeps Giving task hd told k e b = cc
   react_keeps (Arranging n) task hd told k e b = arranging_keeps n k hd (ap is_connecting task) e b
   react_keeps (Running n) task hd told k e b = running_keeps n k hd (ap is_connecting task) e b
   react_keeps (Finishing n) task hd told k e b = finishing_keeps n k hd (ap is_connecting task) e b
   react_keeps Clearing task hd told k e b = cc
-  react_keeps (Setting n) task hd told k e b = setting_keeps n k hd (ap is_connecting task) e b
+  react_keeps (Asking c n) task hd told k e b = asking_keeps c n k hd (ap is_connecting task) e b
   react_keeps Reading task hd told k e b = reading_keeps (told refl) task hd k e b
   react_keeps Dropping task hd told k e b = dropping_keeps (told refl) task hd k e b
   react_keeps Taking task hd told k e b = taking_keeps (told refl) task hd k e b
   react_keeps Skipping task hd told k e b = skipping_keeps (told refl) task hd k e b
-  react_keeps Leaving task hd told k e b = cc
+  react_keeps (Leaving c) task hd told k e b = cc
   react_keeps (Failing c fault) task hd told k e b = cc

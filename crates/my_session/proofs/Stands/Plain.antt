@@ -8,12 +8,12 @@ use Rattle.my_grammar.specs.Talk.{Start}
 use Rattle.my_reading.specs.declared.call.Call.{Call}
 use Rattle.my_reading.specs.declared.call.Call.TheVariants as calls
 use Rattle.my_reading.specs.declared.call.CallKind.{CallKind}
-use Rattle.my_reading.specs.declared.call.CallKind.TheVariants.{Connect, Query, Prepare, Execute, Batch, CloseStmt, NextRow, DropResult, TakeSet, SkipTaken, Ping, Reset, Quit}
+use Rattle.my_reading.specs.declared.call.CallKind.TheVariants.{Connect, Query, Prepare, Execute, Batch, CloseStmt, NextRow, DropResult, TakeSet, SkipTaken, Ping, Reset, Begin, Rollback, ForgetTransaction, Quit}
 use Rattle.my_session.specs.declared.task.LinkFault.{LinkFault}
 use Rattle.my_session.specs.declared.task.LinkFault.TheVariants.{NoMemory}
 use Rattle.my_session.specs.declared.task.Task.{Task}
-use Rattle.my_session.specs.declared.task.Task.TheVariants.{Nothing, Begun, Cleaning, Own, Giving, Arranging, Running, Finishing, Clearing, Setting, Reading, Dropping, Taking, Skipping, Leaving, Failing}
-use Rattle.my_reading.specs.Calls.{kind_of, call_of, is_quit}
+use Rattle.my_session.specs.declared.task.Task.TheVariants.{Nothing, Begun, Cleaning, Undoing, Cleaned, Own, Giving, Arranging, Running, Finishing, Clearing, Asking, Reading, Dropping, Taking, Skipping, Leaving, Failing}
+use Rattle.my_reading.specs.Calls.{kind_of, call_of, is_unrefused}
 use Rattle.my_reading.specs.Statements.{first_statements}
 use Rattle.my_session.specs.Tasks.{kind_in, is_open}
 use Rattle.my_session.specs.Entries.{Entry, has_connected, connecting_in, calls_in, OwnsFirst, IsTied}
@@ -39,6 +39,7 @@ fresh_stands login = record {
   arranged = λ no. cc;
   ended_is = refl;
   settled = λ _. refl;
+  cleans = tt;
 }
 
 pub took_stands : (s : Seen) (h : History) (bytes : List ℕ) → Stands s h → Stands (with_unread s (s.unread ++ bytes)) (took h bytes)
@@ -50,6 +51,7 @@ took_stands s h bytes st = record {
   arranged = st.arranged;
   ended_is = st.ended_is;
   settled = st.settled;
+  cleans = st.cleans;
 }
 
 nothing_dropped : (n : ℕ) (owed : List ℕ) → owed ≡ [] → drop n owed ≡ []
@@ -64,10 +66,11 @@ gone_stands s h n st = record {
   arranged = st.arranged;
   ended_is = st.ended_is;
   settled = λ o. nothing_dropped n s.owed (st.settled o);
+  cleans = st.cleans;
 }
 
 pub ended_stands : (s : Seen) (h : History) → Stands s h → Stands (with_end s) (ending h)
-ended_stands s h st = record { newest = st.newest; older = st.older; wire = st.wire; heard = st.heard; arranged = st.arranged; ended_is = refl; settled = st.settled }
+ended_stands s h st = record { newest = st.newest; older = st.older; wire = st.wire; heard = st.heard; arranged = st.arranged; ended_is = refl; settled = st.settled; cleans = st.cleans }
 
 -- a call that begins is the one that is open
 call_is : (call : Call) → call ≡ call_of (kind_of call) call
@@ -83,6 +86,9 @@ call_is calls.TakeSet = refl
 call_is calls.SkipTaken = refl
 call_is calls.Ping = refl
 call_is calls.Reset = refl
+call_is (calls.Begin opts) = refl
+call_is calls.Rollback = refl
+call_is calls.ForgetTransaction = refl
 call_is calls.Quit = refl
 
 later_at : (spot : Spot) (connected : Bool) → is_settled spot ≡ true → cond connected (is_settled spot) (is_greeting spot) ≡ true → (connected ≡ true) × (is_settled spot ≡ true)
@@ -106,22 +112,14 @@ begun_at TakeSet spot connected e at = later_at spot connected e at
 begun_at SkipTaken spot connected e at = later_at spot connected e at
 begun_at Ping spot connected e at = later_at spot connected e at
 begun_at Reset spot connected e at = later_at spot connected e at
+begun_at Begin spot connected e at = later_at spot connected e at
+begun_at Rollback spot connected e at = later_at spot connected e at
+begun_at ForgetTransaction spot connected e at = later_at spot connected e at
 begun_at Quit spot connected e at = later_at spot connected e at
 
-quits : (call opened : Call) → not (is_quit (kind_of call)) ≡ false → Some call ≡ call_with (Some Quit) opened
-quits calls.Connect opened e = cc
-quits (calls.Query q) opened e = cc
-quits (calls.Prepare q) opened e = cc
-quits (calls.Execute statement params) opened e = cc
-quits (calls.Batch statement lists) opened e = cc
-quits (calls.CloseStmt id) opened e = cc
-quits calls.NextRow opened e = cc
-quits calls.DropResult opened e = cc
-quits calls.TakeSet opened e = cc
-quits calls.SkipTaken opened e = cc
-quits calls.Ping opened e = cc
-quits calls.Reset opened e = cc
-quits calls.Quit opened e = refl
+is_not : (b : Bool) → not b ≡ false → b ≡ true
+is_not true e = refl
+is_not false e = cc
 
 -- the session at rest
 module _ (s : Seen) (h : History) (st : Stands s h) (task : s.task ≡ Nothing) where
@@ -132,7 +130,7 @@ module _ (s : Seen) (h : History) (st : Stands s h) (task : s.task ≡ Nothing) 
   rests = subst (λ (t : Task). TaskIs t s.context.spot s.closed (has_connected h.calls) (connecting_in (st.newest ∷ st.older)) st.newest) task st.heard.at
 
   abbrev begun_as : Call → Bool → Seen
-  begun_as call closed = record { context = s.context; task = cond closed Leaving (Begun (kind_of call)); call = call; untold = s.untold; taken = s.taken; closed = s.closed; ended = s.ended; number = s.number; unread = s.unread; owed = s.owed; facts = s.facts; statements = s.statements; login = s.login }
+  begun_as call closed = record { context = s.context; task = cond closed (Leaving (kind_of call)) (Begun (kind_of call)); call = call; untold = s.untold; taken = s.taken; closed = s.closed; ended = s.ended; number = s.number; unread = s.unread; owed = s.owed; facts = s.facts; statements = s.statements; status = s.status; login = s.login }
 
   by_closed : (call : Call) (closed : Bool) → s.closed ≡ closed → (s.closed ≡ false → AtBegun (kind_of call) s.context.spot) → is_refused closed (kind_of call) ≡ false → Stands (begun_as call closed) (began h call)
   by_closed call true e order free = record {
@@ -140,7 +138,7 @@ module _ (s : Seen) (h : History) (st : Stands s h) (task : s.task ≡ Nothing) 
     older = st.older;
     wire = st.wire;
     heard = record {
-      pending_is = quits call call free;
+      pending_is = ap Some (call_is call);
       closed_is = st.heard.closed_is;
       alive = λ no. cc;
       given_is = st.heard.given_is;
@@ -148,13 +146,14 @@ module _ (s : Seen) (h : History) (st : Stands s h) (task : s.task ≡ Nothing) 
       each = st.heard.each;
       lone = st.heard.lone;
       fresh = λ _ no _. cc;
-      at = e;
+      at = (e, is_not (is_unrefused (kind_of call)) free);
       first = st.heard.first;
       tie = tied;
     };
     arranged = st.arranged;
     ended_is = st.ended_is;
     settled = λ _. st.settled (ap owes task);
+    cleans = tt;
   }
   by_closed call false e order free = record {
     newest = st.newest;
@@ -176,6 +175,7 @@ module _ (s : Seen) (h : History) (st : Stands s h) (task : s.task ≡ Nothing) 
     arranged = st.arranged;
     ended_is = st.ended_is;
     settled = λ _. st.settled (ap owes task);
+    cleans = tt;
   }
 
   pub begins : (call : Call) → (s.closed ≡ false → AtBegun (kind_of call) s.context.spot) → is_refused s.closed (kind_of call) ≡ false → Stands (begun s call) (began h call)
@@ -203,6 +203,7 @@ module _ (s : Seen) (h : History) (st : Stands s h) (task : s.task ≡ Nothing) 
     arranged = arranged_more s.login (record { call = call; what = ToldError connection_closed }) h.calls st.newest st.older refl st.arranged;
     ended_is = st.ended_is;
     settled = st.settled;
+    cleans = st.cleans;
   }
 
 or_true : (b : Bool) → true ≡ b || true
@@ -214,42 +215,51 @@ fails_as : (t : Task) (c : CallKind) (fault : LinkFault) → kind_in t ≡ Some 
 fails_as Nothing c fault e = cc
 fails_as (Begun d) c fault e = let same : d ≡ c = cc in ap (λ (x : CallKind). Failing x fault) same
 fails_as (Cleaning d) c fault e = let same : d ≡ c = cc in ap (λ (x : CallKind). Failing x fault) same
+fails_as (Undoing d) c fault e = let same : d ≡ c = cc in ap (λ (x : CallKind). Failing x fault) same
+fails_as (Cleaned d) c fault e = let same : d ≡ c = cc in ap (λ (x : CallKind). Failing x fault) same
 fails_as (Own d) c fault e = let same : d ≡ c = cc in ap (λ (x : CallKind). Failing x fault) same
 fails_as Giving c fault e = let same : Prepare ≡ c = cc in ap (λ (x : CallKind). Failing x fault) same
 fails_as (Arranging n) c fault e = let same : Connect ≡ c = cc in ap (λ (x : CallKind). Failing x fault) same
 fails_as (Running n) c fault e = let same : Batch ≡ c = cc in ap (λ (x : CallKind). Failing x fault) same
 fails_as (Finishing n) c fault e = let same : Batch ≡ c = cc in ap (λ (x : CallKind). Failing x fault) same
 fails_as Clearing c fault e = let same : Reset ≡ c = cc in ap (λ (x : CallKind). Failing x fault) same
-fails_as (Setting n) c fault e = let same : Reset ≡ c = cc in ap (λ (x : CallKind). Failing x fault) same
+fails_as (Asking d n) c fault e = let same : d ≡ c = cc in ap (λ (x : CallKind). Failing x fault) same
 fails_as Reading c fault e = let same : NextRow ≡ c = cc in ap (λ (x : CallKind). Failing x fault) same
 fails_as Dropping c fault e = let same : DropResult ≡ c = cc in ap (λ (x : CallKind). Failing x fault) same
 fails_as Taking c fault e = let same : TakeSet ≡ c = cc in ap (λ (x : CallKind). Failing x fault) same
 fails_as Skipping c fault e = let same : SkipTaken ≡ c = cc in ap (λ (x : CallKind). Failing x fault) same
-fails_as Leaving c fault e = let same : Quit ≡ c = cc in ap (λ (x : CallKind). Failing x fault) same
+fails_as (Leaving d) c fault e = let same : d ≡ c = cc in ap (λ (x : CallKind). Failing x fault) same
 fails_as (Failing d old) c fault e = let same : d ≡ c = cc in ap (λ (x : CallKind). Failing x fault) same
 
 fail_tie : (t : Task) (c : CallKind) (fault : LinkFault) (opened : Call) (spot : Spot) (made : List Made) (call : Call) (older : List Entry) → kind_in t ≡ Some c → TieIs t opened spot made call older → TieIs (Failing c fault) opened spot made call older
 fail_tie Nothing c fault opened spot made call older e t = cc
 fail_tie (Begun d) c fault opened spot made call older e t = inr t
 fail_tie (Cleaning d) c fault opened spot made call older e t = inr t
-fail_tie (Own d) c fault opened spot made call older e t = let same : d ≡ c = cc in inl (sym (t.0 ∙ ap (λ (x : CallKind). call_of x opened) same), inl t.1)
+fail_tie (Undoing d) c fault opened spot made call older e t = let same : d ≡ c = cc in inl (subst (λ (x : CallKind). OwnsFirst (call_of x opened) (call ∷ calls_in older) (IsTied made)) same t)
+fail_tie (Cleaned d) c fault opened spot made call older e t =
+    let same : d ≡ c = cc in
+    elim t as (λ _. TieIs (Failing c fault) opened spot made call older) [
+      | inl w ↦ inl (subst (λ (x : CallKind). OwnsFirst (call_of x opened) (call ∷ calls_in older) (IsTied made)) same w)
+      | inr w ↦ inr w.1
+    ]
+fail_tie (Own d) c fault opened spot made call older e t = let same : d ≡ c = cc in inl (subst (λ (x : CallKind). OwnsFirst (call_of x opened) (call ∷ calls_in older) (IsTied made)) same t)
 fail_tie Giving c fault opened spot made call older e t = let same : Prepare ≡ c = cc in inl (subst (λ (x : CallKind). OwnsFirst (call_of x opened) (call ∷ calls_in older) (IsTied made)) same t)
 fail_tie (Arranging n) c fault opened spot made call older e t = let same : Connect ≡ c = cc in inl (subst (λ (x : CallKind). OwnsFirst (call_of x opened) (call ∷ calls_in older) (IsTied made)) same t)
 fail_tie (Running n) c fault opened spot made call older e t = let same : Batch ≡ c = cc in inl (subst (λ (x : CallKind). OwnsFirst (call_of x opened) (call ∷ calls_in older) (IsTied made)) same t)
 fail_tie (Finishing n) c fault opened spot made call older e t = let same : Batch ≡ c = cc in inl (subst (λ (x : CallKind). OwnsFirst (call_of x opened) (call ∷ calls_in older) (IsTied made)) same t)
 fail_tie Clearing c fault opened spot made call older e t = let same : Reset ≡ c = cc in inl (subst (λ (x : CallKind). OwnsFirst (call_of x opened) (call ∷ calls_in older) (IsTied made)) same t)
-fail_tie (Setting n) c fault opened spot made call older e t = let same : Reset ≡ c = cc in inl (subst (λ (x : CallKind). OwnsFirst (call_of x opened) (call ∷ calls_in older) (IsTied made)) same t)
+fail_tie (Asking d n) c fault opened spot made call older e t = let same : d ≡ c = cc in inl (subst (λ (x : CallKind). OwnsFirst (call_of x opened) (call ∷ calls_in older) (IsTied made)) same t)
 fail_tie Reading c fault opened spot made call older e t = inr t
 fail_tie Dropping c fault opened spot made call older e t = inr t
 fail_tie Taking c fault opened spot made call older e t = inr t
 fail_tie Skipping c fault opened spot made call older e t = inr t
-fail_tie Leaving c fault opened spot made call older e t = inr t
+fail_tie (Leaving d) c fault opened spot made call older e t = inr t
 fail_tie (Failing d old) c fault opened spot made call older e t = let same : d ≡ c = cc in subst (λ (x : CallKind). TieIs (Failing x fault) opened spot made call older) same t
 
 pub failing_stands : (s : Seen) (h : History) (fault : LinkFault) → is_open s.task ≡ true → Stands s h → Stands (with_failing s fault) h
 failing_stands s h fault op st =
     let c = kind_there_is s.task op in
-    subst (λ (t : Task). Stands (record { context = s.context; task = t; call = s.call; untold = s.untold; taken = s.taken; closed = s.closed; ended = s.ended; number = s.number; unread = s.unread; owed = s.owed; facts = s.facts; statements = s.statements; login = s.login }) h) (sym (fails_as s.task c.0 fault c.1))
+    subst (λ (t : Task). Stands (record { context = s.context; task = t; call = s.call; untold = s.untold; taken = s.taken; closed = s.closed; ended = s.ended; number = s.number; unread = s.unread; owed = s.owed; facts = s.facts; statements = s.statements; status = s.status; login = s.login }) h) (sym (fails_as s.task c.0 fault c.1))
     (record {
       newest = st.newest;
       older = st.older;
@@ -270,6 +280,7 @@ failing_stands s h fault op st =
       arranged = st.arranged;
       ended_is = st.ended_is;
       settled = λ no. cc;
+      cleans = tt;
     })
 
 -- bytes were received for which there is no memory
@@ -300,24 +311,27 @@ lost_idle s h task st =
       arranged = st.arranged;
       ended_is = st.ended_is;
       settled = λ _. refl;
+      cleans = tt;
     })
 
 pub no_task : (t : Task) → is_open t ≡ false → t ≡ Nothing
 no_task Nothing e = refl
 no_task (Begun c) e = cc
 no_task (Cleaning c) e = cc
+no_task (Undoing c) e = cc
+no_task (Cleaned c) e = cc
 no_task (Own c) e = cc
 no_task Giving e = cc
 no_task (Arranging n) e = cc
 no_task (Running n) e = cc
 no_task (Finishing n) e = cc
 no_task Clearing e = cc
-no_task (Setting n) e = cc
+no_task (Asking c n) e = cc
 no_task Reading e = cc
 no_task Dropping e = cc
 no_task Taking e = cc
 no_task Skipping e = cc
-no_task Leaving e = cc
+no_task (Leaving c) e = cc
 no_task (Failing c fault) e = cc
 
 loss_by : (s : Seen) (h : History) (op : Bool) → is_open s.task ≡ op → Stands s h → Stands (cond op (with_failing s NoMemory) (fell s)) (losing h)
@@ -360,60 +374,69 @@ begun_rests TakeSet spot connected at = rest_as spot connected at.0 at.1
 begun_rests SkipTaken spot connected at = rest_as spot connected at.0 at.1
 begun_rests Ping spot connected at = rest_as spot connected at.0 at.1
 begun_rests Reset spot connected at = rest_as spot connected at.0 at.1
+begun_rests Begin spot connected at = rest_as spot connected at.0 at.1
+begun_rests Rollback spot connected at = rest_as spot connected at.0 at.1
+begun_rests ForgetTransaction spot connected at = rest_as spot connected at.0 at.1
 begun_rests Quit spot connected at = rest_as spot connected at.0 at.1
 
 task_rests : (t : Task) (spot : Spot) (closed connected : Bool) (count : ℕ) (newest : Entry) → closes_when_cancelled t spot ≡ false → TaskIs t spot closed connected count newest → closed ≡ false → cond connected (is_settled spot) (is_greeting spot) ≡ true
 task_rests Nothing spot closed connected count newest off at e = at e
 task_rests (Begun c) spot closed connected count newest off at e = begun_rests c spot connected at
 task_rests (Cleaning c) spot closed connected count newest off at e = cc
+task_rests (Undoing c) spot closed connected count newest off at e = cc
+task_rests (Cleaned c) spot closed connected count newest off at e = cc
 task_rests (Own c) spot closed connected count newest off at e = cc
 task_rests Giving spot closed connected count newest off at e = cc
 task_rests (Arranging n) spot closed connected count newest off at e = cc
 task_rests (Running n) spot closed connected count newest off at e = cc
 task_rests (Finishing n) spot closed connected count newest off at e = cc
 task_rests Clearing spot closed connected count newest off at e = cc
-task_rests (Setting n) spot closed connected count newest off at e = cc
+task_rests (Asking c n) spot closed connected count newest off at e = cc
 task_rests Reading spot closed connected count newest off at e = rest_as spot connected at.0 (settled_by spot at.1 off)
 task_rests Dropping spot closed connected count newest off at e = rest_as spot connected at.0 (settled_by spot at.1 off)
 task_rests Taking spot closed connected count newest off at e = rest_as spot connected at.0 (settled_by spot at.1 off)
 task_rests Skipping spot closed connected count newest off at e = rest_as spot connected at.0 at.1
-task_rests Leaving spot closed connected count newest off at e = let no : true ≡ false = sym at ∙ e in cc
+task_rests (Leaving c) spot closed connected count newest off at e = let no : true ≡ false = sym at.0 ∙ e in cc
 task_rests (Failing c fault) spot closed connected count newest off at e = cc
 
 task_keeps : (t : Task) (spot : Spot) (closed connected : Bool) (count : ℕ) (newest : Entry) → closes_when_cancelled t spot ≡ false → TaskIs t spot closed connected count newest → closed ≡ false → is_open t ≡ true → keeps t ≡ true
 task_keeps Nothing spot closed connected count newest off at e op = cc
 task_keeps (Begun c) spot closed connected count newest off at e op = refl
 task_keeps (Cleaning c) spot closed connected count newest off at e op = cc
+task_keeps (Undoing c) spot closed connected count newest off at e op = cc
+task_keeps (Cleaned c) spot closed connected count newest off at e op = cc
 task_keeps (Own c) spot closed connected count newest off at e op = cc
 task_keeps Giving spot closed connected count newest off at e op = cc
 task_keeps (Arranging n) spot closed connected count newest off at e op = cc
 task_keeps (Running n) spot closed connected count newest off at e op = cc
 task_keeps (Finishing n) spot closed connected count newest off at e op = cc
 task_keeps Clearing spot closed connected count newest off at e op = cc
-task_keeps (Setting n) spot closed connected count newest off at e op = cc
+task_keeps (Asking c n) spot closed connected count newest off at e op = cc
 task_keeps Reading spot closed connected count newest off at e op = refl
 task_keeps Dropping spot closed connected count newest off at e op = refl
 task_keeps Taking spot closed connected count newest off at e op = refl
 task_keeps Skipping spot closed connected count newest off at e op = refl
-task_keeps Leaving spot closed connected count newest off at e op = let no : true ≡ false = sym at ∙ e in cc
+task_keeps (Leaving c) spot closed connected count newest off at e op = let no : true ≡ false = sym at.0 ∙ e in cc
 task_keeps (Failing c fault) spot closed connected count newest off at e op = cc
 
 task_owes : (t : Task) (spot : Spot) → closes_when_cancelled t spot ≡ false → owes t ≡ false
 task_owes Nothing spot off = refl
 task_owes (Begun c) spot off = refl
 task_owes (Cleaning c) spot off = refl
+task_owes (Undoing c) spot off = cc
+task_owes (Cleaned c) spot off = refl
 task_owes (Own c) spot off = cc
 task_owes Giving spot off = cc
 task_owes (Arranging n) spot off = cc
 task_owes (Running n) spot off = cc
 task_owes (Finishing n) spot off = cc
 task_owes Clearing spot off = refl
-task_owes (Setting n) spot off = cc
+task_owes (Asking c n) spot off = cc
 task_owes Reading spot off = refl
 task_owes Dropping spot off = refl
 task_owes Taking spot off = refl
 task_owes Skipping spot off = refl
-task_owes Leaving spot off = refl
+task_owes (Leaving c) spot off = refl
 task_owes (Failing c fault) spot off = cc
 
 cancel_by : (s : Seen) (h : History) (closing : Bool) → closes_when_cancelled s.task s.context.spot ≡ closing → is_open s.task ≡ true → Stands s h → Stands (cond closing (fell s) (with_task s Nothing s.untold)) (answered h (Dropped closing))
@@ -441,6 +464,7 @@ cancel_by s h false e op st =
       arranged = arranged_more s.login (record { call = call_of c.0 s.call; what = Dropped false }) h.calls st.newest st.older refl st.arranged;
       ended_is = st.ended_is;
       settled = λ _. st.settled (task_owes s.task s.context.spot e);
+      cleans = tt;
     })
 
 pub cancels_stand : (s : Seen) (h : History) → is_open s.task ≡ true → Stands s h → Stands (dropped s) (answered h (Dropped (closes_when_cancelled s.task s.context.spot)))

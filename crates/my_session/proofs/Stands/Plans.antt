@@ -16,11 +16,11 @@ use Rattle.my_grammar.specs.Talk.{Talk, Start, Unwelcome, Greeted, Settled, Aske
 use Rattle.my_params.specs.declared.params.Params.{Params}
 use Rattle.my_reading.specs.declared.call.Call.TheVariants as calls
 use Rattle.my_reading.specs.declared.call.CallKind.{CallKind}
-use Rattle.my_reading.specs.declared.call.CallKind.TheVariants.{Connect, Query, Prepare, Execute, Batch, CloseStmt, NextRow, DropResult, TakeSet, SkipTaken, Ping, Reset, Quit}
+use Rattle.my_reading.specs.declared.call.CallKind.TheVariants.{Connect, Query, Prepare, Execute, Batch, CloseStmt, NextRow, DropResult, TakeSet, SkipTaken, Ping, Reset, Begin, Rollback, ForgetTransaction, Quit}
 use Rattle.my_session.specs.declared.task.LinkFault.{LinkFault}
 use Rattle.my_session.specs.declared.task.LinkFault.TheVariants as faults
 use Rattle.my_session.specs.declared.task.Task.{Task}
-use Rattle.my_session.specs.declared.task.Task.TheVariants.{Nothing, Begun, Cleaning, Own, Giving, Arranging, Running, Finishing, Clearing, Setting, Reading, Dropping, Taking, Skipping, Leaving, Failing}
+use Rattle.my_session.specs.declared.task.Task.TheVariants.{Nothing, Begun, Cleaning, Undoing, Cleaned, Own, Giving, Arranging, Running, Finishing, Clearing, Asking, Reading, Dropping, Taking, Skipping, Leaving, Failing}
 use Rattle.my_reading.specs.declared.error.Error.{Error}
 use Rattle.my_session.specs.declared.tables.Plan.{Plan}
 use Rattle.my_session.specs.declared.tables.Plan.TheVariants as plans
@@ -36,19 +36,23 @@ use Rattle.my_session.specs.LinkErrors.{link_error}
 use Rattle.my_session.specs.Groups.{Group, groups, with_stop, stop_given, given, given_after}
 use Rattle.my_reading.specs.Told.{Told, ToldReady, ToldEnd, ToldNone, ToldStatement, ToldFlag, ToldError, closes, closes_by}
 use Rattle.my_session.specs.History.{History, Made, answered, noted, has_closed}
-use Rattle.my_session.specs.Machine.{Move, Goes, Needs, is_doubled, looked, with_kept, kept, batched, offered, refusal, refused_by, advanced, with_task, failed_by, reply_to, above, unless_above, reacted, read_by, reading, planned, when_owed, next_by, next, is_greeting}
+use Rattle.my_session.specs.Machine.{Move, Goes, Needs, is_doubled, looked, with_kept, kept, batched, offered, undone, refusal, refused_by, advanced, with_task, with_status, failed_by, reply_to, above, unless_above, reacted, read_by, reading, planned, when_owed, next_by, next, is_greeting}
+use Rattle.my_reading.specs.declared.transaction.TxStatus.{TxStatus}
+use Rattle.my_reading.specs.declared.transaction.TxStatus.TheVariants as txs
+use Rattle.my_reading.specs.Transactions.{given_up, is_given_up, rolled_back}
 use Rattle.my_reading.specs.Versions.{can_reset}
 use Rattle.my_handshake.specs.Version.{version_of}
 use Rattle.my_session.specs.Seen.{Seen}
 use Rattle.my_session.specs.ServerErrors.{errors_told, with_told}
-use Rattle.my_session.specs.Stands.{Stands, Heard, TaskIs, TieIs, call_with, begun_of, is_first, is_left, is_shaking, is_lone, keeps, known_part, is_alive, owes}
+use Rattle.my_session.specs.Stands.{Stands, Heard, TaskIs, TieIs, CleansAt, call_with, is_rollback, begun_of, is_first, is_left, is_shaking, is_lone, keeps, known_part, is_alive}
 use Rattle.my_session.specs.Steps.{is_settled}
-use Rattle.my_session.specs.Tables.{react, is_breaking, plan_of, ask_plan, run_plan, clean_plan, own_plan, query_plan, execute_plan, prepare_plan, read_plan, drop_plan, take_plan, skip_plan, first_plan}
-use Rattle.my_session.proofs.Stands.Asking.{asks_keep, runs_keep, sets_keep, arranges_keep, refused_or, values_or, closes_keep}
+use Rattle.my_session.specs.Tables.{react, is_breaking, plan_of, run_plan, clean_plan, leave_plan, own_plan, query_plan, execute_plan, prepare_plan, read_plan, drop_plan, take_plan, skip_plan, first_plan}
+use Rattle.my_session.proofs.CallKinds.{of_unrefused}
+use Rattle.my_session.proofs.Stands.Asking.{asks_keep, runs_keep, queries_keep, undoes_keep, arranges_keep, refused_or, values_or, closes_keep}
 use Rattle.my_session.proofs.Stands.Keeps.{Keeps, is_reader, react_keeps}
 use Rattle.my_session.proofs.Stands.Reacts.{falls, fell_stands}
 use Rattle.my_session.proofs.Stands.Spots.{settled_reads, settled_not_greeting, heading_not_greeting}
-use Rattle.my_session.proofs.Stands.Ties.{answered_stands, noted_stands, taken_stands, known_stands, own_after, owns_all, at_greeting, quiet_more, arranged_more, first_count}
+use Rattle.my_session.proofs.Stands.Ties.{answered_stands, noted_stands, taken_stands, known_stands, status_stands, owns_all, closed_tie, at_greeting, quiet_more, arranged_more, first_count}
 use Rattle.my_session.proofs.Stands.Firsts.{given_first, first_groups}
 use Rattle.my_session.proofs.Stands.Views.{given_all}
 
@@ -97,6 +101,32 @@ pub left_false : (a b : Bool) → a || b ≡ false → a ≡ false
 left_false true b e = cc
 left_false false b e = refl
 
+-- once the end of a lone OK is dropped, a call that has cleaned has none left
+none_untold : (t : Task) (untold : Bool) (status : TxStatus) → CleansAt t untold status → CleansAt t false status
+none_untold Nothing untold status w = tt
+none_untold (Begun c) untold status w = tt
+none_untold (Cleaning c) untold status w = w
+none_untold (Undoing c) untold status w = tt
+none_untold (Cleaned c) untold status w = refl
+none_untold (Own c) untold status w = tt
+none_untold Giving untold status w = tt
+none_untold (Arranging n) untold status w = tt
+none_untold (Running n) untold status w = tt
+none_untold (Finishing n) untold status w = tt
+none_untold Clearing untold status w = tt
+none_untold (Asking c n) untold status w = tt
+none_untold Reading untold status w = tt
+none_untold Dropping untold status w = tt
+none_untold Taking untold status w = tt
+none_untold Skipping untold status w = tt
+none_untold (Leaving c) untold status w = tt
+none_untold (Failing c fault) untold status w = tt
+
+-- a call that only rolls back has a transaction to roll back
+none_to_roll : (rollback given : Bool) → given ≡ false → (rollback ≡ true → given ≡ true) → rollback ≡ false
+none_to_roll true given e w = let no : true ≡ false = sym (w refl) ∙ e in cc
+none_to_roll false given e w = refl
+
 -- what isn't lone has no end that is left
 not_untold : (untold lone : Bool) → (untold ≡ true → lone ≡ true) → lone ≡ false → untold ≡ false
 not_untold true lone f e = let no : true ≡ false = sym (f refl) ∙ e in cc
@@ -134,8 +164,8 @@ module _ (s : Seen) (h : History) (st : Stands s h) (open_still : s.closed ≡ f
   not_reader t task off on = let stop : true ≡ false = sym on ∙ ap is_reader task ∙ off in cc
 
   -- the first task of a call
-  starts : (c : CallKind) (u : Task) → HeardAs (Begun c) → kind_in u ≡ Some c → owes u ≡ owes u → TaskIs u s.context.spot s.closed (has_connected h.calls) (connecting_in (st.newest ∷ st.older)) st.newest → TieIs u s.call s.context.spot h.calls st.newest.call st.older → Keeps (planned s (plans.Starts u)) h
-  starts c u hd same _ at tie = record {
+  starts_at : (c : CallKind) (u : Task) (status : TxStatus) → HeardAs (Begun c) → kind_in u ≡ Some c → CleansAt u s.untold status → TaskIs u s.context.spot s.closed (has_connected h.calls) (connecting_in (st.newest ∷ st.older)) st.newest → TieIs u s.call s.context.spot h.calls st.newest.call st.older → Stands (with_status (with_task s u s.untold) status) h
+  starts_at c u status hd same clean at tie = record {
     newest = st.newest;
     older = st.older;
     wire = st.wire;
@@ -155,7 +185,11 @@ module _ (s : Seen) (h : History) (st : Stands s h) (open_still : s.closed ≡ f
     arranged = st.arranged;
     ended_is = st.ended_is;
     settled = λ _. nothing;
+    cleans = clean;
   }
+
+  starts : (c : CallKind) (u : Task) → HeardAs (Begun c) → kind_in u ≡ Some c → CleansAt u s.untold s.status → TaskIs u s.context.spot s.closed (has_connected h.calls) (connecting_in (st.newest ∷ st.older)) st.newest → TieIs u s.call s.context.spot h.calls st.newest.call st.older → Keeps (planned s (plans.Starts u)) h
+  starts c u hd same clean at tie = starts_at c u s.status hd same clean at tie
 
   rest_at : has_connected h.calls ≡ true → is_settled s.context.spot ≡ true → s.closed ≡ false → cond (has_connected h.calls) (is_settled s.context.spot) (is_greeting s.context.spot) ≡ true
   rest_at made e _ = subst (λ b. cond b (is_settled s.context.spot) (is_greeting s.context.spot) ≡ true) (sym made) e
@@ -182,12 +216,13 @@ module _ (s : Seen) (h : History) (st : Stands s h) (open_still : s.closed ≡ f
     arranged = arranged_more s.login (record { call = call_of c s.call; what = w }) h.calls st.newest st.older quiet_one st.arranged;
     ended_is = st.ended_is;
     settled = λ _. nothing;
+    cleans = tt;
   })
 
   -- the cached statement of a text is looked for
   looked_keeps : HeardAs (Begun Prepare) → (mixed : Bool) (o : Option Held) → Keeps (looked s mixed o) h
   looked_keeps hd true o = quiet (Begun Prepare) Prepare (ToldError mixed_params) hd refl refl refl refl refl refl refl hd.at.0 hd.at.1 hd.tie
-  looked_keeps hd false None = starts Prepare (Cleaning Prepare) hd refl refl (refl, hd.at.0, settled_not_greeting s.context.spot (settled_reads s.context.spot hd.at.1)) hd.tie
+  looked_keeps hd false None = starts Prepare (Cleaning Prepare) hd refl (λ no. cc) (refl, hd.at.0, settled_not_greeting s.context.spot (settled_reads s.context.spot hd.at.1)) hd.tie
   looked_keeps hd false (Some x) =
       let found : Told = ToldStatement (statement_with x.stmt (names_of (text_in s.call))) in
       known_stands (with_task s Nothing s.untold) (answered h found) (with_fetched (query_of (text_in s.call)) s.statements) (quiet (Begun Prepare) Prepare found hd refl refl refl refl refl refl refl hd.at.0 hd.at.1 hd.tie)
@@ -196,29 +231,32 @@ module _ (s : Seen) (h : History) (st : Stands s h) (open_still : s.closed ≡ f
   batched_keeps : HeardAs (Begun Batch) → (o : Option Params) → slice_get (lists_in s.call) 0 ≡ o → Keeps (batched s o) h
   batched_keeps hd None at = quiet (Begun Batch) Batch ToldReady hd refl refl refl (ap (λ o. not (is_some o)) at) refl refl refl hd.at.0 hd.at.1 hd.tie
   batched_keeps hd (Some params) at = values_or s h st open_still nothing op params (refused_by (values_for (statement_in s.call) params)) (record { seen = with_task s (Cleaning Batch) s.untold; does = Goes }) refl
-      (λ _. starts Batch (Cleaning Batch) hd refl refl (refl, hd.at.0, settled_not_greeting s.context.spot (settled_reads s.context.spot hd.at.1)) hd.tie)
+      (λ _. starts Batch (Cleaning Batch) hd refl (λ no. cc) (refl, hd.at.0, settled_not_greeting s.context.spot (settled_reads s.context.spot hd.at.1)) hd.tie)
 
   -- a reset begins, where the server can
   offered_keeps : HeardAs (Begun Reset) → (b : Bool) → Keeps (offered s b) h
-  offered_keeps hd true = starts Reset (Cleaning Reset) hd refl refl (refl, hd.at.0, settled_not_greeting s.context.spot (settled_reads s.context.spot hd.at.1)) hd.tie
+  offered_keeps hd true = starts Reset (Cleaning Reset) hd refl (λ no. cc) (refl, hd.at.0, settled_not_greeting s.context.spot (settled_reads s.context.spot hd.at.1)) hd.tie
   offered_keeps hd false = quiet (Begun Reset) Reset (ToldFlag false) hd refl refl refl refl refl refl refl hd.at.0 hd.at.1 hd.tie
 
   first_keeps : (c : CallKind) → HeardAs (Begun c) → Keeps (planned s (first_plan c)) h
-  first_keeps Connect hd = starts Connect (Own Connect) hd refl refl (hd.at.0, ap is_shaking hd.at.1, first_count st.newest st.older (hd.first (ap is_greeting hd.at.1)).0 (hd.first (ap is_greeting hd.at.1)).1) ((hd.first (ap is_greeting hd.at.1)).0, at_greeting s.context.spot h.calls st.newest.call st.older (ap is_greeting hd.at.1) hd.tie)
-  first_keeps Query hd = starts Query (Cleaning Query) hd refl refl (refl, hd.at.0, settled_not_greeting s.context.spot (settled_reads s.context.spot hd.at.1)) hd.tie
+  first_keeps Connect hd = starts Connect (Own Connect) hd refl tt (hd.at.0, ap is_shaking hd.at.1, first_count st.newest st.older (hd.first (ap is_greeting hd.at.1)).0 (hd.first (ap is_greeting hd.at.1)).1) (sym (hd.first (ap is_greeting hd.at.1)).0, inl (at_greeting s.context.spot h.calls st.newest.call st.older (ap is_greeting hd.at.1) hd.tie))
+  first_keeps Query hd = starts Query (Cleaning Query) hd refl (λ no. cc) (refl, hd.at.0, settled_not_greeting s.context.spot (settled_reads s.context.spot hd.at.1)) hd.tie
   first_keeps Prepare hd = looked_keeps hd (is_mixed_text (text_in s.call)) (held_in s.statements (query_of (text_in s.call)))
   first_keeps Execute hd = refused_or s h st open_still nothing op Execute (refusal Execute s.call) (record { seen = with_task s (Cleaning Execute) s.untold; does = Goes }) refl
-      (λ _. starts Execute (Cleaning Execute) hd refl refl (refl, hd.at.0, settled_not_greeting s.context.spot (settled_reads s.context.spot hd.at.1)) hd.tie)
+      (λ _. starts Execute (Cleaning Execute) hd refl (λ no. cc) (refl, hd.at.0, settled_not_greeting s.context.spot (settled_reads s.context.spot hd.at.1)) hd.tie)
   first_keeps Batch hd = batched_keeps hd (slice_get (lists_in s.call) 0) refl
   first_keeps CloseStmt hd = known_stands (with_task s (Cleaning CloseStmt) s.untold) h (without_statement (id_in s.call) s.statements)
-      (starts CloseStmt (Cleaning CloseStmt) hd refl refl (refl, hd.at.0, settled_not_greeting s.context.spot (settled_reads s.context.spot hd.at.1)) hd.tie)
-  first_keeps NextRow hd = starts NextRow Reading hd refl refl (hd.at.0, settled_reads s.context.spot hd.at.1) hd.tie
-  first_keeps DropResult hd = starts DropResult Dropping hd refl refl (hd.at.0, settled_reads s.context.spot hd.at.1) hd.tie
-  first_keeps TakeSet hd = starts TakeSet Taking hd refl refl (hd.at.0, settled_reads s.context.spot hd.at.1) hd.tie
-  first_keeps SkipTaken hd = starts SkipTaken Skipping hd refl refl hd.at hd.tie
-  first_keeps Ping hd = starts Ping (Cleaning Ping) hd refl refl (refl, hd.at.0, settled_not_greeting s.context.spot (settled_reads s.context.spot hd.at.1)) hd.tie
+      (starts CloseStmt (Cleaning CloseStmt) hd refl (λ no. cc) (refl, hd.at.0, settled_not_greeting s.context.spot (settled_reads s.context.spot hd.at.1)) hd.tie)
+  first_keeps NextRow hd = starts NextRow Reading hd refl tt (hd.at.0, settled_reads s.context.spot hd.at.1) hd.tie
+  first_keeps DropResult hd = starts DropResult Dropping hd refl tt (hd.at.0, settled_reads s.context.spot hd.at.1) hd.tie
+  first_keeps TakeSet hd = starts TakeSet Taking hd refl tt (hd.at.0, settled_reads s.context.spot hd.at.1) hd.tie
+  first_keeps SkipTaken hd = starts SkipTaken Skipping hd refl tt hd.at hd.tie
+  first_keeps Ping hd = starts Ping (Cleaning Ping) hd refl (λ no. cc) (refl, hd.at.0, settled_not_greeting s.context.spot (settled_reads s.context.spot hd.at.1)) hd.tie
   first_keeps Reset hd = offered_keeps hd (can_reset (version_of s.facts.version))
-  first_keeps Quit hd = starts Quit (Cleaning Quit) hd refl refl (refl, hd.at.0, settled_not_greeting s.context.spot (settled_reads s.context.spot hd.at.1)) hd.tie
+  first_keeps Begin hd = starts Begin (Cleaning Begin) hd refl (λ no. cc) (refl, hd.at.0, settled_not_greeting s.context.spot (settled_reads s.context.spot hd.at.1)) hd.tie
+  first_keeps Rollback hd = starts_at Rollback (Cleaning Rollback) txs.RequiresRollback hd refl (λ _. refl) (refl, hd.at.0, settled_not_greeting s.context.spot (settled_reads s.context.spot hd.at.1)) hd.tie
+  first_keeps ForgetTransaction hd = status_stands (with_task s Nothing s.untold) (answered h ToldReady) (given_up s.status) tt (quiet (Begun ForgetTransaction) ForgetTransaction ToldReady hd refl refl refl refl refl refl refl hd.at.0 hd.at.1 hd.tie)
+  first_keeps Quit hd = starts Quit (Cleaning Quit) hd refl (λ no. cc) (refl, hd.at.0, settled_not_greeting s.context.spot (settled_reads s.context.spot hd.at.1)) hd.tie
 
   -- the end of a lone OK is dropped
   hears : (t : Task) → s.task ≡ t → keeps t ≡ false → Keeps (planned s plans.Hears) h
@@ -242,6 +280,7 @@ module _ (s : Seen) (h : History) (st : Stands s h) (open_still : s.closed ≡ f
     arranged = st.arranged;
     ended_is = st.ended_is;
     settled = λ _. nothing;
+    cleans = none_untold s.task s.untold s.status st.cleans;
   }
 
   cleans : AreBytes s.unread → (t : Task) → s.task ≡ t → is_reader t ≡ false → keeps t ≡ false → (p : Plan) → (s.untold ≡ false → s.context.spot ≡ spots.Idle → Keeps (planned s p) h) → (spot : Spot) → s.context.spot ≡ spot → (untold : Bool) → s.untold ≡ untold → Keeps (planned s (clean_plan p spot untold)) h
@@ -278,11 +317,12 @@ module _ (s : Seen) (h : History) (st : Stands s h) (open_still : s.closed ≡ f
       fresh = λ _ _ _. ap Some (sym (first_groups s.untold (sets_of st.newest.talk) at.2));
       at = λ e. subst (λ b. cond (b || has_connected h.calls) (is_settled s.context.spot) (is_greeting s.context.spot) ≡ true) (sym con) (rest_at at.0 (ap is_settled rows) e);
       first = hd.first;
-      tie = own_after s.context.spot h.calls (record { call = call_of c s.call; what = ToldReady }) st.newest.call st.older (ap is_greeting rows) (sym hd.tie.0) hd.tie.1;
+      tie = owns_all s.context.spot h.calls (record { call = call_of c s.call; what = ToldReady }) (call_of c s.call) st.newest.call st.older (ap is_greeting rows) refl hd.tie;
     };
     arranged = arranged_more s.login (record { call = call_of c s.call; what = ToldReady }) h.calls st.newest st.older con st.arranged;
     ended_is = st.ended_is;
     settled = λ _. nothing;
+    cleans = tt;
   })
 
   -- so is an execution, whose columns are known then
@@ -290,8 +330,8 @@ module _ (s : Seen) (h : History) (st : Stands s h) (open_still : s.closed ≡ f
   learns hd rows = known_stands (with_task s Nothing s.untold) (answered h ToldReady) (with_columns (id_in (call_of Execute s.call)) s.facts.columns s.statements) (readied Execute hd hd.at (λ gs. refl) refl refl rows)
 
   -- the call goes on with another task, which keeps nothing for reads
-  goes_to : (t u : Task) → HeardAs t → kind_in u ≡ kind_in t → keeps u ≡ false → TaskIs u s.context.spot s.closed (has_connected h.calls) (connecting_in (st.newest ∷ st.older)) st.newest → TieIs u s.call s.context.spot h.calls st.newest.call st.older → Stands (with_task s u s.untold) h
-  goes_to t u hd same lost at tie = record {
+  goes_to : (t u : Task) (status : TxStatus) → HeardAs t → kind_in u ≡ kind_in t → keeps u ≡ false → TaskIs u s.context.spot s.closed (has_connected h.calls) (connecting_in (st.newest ∷ st.older)) st.newest → TieIs u s.call s.context.spot h.calls st.newest.call st.older → CleansAt u s.untold status → Stands (with_status (with_task s u s.untold) status) h
+  goes_to t u status hd same lost at tie clean = record {
     newest = st.newest;
     older = st.older;
     wire = st.wire;
@@ -311,16 +351,27 @@ module _ (s : Seen) (h : History) (st : Stands s h) (open_still : s.closed ≡ f
     arranged = st.arranged;
     ended_is = st.ended_is;
     settled = λ _. nothing;
+    cleans = clean;
   }
 
   -- the rows of an execution of a batch are read whole
   known_now : (n : ℕ) → s.task ≡ Running n → HeardAs (Running n) → Keeps (planned s (plans.Notes n)) h
   known_now n task hd = known_stands (with_task s (Finishing n) s.untold) h (with_columns (id_in (call_of Batch s.call)) s.facts.columns s.statements)
-      (goes_to (Running n) (Finishing n) hd refl refl (hd.at.0, heading_not_greeting s.context.spot hd.at.1) hd.tie)
+      (goes_to (Running n) (Finishing n) s.status hd refl refl (hd.at.0, heading_not_greeting s.context.spot hd.at.1) hd.tie tt)
 
   -- after a reset no statement is cached any more
   clears : HeardAs Clearing → Keeps (planned s plans.Clears) h
-  clears hd = known_stands (with_task s (Setting 0) s.untold) h (cleared s.statements) (goes_to Clearing (Setting 0) hd refl refl (hd.at.0, ap is_greeting hd.at.1) hd.tie)
+  clears hd = known_stands (with_task s (Asking Reset 0) s.untold) h (cleared s.statements) (goes_to Clearing (Asking Reset 0) s.status hd refl refl (refl, hd.at.0, ap is_greeting hd.at.1) hd.tie tt)
+
+  -- a transaction that was given up is rolled back, and then there is none
+  undone_keeps : (c : CallKind) → s.task ≡ Cleaning c → HeardAs (Cleaning c) → s.untold ≡ false → s.context.spot ≡ spots.Idle → (b : Bool) → is_given_up s.status ≡ b → Keeps (undone s c b) h
+  undone_keeps c task hd told idle true is = undoes_keep s h st open_still nothing op c hd idle
+  undone_keeps c task hd told idle false is =
+      let clean : CleansAt (Cleaning c) s.untold s.status = subst (λ (t : Task). CleansAt t s.untold s.status) task st.cleans in
+      goes_to (Cleaning c) (Cleaned c) s.status hd refl refl (hd.at.0, hd.at.1, idle) (inr (none_to_roll (is_rollback c) (is_given_up s.status) is clean, hd.tie)) told
+
+  settles_keep : (c : CallKind) → HeardAs (Undoing c) → s.untold ≡ false → s.context.spot ≡ spots.Idle → Keeps (planned s (plans.Settles c)) h
+  settles_keep c hd told idle = goes_to (Undoing c) (Cleaned c) (rolled_back s.status) hd refl refl (hd.at.0, hd.at.1, idle) (inl hd.tie) told
 
   runs : AreBytes s.unread → (n : ℕ) → s.task ≡ Running n → HeardAs (Running n) → (spot : Spot) → Keeps (planned s (run_plan n spot)) h
   runs bytes n task hd spots.Idle = reads bytes (not_reader (Running n) task refl)
@@ -358,11 +409,12 @@ module _ (s : Seen) (h : History) (st : Stands s h) (open_still : s.closed ≡ f
           fresh = λ _ _ left. let no : false ≡ true = sym (ap (λ b. b || is_left s.context.spot) told ∙ ap is_left idle) ∙ left in cc;
           at = rest_at hd.at.0 (ap is_settled idle);
           first = hd.first;
-          tie = own_after s.context.spot h.calls (record { call = call_of CloseStmt s.call; what = ToldReady }) st.newest.call st.older (ap is_greeting idle) (sym hd.tie.0) hd.tie.1;
+          tie = owns_all s.context.spot h.calls (record { call = call_of CloseStmt s.call; what = ToldReady }) (call_of CloseStmt s.call) st.newest.call st.older (ap is_greeting idle) refl hd.tie;
         };
         arranged = arranged_more s.login (record { call = call_of CloseStmt s.call; what = ToldReady }) h.calls st.newest st.older refl st.arranged;
         ended_is = st.ended_is;
         settled = λ _. nothing;
+        cleans = tt;
       })
 
   -- a statement that was prepared is kept
@@ -382,13 +434,14 @@ module _ (s : Seen) (h : History) (st : Stands s h) (open_still : s.closed ≡ f
       fresh = λ _ no _. cc;
       at = (hd.at.0, idle);
       first = hd.first;
-      tie = (sym hd.tie.0, inl hd.tie.1);
+      tie = hd.tie;
     };
     arranged = st.arranged;
     ended_is = st.ended_is;
     settled = λ no. cc;
+    cleans = tt;
   }
-  kept_keeps hd idle (Some id) = closes_keep (with_kept s) h (record { newest = st.newest; older = st.older; wire = st.wire; heard = st.heard; arranged = st.arranged; ended_is = st.ended_is; settled = st.settled }) open_still nothing op id hd idle
+  kept_keeps hd idle (Some id) = closes_keep (with_kept s) h (record { newest = st.newest; older = st.older; wire = st.wire; heard = st.heard; arranged = st.arranged; ended_is = st.ended_is; settled = st.settled; cleans = st.cleans }) open_still nothing op id hd idle
 
   -- and returned
   gives_it : HeardAs Giving → Keeps (planned s plans.Gives) h
@@ -415,6 +468,7 @@ module _ (s : Seen) (h : History) (st : Stands s h) (open_still : s.closed ≡ f
         arranged = arranged_more s.login (record { call = call_of Prepare s.call; what = prepared }) h.calls st.newest st.older refl st.arranged;
         ended_is = st.ended_is;
         settled = λ _. nothing;
+        cleans = tt;
       })
 
   queries : AreBytes s.unread → s.task ≡ Own Query → HeardAs (Own Query) → (spot : Spot) → s.context.spot ≡ spot → Keeps (planned s (query_plan spot)) h
@@ -478,11 +532,14 @@ module _ (s : Seen) (h : History) (st : Stands s h) (open_still : s.closed ≡ f
   owns bytes SkipTaken task hd = absurd hd.at
   owns bytes Ping task hd = reads bytes (not_reader (Own Ping) task refl)
   owns bytes Reset task hd = reads bytes (not_reader (Own Reset) task refl)
+  owns bytes Begin task hd = absurd hd.at
+  owns bytes Rollback task hd = absurd hd.at
+  owns bytes ForgetTransaction task hd = absurd hd.at
   owns bytes Quit task hd = falls s h ToldReady Quit (ap kind_in task) refl refl refl refl st
 
   -- the end of a lone OK is returned, or passed over
-  end_shown : (t u : Task) (c : CallKind) → HeardAs t → s.untold ≡ true → kind_in t ≡ Some c → keeps t ≡ true → closes ToldEnd (kind_of (call_of c s.call)) ≡ false → owes u ≡ owes u → has_connected h.calls ≡ true → IsTied h.calls (begun_of s.context.spot st.newest.call st.older) → TaskIs u s.context.spot s.closed (has_connected h.calls) (connecting_in (st.newest ∷ st.older)) (record { call = st.newest.call; talk = st.newest.talk; given = Some (groups (sets_of st.newest.talk)) }) → ((m : List Made) → IsTied m (begun_of s.context.spot st.newest.call st.older) → TieIs u s.call s.context.spot m st.newest.call st.older) → Stands (with_task s u false) (record { sent = h.sent; taken = h.taken; calls = record { call = call_of c s.call; what = ToldEnd } ∷ h.calls; pending = call_with (kind_in u) s.call; ended = h.ended; lost = h.lost })
-  end_shown t u c hd untold call kept still _ made tie at tied =
+  end_shown : (t u : Task) (c : CallKind) → HeardAs t → s.untold ≡ true → kind_in t ≡ Some c → keeps t ≡ true → closes ToldEnd (kind_of (call_of c s.call)) ≡ false → CleansAt u false s.status → has_connected h.calls ≡ true → IsTied h.calls (begun_of s.context.spot st.newest.call st.older) → TaskIs u s.context.spot s.closed (has_connected h.calls) (connecting_in (st.newest ∷ st.older)) (record { call = st.newest.call; talk = st.newest.talk; given = Some (groups (sets_of st.newest.talk)) }) → ((m : List Made) → IsTied m (begun_of s.context.spot st.newest.call st.older) → TieIs u s.call s.context.spot m st.newest.call st.older) → Stands (with_task s u false) (record { sent = h.sent; taken = h.taken; calls = record { call = call_of c s.call; what = ToldEnd } ∷ h.calls; pending = call_with (kind_in u) s.call; ended = h.ended; lost = h.lost })
+  end_shown t u c hd untold call kept still clean made tie at tied =
       let x = sets_of st.newest.talk in
       let now : st.newest.given ≡ Some (groups (known_part true x)) = subst (λ b. b || is_left s.context.spot ≡ true → st.newest.given ≡ Some (groups (known_part b x))) untold (hd.fresh open_still kept) refl in
       record {
@@ -505,6 +562,7 @@ module _ (s : Seen) (h : History) (st : Stands s h) (open_still : s.closed ≡ f
         arranged = arranged_more s.login (record { call = call_of c s.call; what = ToldEnd }) h.calls st.newest st.older refl st.arranged;
         ended_is = st.ended_is;
         settled = λ _. nothing;
+        cleans = clean;
       }
 
   -- where the end of a lone OK is still to be returned, the session rests
@@ -581,12 +639,12 @@ module _ (s : Seen) (h : History) (st : Stands s h) (open_still : s.closed ≡ f
 
   reading_plan : AreBytes s.unread → s.task ≡ Reading → HeardAs Reading → (untold : Bool) → s.untold ≡ untold → Keeps (planned s (cond untold plans.Ends (read_plan s.context.spot))) h
   reading_plan bytes task hd true e = answered_stands (with_task s Nothing false) h calls.NextRow ToldEnd hd.pending_is
-      (end_shown Reading Nothing NextRow hd e refl refl refl refl hd.at.0 hd.tie (rest_at hd.at.0 (lone_rests e st.heard)) (λ m t. t))
+      (end_shown Reading Nothing NextRow hd e refl refl refl tt hd.at.0 hd.tie (rest_at hd.at.0 (lone_rests e st.heard)) (λ m t. t))
   reading_plan bytes task hd false e = reads_rest bytes task hd e s.context.spot refl
 
   dropping_plan : AreBytes s.unread → s.task ≡ Dropping → HeardAs Dropping → (untold : Bool) → s.untold ≡ untold → Keeps (planned s (cond untold plans.Passes (drop_plan s.context.spot))) h
   dropping_plan bytes task hd true e = subst (λ (t : Task). Stands (with_task s t false) (noted h ToldEnd)) (sym task)
-      (noted_stands (with_task s Dropping false) h calls.DropResult ToldEnd hd.pending_is (end_shown Dropping Dropping DropResult hd e refl refl refl refl hd.at.0 hd.tie hd.at (λ m t. t)))
+      (noted_stands (with_task s Dropping false) h calls.DropResult ToldEnd hd.pending_is (end_shown Dropping Dropping DropResult hd e refl refl refl tt hd.at.0 hd.tie hd.at (λ m t. t)))
   dropping_plan bytes task hd false e = drops_rest bytes task hd e s.context.spot refl
 
   taking_plan : AreBytes s.unread → s.task ≡ Taking → HeardAs Taking → (untold : Bool) → s.untold ≡ untold → Keeps (planned s (cond untold plans.Takes (take_plan s.context.spot))) h
@@ -595,25 +653,27 @@ module _ (s : Seen) (h : History) (st : Stands s h) (open_still : s.closed ≡ f
 
   skipping_plan : AreBytes s.unread → s.task ≡ Skipping → HeardAs Skipping → (untold : Bool) → s.untold ≡ untold → Keeps (planned s (cond untold plans.Passes (skip_plan s.context.spot))) h
   skipping_plan bytes task hd true e = subst (λ (t : Task). Stands (with_task s t false) (noted h ToldEnd)) (sym task)
-      (noted_stands (with_task s Skipping false) h calls.SkipTaken ToldEnd hd.pending_is (end_shown Skipping Skipping SkipTaken hd e refl refl refl refl hd.at.0 hd.tie hd.at (λ m t. t)))
+      (noted_stands (with_task s Skipping false) h calls.SkipTaken ToldEnd hd.pending_is (end_shown Skipping Skipping SkipTaken hd e refl refl refl tt hd.at.0 hd.tie hd.at (λ m t. t)))
   skipping_plan bytes task hd false e = skips_rest bytes task hd e s.context.spot refl
 
   plan_keeps : AreBytes s.unread → fault_in s.task ≡ None → (t : Task) → s.task ≡ t → HeardAs t → Keeps (planned s (plan_of t s.context.spot s.untold)) h
   plan_keeps bytes sound Nothing task hd = let no : false ≡ true = sym (ap is_open task) ∙ op in cc
   plan_keeps bytes sound (Begun c) task hd = first_keeps c hd
-  plan_keeps bytes sound (Cleaning c) task hd = cleans bytes (Cleaning c) task refl refl (ask_plan c) (asks_keep s h st open_still nothing op c hd) s.context.spot refl s.untold refl
+  plan_keeps bytes sound (Cleaning c) task hd = cleans bytes (Cleaning c) task refl refl (plans.Undoes c) (λ told idle. undone_keeps c task hd told idle (is_given_up s.status) refl) s.context.spot refl s.untold refl
+  plan_keeps bytes sound (Undoing c) task hd = cleans bytes (Undoing c) task refl refl (plans.Settles c) (settles_keep c hd) s.context.spot refl s.untold refl
+  plan_keeps bytes sound (Cleaned c) task hd = asks_keep s h st open_still nothing op c hd (subst (λ (t : Task). CleansAt t s.untold s.status) task st.cleans)
   plan_keeps bytes sound (Own c) task hd = owns bytes c task hd
   plan_keeps bytes sound Giving task hd = gives_it hd
   plan_keeps bytes sound (Arranging n) task hd = cleans bytes (Arranging n) task refl refl (plans.Arranges n) (arranges_keep s h st open_still nothing op n hd) s.context.spot refl s.untold refl
   plan_keeps bytes sound (Running n) task hd = runs bytes n task hd s.context.spot
   plan_keeps bytes sound (Finishing n) task hd = cleans bytes (Finishing n) task refl refl (plans.Runs n) (runs_keep s h st open_still nothing op n hd) s.context.spot refl s.untold refl
   plan_keeps bytes sound Clearing task hd = clears hd
-  plan_keeps bytes sound (Setting n) task hd = cleans bytes (Setting n) task refl refl (plans.Sets n) (sets_keep s h st open_still nothing op n hd) s.context.spot refl s.untold refl
+  plan_keeps bytes sound (Asking c n) task hd = cleans bytes (Asking c n) task refl refl (plans.Queries c n) (queries_keep s h st open_still nothing op c n hd) s.context.spot refl s.untold refl
   plan_keeps bytes sound Reading task hd = reading_plan bytes task hd s.untold refl
   plan_keeps bytes sound Dropping task hd = dropping_plan bytes task hd s.untold refl
   plan_keeps bytes sound Taking task hd = taking_plan bytes task hd s.untold refl
   plan_keeps bytes sound Skipping task hd = skipping_plan bytes task hd s.untold refl
-  plan_keeps bytes sound Leaving task hd = falls s h ToldReady Quit (ap kind_in task) refl refl refl refl st
+  plan_keeps bytes sound (Leaving c) task hd = let no : true ≡ false = sym hd.at.0 ∙ open_still in cc
   plan_keeps bytes sound (Failing c fault) task hd = let no : Some fault ≡ None = sym (ap fault_in task) ∙ sound in cc
 
 module _ (s : Seen) (h : History) (st : Stands s h) (bytes : AreBytes s.unread) (op : is_open s.task ≡ true) where
@@ -622,32 +682,65 @@ module _ (s : Seen) (h : History) (st : Stands s h) (bytes : AreBytes s.unread) 
   open_keeps alive sound [] e = plan_keeps s h st alive e op bytes sound s.task refl st.heard
   open_keeps alive sound (b ∷ more) e = st
 
-  -- a quit on a closed session, which owes nothing
-  leaving_keeps : s.task ≡ Leaving → (owed : List ℕ) → s.owed ≡ owed → Keeps (when_owed owed s) h
-  leaving_keeps task [] e = subst (λ (t : Task). Keeps (planned s (plan_of t s.context.spot s.untold)) h) (sym task) (falls s h ToldReady Quit (ap kind_in task) refl refl refl refl st)
-  leaving_keeps task (b ∷ more) e = st
+  -- a transaction is forgotten on a closed session
+  forgets_closed : s.task ≡ Leaving ForgetTransaction → s.owed ≡ [] → s.closed ≡ true → Keeps (planned s plans.Readies) h
+  forgets_closed task nothing shut =
+      let hd = st.heard in
+      answered_stands (with_task s Nothing s.untold) h calls.ForgetTransaction ToldReady (hd.pending_is ∙ ap (λ (t : Task). call_with (kind_in t) s.call) task) (record {
+        newest = st.newest;
+        older = st.older;
+        wire = st.wire;
+        heard = record {
+          pending_is = refl;
+          closed_is = hd.closed_is;
+          alive = λ no. cc;
+          given_is = hd.given_is;
+          errors = hd.errors;
+          each = hd.each;
+          lone = hd.lone;
+          fresh = λ alive _ _. let no : true ≡ false = sym shut ∙ alive in cc;
+          at = λ alive. let no : true ≡ false = sym shut ∙ alive in cc;
+          first = hd.first;
+          tie = closed_tie s.task ForgetTransaction s.call s.context.spot h.calls st.newest.call st.older (record { call = calls.ForgetTransaction; what = ToldReady }) (ap kind_in task) refl refl hd.tie;
+        };
+        arranged = arranged_more s.login (record { call = calls.ForgetTransaction; what = ToldReady }) h.calls st.newest st.older refl st.arranged;
+        ended_is = st.ended_is;
+        settled = λ _. nothing;
+        cleans = tt;
+      })
 
-  alive_or : (t : Task) → s.task ≡ t → fault_in t ≡ None → (s.closed ≡ false) ⊎ (s.task ≡ Leaving)
+  -- a call that has nothing to do there
+  leaving_keeps : (c : CallKind) → s.task ≡ Leaving c → (owed : List ℕ) → s.owed ≡ owed → Keeps (when_owed owed s) h
+  leaving_keeps c task [] e =
+      let at : TaskIs (Leaving c) s.context.spot s.closed (has_connected h.calls) (connecting_in (st.newest ∷ st.older)) st.newest = subst (λ (t : Task). TaskIs t s.context.spot s.closed (has_connected h.calls) (connecting_in (st.newest ∷ st.older)) st.newest) task st.heard.at in
+      subst (λ (t : Task). Keeps (planned s (plan_of t s.context.spot s.untold)) h) (sym task)
+      (of_unrefused (λ x. s.task ≡ Leaving x → Keeps (planned s (leave_plan x)) h)
+      (λ t. forgets_closed t e at.0) (λ t. falls s h ToldReady Quit (ap kind_in t) refl refl refl refl st) c at.1 task)
+  leaving_keeps c task (b ∷ more) e = st
+
+  alive_or : (t : Task) → s.task ≡ t → fault_in t ≡ None → (s.closed ≡ false) ⊎ ((c : CallKind) × (s.task ≡ Leaving c))
   alive_or Nothing task sound = let no : false ≡ true = sym (ap is_open task) ∙ op in cc
   alive_or (Begun c) task sound = inl (st.heard.alive (ap is_alive task))
   alive_or (Cleaning c) task sound = inl (st.heard.alive (ap is_alive task))
+  alive_or (Undoing c) task sound = inl (st.heard.alive (ap is_alive task))
+  alive_or (Cleaned c) task sound = inl (st.heard.alive (ap is_alive task))
   alive_or (Own c) task sound = inl (st.heard.alive (ap is_alive task))
   alive_or Giving task sound = inl (st.heard.alive (ap is_alive task))
   alive_or (Arranging n) task sound = inl (st.heard.alive (ap is_alive task))
   alive_or (Running n) task sound = inl (st.heard.alive (ap is_alive task))
   alive_or (Finishing n) task sound = inl (st.heard.alive (ap is_alive task))
   alive_or Clearing task sound = inl (st.heard.alive (ap is_alive task))
-  alive_or (Setting n) task sound = inl (st.heard.alive (ap is_alive task))
+  alive_or (Asking c n) task sound = inl (st.heard.alive (ap is_alive task))
   alive_or Reading task sound = inl (st.heard.alive (ap is_alive task))
   alive_or Dropping task sound = inl (st.heard.alive (ap is_alive task))
   alive_or Taking task sound = inl (st.heard.alive (ap is_alive task))
   alive_or Skipping task sound = inl (st.heard.alive (ap is_alive task))
-  alive_or Leaving task sound = inr task
+  alive_or (Leaving c) task sound = inr (c, task)
   alive_or (Failing c fault) task sound = cc
 
   by_fault : (fault : Option LinkFault) → fault_in s.task ≡ fault → Keeps (next_by fault s) h
   by_fault (Some fault) e = fell_stands s h (link_error fault s.facts.place) (link_closes fault s.facts.place) op st
-  by_fault None e = elim (alive_or s.task refl e) as (λ _. Keeps (when_owed s.owed s) h) [ inl alive ↦ open_keeps alive e s.owed refl | inr task ↦ leaving_keeps task s.owed refl ]
+  by_fault None e = elim (alive_or s.task refl e) as (λ _. Keeps (when_owed s.owed s) h) [ inl alive ↦ open_keeps alive e s.owed refl | inr w ↦ leaving_keeps w.0 w.1 s.owed refl ]
 
 -- Each move of an open call keeps the relation to histories.
 pub next_keeps : (s : Seen) (h : History) → AreBytes s.unread → is_open s.task ≡ true → Stands s h → Keeps (next s) h

@@ -32,11 +32,11 @@ use Rattle.my_session.specs.Machine.{fell, with_task, advanced, reply_to, reply_
 use Rattle.my_reading.specs.Rows.{row_at}
 use Rattle.my_session.specs.Seen.{Seen}
 use Rattle.my_session.specs.ServerErrors.{errors_in, errors_of, errors_told, with_error, with_told}
-use Rattle.my_session.specs.Stands.{Stands, Heard, TaskIs, TieIs, IsArranged, call_with, is_first, is_left, is_reading, keeps, known_part, owes, begun_of}
+use Rattle.my_session.specs.Stands.{Stands, Heard, TaskIs, TieIs, IsArranged, CleansAt, call_with, is_first, is_left, is_reading, keeps, known_part, owes, begun_of}
 use Rattle.my_session.specs.Steps.{is_settled}
 use Rattle.my_session.proofs.Stands.Blames.{is_failed, calm_blames}
 use Rattle.my_session.proofs.Stands.Spots.{is_known, known, row_spot, end_spot, good_spot, failed_idle, settled_more, reading_after, left_here, not_greeting, settled_not_greeting}
-use Rattle.my_session.proofs.Stands.Ties.{answered_stands, kind_there_is, closed_tie, own_after, quiet_more, all_begun, none_waits, arranged_more, arranged_fell}
+use Rattle.my_session.proofs.Stands.Ties.{answered_stands, kind_there_is, closed_tie, owns_all, quiet_more, all_begun, none_waits, arranged_more, arranged_fell}
 use Rattle.my_session.proofs.Stands.Firsts.{given_first, first_on, is_queried, IsReady, ready_on, query_talk, execute_talk}
 use Rattle.my_session.proofs.Stands.Views.{given_on, given_all, is_part, part_groups, end_groups, good_groups, lone_further, known_further, row_groups}
 use Rattle.my_session.proofs.Stands.Wired.{wire_read, wire_fell, talk_grows, silent}
@@ -65,6 +65,7 @@ falls s h t c call fatal lack none silent st =
       arranged = arranged_fell s.login (record { call = call_of c s.call; what = t }) h.calls st.newest st.older fatal st.arranged;
       ended_is = st.ended_is;
       settled = λ _. refl;
+      cleans = tt;
     })
 
 -- what closes a session whatever the call is no server's error
@@ -129,8 +130,8 @@ module _ (s : Seen) (h : History) (st : Stands s h) (open_still : s.closed ≡ f
   arranged_on k g made e good quiet a = λ m. ((a m).0, λ _. answers k e good (quiet m))
 
   -- the wire goes on, and this is what callers got
-  lands : (k : Kind) (u : Task) (untold : Bool) (g : Option (List Group)) (made : List Made) (pending : Option Call) → kind_there s.context s.facts.columns p ≡ k → is_bad k ≡ false → Heard u s.call (spot_by k) untold s.closed h.lost made pending (newest_by k g) st.older → IsArranged s.login made (newest_by k g) st.older → (owes u ≡ false → not_greets k ≡ true) → Stands (with_task (advanced s k p rest next) u untold) (record { sent = h.sent; taken = h.taken; calls = made; pending = pending; ended = h.ended; lost = h.lost })
-  lands k u untold g made pending e good hd arr quiet = record {
+  lands : (k : Kind) (u : Task) (untold : Bool) (g : Option (List Group)) (made : List Made) (pending : Option Call) → kind_there s.context s.facts.columns p ≡ k → is_bad k ≡ false → Heard u s.call (spot_by k) untold s.closed h.lost made pending (newest_by k g) st.older → IsArranged s.login made (newest_by k g) st.older → (owes u ≡ false → not_greets k ≡ true) → CleansAt u untold s.status → Stands (with_task (advanced s k p rest next) u untold) (record { sent = h.sent; taken = h.taken; calls = made; pending = pending; ended = h.ended; lost = h.lost })
+  lands k u untold g made pending e good hd arr quiet clean = record {
     newest = newest_by k g;
     older = st.older;
     wire = wire_read s.login h.taken h.sent st.newest.call st.newest.talk st.older s.context s.number s.unread s.owed s.closed s.facts k p rest next open_still nothing e good whole st.wire;
@@ -138,14 +139,15 @@ module _ (s : Seen) (h : History) (st : Stands s h) (open_still : s.closed ≡ f
     arranged = arr;
     ended_is = st.ended_is;
     settled = λ o. none_owed k (quiet o);
+    cleans = clean;
   }
 
   no_greeting : (k : Kind) {A : Type 0} → is_greeting (spot_by k) ≡ true → A
   no_greeting k waits = let stop : true ≡ false = sym waits ∙ not_greeting s.context.spot (deprecates_eof s.context.terms.kept) k in cc
 
   -- the call goes on, and callers are given nothing
-  pub goes : (t u : Task) (k : Kind) → kind_there s.context s.facts.columns p ≡ k → is_bad k ≡ false → is_failed k ≡ false → keeps u ≡ false → kind_in u ≡ kind_in t → Heard t s.call s.context.spot s.untold s.closed h.lost h.calls h.pending st.newest st.older → TaskIs u (spot_by k) s.closed (has_connected h.calls) (connecting_in (st.newest ∷ st.older)) (newest_by k st.newest.given) → TieIs u s.call (spot_by k) h.calls st.newest.call st.older → (has_connected h.calls ≡ true → not_greets k ≡ true) → (owes u ≡ false → not_greets k ≡ true) → Stands (with_task (advanced s k p rest next) u false) h
-  goes t u k e good calm lost same hd at tie greeted quiet = lands k u false st.newest.given h.calls h.pending e good (record {
+  pub goes : (t u : Task) (k : Kind) → kind_there s.context s.facts.columns p ≡ k → is_bad k ≡ false → is_failed k ≡ false → keeps u ≡ false → kind_in u ≡ kind_in t → Heard t s.call s.context.spot s.untold s.closed h.lost h.calls h.pending st.newest st.older → TaskIs u (spot_by k) s.closed (has_connected h.calls) (connecting_in (st.newest ∷ st.older)) (newest_by k st.newest.given) → TieIs u s.call (spot_by k) h.calls st.newest.call st.older → (has_connected h.calls ≡ true → not_greets k ≡ true) → (owes u ≡ false → not_greets k ≡ true) → CleansAt u false s.status → Stands (with_task (advanced s k p rest next) u false) h
+  goes t u k e good calm lost same hd at tie greeted quiet clean = lands k u false st.newest.given h.calls h.pending e good (record {
     pending_is = hd.pending_is ∙ ap (λ c. call_with c s.call) (sym same);
     closed_is = hd.closed_is;
     alive = λ _. open_still;
@@ -157,7 +159,7 @@ module _ (s : Seen) (h : History) (st : Stands s h) (open_still : s.closed ≡ f
     at = at;
     first = λ no. no_greeting k no;
     tie = tie;
-  }) (arranged_on k st.newest.given h.calls e good greeted st.arranged) quiet
+  }) (arranged_on k st.newest.given h.calls e good greeted st.arranged) quiet clean
 
   -- a server's error ends the call
   pub refuses : (t : Task) (c : CallKind) (x : ServerError) → kind_there s.context s.facts.columns p ≡ Failed → x ∷ errors_in st.newest.talk ≡ errors_in (grow Failed st.newest.talk p) → kind_in t ≡ Some c → is_connect (kind_of (call_of c s.call)) ≡ false → has_connected h.calls ≡ true → Heard t s.call s.context.spot s.untold s.closed h.lost h.calls h.pending st.newest st.older → IsTied (record { call = call_of c s.call; what = ToldError (errors.Server x) } ∷ h.calls) (begun_of (spot_by Failed) st.newest.call st.older) → Stands (with_task (advanced s Failed p rest next) tasks.Nothing false) (answered h (ToldError (errors.Server x)))
@@ -175,7 +177,7 @@ module _ (s : Seen) (h : History) (st : Stands s h) (open_still : s.closed ≡ f
         at = λ _. subst (λ b. cond b (is_settled (spot_by Failed)) (is_greeting (spot_by Failed)) ≡ true) (sym made) (ap is_settled idle);
         first = λ no. no_greeting Failed no;
         tie = tie;
-      }) (arranged_on Failed st.newest.given (record { call = call_of c s.call; what = ToldError (errors.Server x) } ∷ h.calls) e refl (λ _. refl) (arranged_more s.login (record { call = call_of c s.call; what = ToldError (errors.Server x) }) h.calls st.newest st.older refl st.arranged)) (λ _. refl))
+      }) (arranged_on Failed st.newest.given (record { call = call_of c s.call; what = ToldError (errors.Server x) } ∷ h.calls) e refl (λ _. refl) (arranged_more s.login (record { call = call_of c s.call; what = ToldError (errors.Server x) }) h.calls st.newest st.older refl st.arranged)) (λ _. refl) tt)
 
   -- while it isn't connected, it closes the session
   pub refuses_connect : (t : Task) (x : ServerError) → kind_there s.context s.facts.columns p ≡ Failed → x ∷ errors_in st.newest.talk ≡ errors_in (grow Failed st.newest.talk p) → kind_in t ≡ Some Connect → Heard t s.call s.context.spot s.untold s.closed h.lost h.calls h.pending st.newest st.older → IsTied (record { call = call_of Connect s.call; what = ToldError (errors.Server x) } ∷ h.calls) (begun_of (spot_by Failed) st.newest.call st.older) → Stands (fell (advanced s Failed p rest next)) (answered h (ToldError (errors.Server x)))
@@ -199,6 +201,7 @@ module _ (s : Seen) (h : History) (st : Stands s h) (open_still : s.closed ≡ f
     arranged = arranged_on Failed st.newest.given (record { call = call_of Connect s.call; what = ToldError (errors.Server x) } ∷ h.calls) e refl (λ _. refl) (arranged_fell s.login (record { call = call_of Connect s.call; what = ToldError (errors.Server x) }) h.calls st.newest st.older refl st.arranged);
     ended_is = st.ended_is;
     settled = λ _. refl;
+    cleans = tt;
   })
 
   -- a ping is answered: callers are given nothing
@@ -216,14 +219,14 @@ module _ (s : Seen) (h : History) (st : Stands s h) (open_still : s.closed ≡ f
         fresh = λ _ _ left. let no : is_left spots.Idle ≡ true = subst (λ (x : Spot). is_left x ≡ true) idle left in cc;
         at = λ _. subst (λ b. cond b (is_settled (spot_by (Good status))) (is_greeting (spot_by (Good status))) ≡ true) (sym hd.at.0) (ap is_settled idle);
         first = λ no. no_greeting (Good status) no;
-        tie = own_after (spot_by (Good status)) h.calls (record { call = call_of Ping s.call; what = ToldReady }) st.newest.call st.older (not_greeting s.context.spot (deprecates_eof s.context.terms.kept) (Good status)) (sym hd.tie.0) hd.tie.1;
-      }) (arranged_on (Good status) st.newest.given (record { call = call_of Ping s.call; what = ToldReady } ∷ h.calls) e refl (λ _. refl) (arranged_more s.login (record { call = call_of Ping s.call; what = ToldReady }) h.calls st.newest st.older refl st.arranged)) (λ _. refl))
+        tie = owns_all (spot_by (Good status)) h.calls (record { call = call_of Ping s.call; what = ToldReady }) (call_of Ping s.call) st.newest.call st.older (not_greeting s.context.spot (deprecates_eof s.context.terms.kept) (Good status)) refl hd.tie;
+      }) (arranged_on (Good status) st.newest.given (record { call = call_of Ping s.call; what = ToldReady } ∷ h.calls) e refl (λ _. refl) (arranged_more s.login (record { call = call_of Ping s.call; what = ToldReady }) h.calls st.newest st.older refl st.arranged)) (λ _. refl) tt)
 
   pub is_query : Heard (tasks.Own Query) s.call s.context.spot s.untold s.closed h.lost h.calls h.pending st.newest st.older → is_queried st.newest.talk ≡ true
-  is_query hd = query_talk s.login (terms_by s.login st.older) (connecting_in st.older) (text_in s.call) st.newest.talk (subst (λ (c : Call). Opens s.login (terms_by s.login st.older) c (connecting_in st.older) (origin st.newest.talk)) hd.tie.0 st.wire.table.0)
+  is_query hd = query_talk s.login (terms_by s.login st.older) (connecting_in st.older) (text_in s.call) st.newest.talk (subst (λ (c : Call). Opens s.login (terms_by s.login st.older) c (connecting_in st.older) (origin st.newest.talk)) (sym hd.tie.0) st.wire.table.0)
 
   pub is_execution : Heard (tasks.Own Execute) s.call s.context.spot s.untold s.closed h.lost h.calls h.pending st.newest st.older → is_queried st.newest.talk ≡ true
-  is_execution hd = execute_talk s.login (terms_by s.login st.older) (connecting_in st.older) (statement_in s.call) (params_in s.call) st.newest.talk (subst (λ (c : Call). Opens s.login (terms_by s.login st.older) c (connecting_in st.older) (origin st.newest.talk)) hd.tie.0 st.wire.table.0)
+  is_execution hd = execute_talk s.login (terms_by s.login st.older) (connecting_in st.older) (statement_in s.call) (params_in s.call) st.newest.talk (subst (λ (c : Call). Opens s.login (terms_by s.login st.older) c (connecting_in st.older) (origin st.newest.talk)) (sym hd.tie.0) st.wire.table.0)
 
   -- a call whose own exchange has sets
   module _ (c : CallKind) (hd : Heard (tasks.Own c) s.call s.context.spot s.untold s.closed h.lost h.calls h.pending st.newest st.older) (at : (has_connected h.calls ≡ true) × (st.newest.given ≡ None) × (is_first (sets_of st.newest.talk) ≡ true)) (queried : is_queried st.newest.talk ≡ true) where
@@ -244,13 +247,13 @@ module _ (s : Seen) (h : History) (st : Stands s h) (open_still : s.closed ≡ f
           fresh = λ _ _ _. ap Some (sym ready.none);
           at = λ _. subst (λ b. cond (b || has_connected h.calls) (is_settled (spot_by (Good status))) (is_greeting (spot_by (Good status))) ≡ true) (sym con) (subst (λ b. cond b (is_settled (spot_by (Good status))) (is_greeting (spot_by (Good status))) ≡ true) (sym at.0) settled_here);
           first = λ no. no_greeting (Good status) no;
-          tie = own_after (spot_by (Good status)) h.calls (record { call = call_of c s.call; what = ToldReady }) st.newest.call st.older (not_greeting s.context.spot (deprecates_eof s.context.terms.kept) (Good status)) (sym hd.tie.0) hd.tie.1;
-        }) (arranged_on (Good status) (Some []) (record { call = call_of c s.call; what = ToldReady } ∷ h.calls) e refl (λ _. refl) (arranged_more s.login (record { call = call_of c s.call; what = ToldReady }) h.calls st.newest st.older con st.arranged)) (λ _. refl))
+          tie = owns_all (spot_by (Good status)) h.calls (record { call = call_of c s.call; what = ToldReady }) (call_of c s.call) st.newest.call st.older (not_greeting s.context.spot (deprecates_eof s.context.terms.kept) (Good status)) refl hd.tie;
+        }) (arranged_on (Good status) (Some []) (record { call = call_of c s.call; what = ToldReady } ∷ h.calls) e refl (λ _. refl) (arranged_more s.login (record { call = call_of c s.call; what = ToldReady }) h.calls st.newest st.older con st.arranged)) (λ _. refl) tt)
 
     -- a part of the first head of its answer
     pub first_parts : (k : Kind) → kind_there s.context s.facts.columns p ≡ k → is_part k ≡ true → is_bad k ≡ false → not_greets k ≡ true → (is_first (sets_of (grow k st.newest.talk p)) ≡ true → TaskIs (tasks.Own c) (spot_by k) s.closed (has_connected h.calls) (connecting_in (st.newest ∷ st.older)) (newest_by k st.newest.given)) → Stands (with_task (advanced s k p rest next) (tasks.Own c) false) h
     first_parts k e part good quiet own =
-        goes (tasks.Own c) (tasks.Own c) k e good (part_calm k part) refl refl hd (own (first_on k st.newest.talk p queried at.2 (talk_knows k e) part)) hd.tie (λ _. quiet) (λ _. quiet)
+        goes (tasks.Own c) (tasks.Own c) k e good (part_calm k part) refl refl hd (own (first_on k st.newest.talk p queried at.2 (talk_knows k e) part)) hd.tie (λ _. quiet) (λ _. quiet) tt
 
 -- a task that reads what is left: it reads, or passes over
 module _ (s : Seen) (h : History) (st : Stands s h) (open_still : s.closed ≡ false) (nothing : s.owed ≡ []) (told : s.untold ≡ false) (p rest : List ℕ) (next : ℕ) (whole : IsWhole s.number s.context.terms.limit s.unread p rest next) (t : Task) (c : CallKind) (call : kind_in t ≡ Some c) (kept : keeps t ≡ true) (reads : is_reading s.context.spot ≡ true) (made : has_connected h.calls ≡ true) (hd : Heard t s.call s.context.spot s.untold s.closed h.lost h.calls h.pending st.newest st.older) (tied : IsTied h.calls (begun_of s.context.spot st.newest.call st.older)) where
@@ -275,8 +278,8 @@ module _ (s : Seen) (h : History) (st : Stands s h) (open_still : s.closed ≡ f
   tied_now = all_begun s.context.spot h.calls st.newest.call st.older (settled_not_greeting s.context.spot reads) tied
 
   -- an item or an end is returned, or passed over
-  pub shows : (u : Task) (k : Kind) (w : Told) → kind_there s.context s.facts.columns p ≡ k → is_bad k ≡ false → owes u ≡ false → not_greets k ≡ true → closes w (kind_of (call_of c s.call)) ≡ false → may_lack w (call_of c s.call) ≡ true → is_failed k ≡ false → with_told w (errors_told h.calls) ≡ errors_told h.calls → connects w (kind_of (call_of c s.call)) || has_connected h.calls ≡ true → given_after w (kind_of (call_of c s.call)) (groups (sets_of st.newest.talk) ∷ givens st.older) ≡ groups (sets_of (grow k st.newest.talk p)) ∷ givens st.older → ((m : List Made) → has_connected m ≡ true → TaskIs u (spot_by s h st open_still nothing p rest next whole k) s.closed (has_connected m) (connecting_in (st.newest ∷ st.older)) (newest_by s h st open_still nothing p rest next whole k (Some (groups (sets_of (grow k st.newest.talk p)))))) → ((m : List Made) → IsTied m (begun_of (spot_by s h st open_still nothing p rest next whole k) st.newest.call st.older) → TieIs u s.call (spot_by s h st open_still nothing p rest next whole k) m st.newest.call st.older) → Stands (with_task (advanced s k p rest next) u false) (record { sent = h.sent; taken = h.taken; calls = record { call = call_of c s.call; what = w } ∷ h.calls; pending = call_with (kind_in u) s.call; ended = h.ended; lost = h.lost })
-  shows u k w e good owe quiet still lack calm silent con gave at tie = lands s h st open_still nothing p rest next whole k u false (Some (groups (sets_of (grow k st.newest.talk p)))) _ (call_with (kind_in u) s.call) e good (record {
+  pub shows : (u : Task) (k : Kind) (w : Told) → kind_there s.context s.facts.columns p ≡ k → is_bad k ≡ false → owes u ≡ false → not_greets k ≡ true → closes w (kind_of (call_of c s.call)) ≡ false → may_lack w (call_of c s.call) ≡ true → is_failed k ≡ false → with_told w (errors_told h.calls) ≡ errors_told h.calls → connects w (kind_of (call_of c s.call)) || has_connected h.calls ≡ true → given_after w (kind_of (call_of c s.call)) (groups (sets_of st.newest.talk) ∷ givens st.older) ≡ groups (sets_of (grow k st.newest.talk p)) ∷ givens st.older → ((m : List Made) → has_connected m ≡ true → TaskIs u (spot_by s h st open_still nothing p rest next whole k) s.closed (has_connected m) (connecting_in (st.newest ∷ st.older)) (newest_by s h st open_still nothing p rest next whole k (Some (groups (sets_of (grow k st.newest.talk p)))))) → ((m : List Made) → IsTied m (begun_of (spot_by s h st open_still nothing p rest next whole k) st.newest.call st.older) → TieIs u s.call (spot_by s h st open_still nothing p rest next whole k) m st.newest.call st.older) → CleansAt u false s.status → Stands (with_task (advanced s k p rest next) u false) (record { sent = h.sent; taken = h.taken; calls = record { call = call_of c s.call; what = w } ∷ h.calls; pending = call_with (kind_in u) s.call; ended = h.ended; lost = h.lost })
+  shows u k w e good owe quiet still lack calm silent con gave at tie clean = lands s h st open_still nothing p rest next whole k u false (Some (groups (sets_of (grow k st.newest.talk p)))) _ (call_with (kind_in u) s.call) e good (record {
     pending_is = refl;
     closed_is = hd.closed_is ∙ ap (λ b. (b || has_closed h.calls) || h.lost) (sym still);
     alive = λ _. open_still;
@@ -288,11 +291,11 @@ module _ (s : Seen) (h : History) (st : Stands s h) (open_still : s.closed ≡ f
     at = at (record { call = call_of c s.call; what = w } ∷ h.calls) con;
     first = λ waits. no_greeting s h st open_still nothing p rest next whole k waits;
     tie = tie (record { call = call_of c s.call; what = w } ∷ h.calls) (tied_on k (record { call = call_of c s.call; what = w } ∷ h.calls) (quiet_more (record { call = call_of c s.call; what = w }) h.calls (st.newest.call ∷ calls_in st.older) lack tied_now));
-  }) (arranged_on s h st open_still nothing p rest next whole k (Some (groups (sets_of (grow k st.newest.talk p)))) (record { call = call_of c s.call; what = w } ∷ h.calls) e good (λ _. quiet) (λ _. st.arranged made)) (λ _. quiet)
+  }) (arranged_on s h st open_still nothing p rest next whole k (Some (groups (sets_of (grow k st.newest.talk p)))) (record { call = call_of c s.call; what = w } ∷ h.calls) e good (λ _. quiet) (λ _. st.arranged made)) (λ _. quiet) clean
 
   -- a part of the head of a further set
-  pub heads : (k : Kind) → kind_there s.context s.facts.columns p ≡ k → is_part k ≡ true → is_bad k ≡ false → not_greets k ≡ true → owes t ≡ false → TaskIs t (spot_by s h st open_still nothing p rest next whole k) s.closed (has_connected h.calls) (connecting_in (st.newest ∷ st.older)) (newest_by s h st open_still nothing p rest next whole k st.newest.given) → TieIs t s.call (spot_by s h st open_still nothing p rest next whole k) h.calls st.newest.call st.older → Stands (with_task (advanced s k p rest next) t false) h
-  heads k e part good quiet owe at tie = lands s h st open_still nothing p rest next whole k t false st.newest.given h.calls h.pending e good (record {
+  pub heads : (k : Kind) → kind_there s.context s.facts.columns p ≡ k → is_part k ≡ true → is_bad k ≡ false → not_greets k ≡ true → owes t ≡ false → TaskIs t (spot_by s h st open_still nothing p rest next whole k) s.closed (has_connected h.calls) (connecting_in (st.newest ∷ st.older)) (newest_by s h st open_still nothing p rest next whole k st.newest.given) → TieIs t s.call (spot_by s h st open_still nothing p rest next whole k) h.calls st.newest.call st.older → CleansAt t false s.status → Stands (with_task (advanced s k p rest next) t false) h
+  heads k e part good quiet owe at tie clean = lands s h st open_still nothing p rest next whole k t false st.newest.given h.calls h.pending e good (record {
     pending_is = hd.pending_is;
     closed_is = hd.closed_is;
     alive = hd.alive;
@@ -304,7 +307,7 @@ module _ (s : Seen) (h : History) (st : Stands s h) (open_still : s.closed ≡ f
     at = at;
     first = λ waits. no_greeting s h st open_still nothing p rest next whole k waits;
     tie = tie;
-  }) (arranged_on s h st open_still nothing p rest next whole k st.newest.given h.calls e good (λ _. quiet) st.arranged) (λ _. quiet)
+  }) (arranged_on s h st open_still nothing p rest next whole k st.newest.given h.calls e good (λ _. quiet) st.arranged) (λ _. quiet) clean
 
   talk_spot : (x : Spot) → s.context.spot ≡ x → (context_of st.newest.talk).spot ≡ x
   talk_spot x e = sym (ap (λ (y : Context). y.spot) st.wire.context_is) ∙ e
@@ -335,4 +338,4 @@ module _ (s : Seen) (h : History) (st : Stands s h) (open_still : s.closed ≡ f
         at = λ _. subst (λ b. cond (b || has_connected h.calls) (is_settled (spot_by s h st open_still nothing p rest next whole (Good status))) (is_greeting (spot_by s h st open_still nothing p rest next whole (Good status))) ≡ true) (sym con) (subst (λ b. cond b (is_settled (spot_by s h st open_still nothing p rest next whole (Good status))) (is_greeting (spot_by s h st open_still nothing p rest next whole (Good status))) ≡ true) (sym made) settled_here);
         first = λ waits. no_greeting s h st open_still nothing p rest next whole (Good status) waits;
         tie = tied_on (Good status) (record { call = call_of c s.call; what = ToldReady } ∷ h.calls) (quiet_more (record { call = call_of c s.call; what = ToldReady }) h.calls (st.newest.call ∷ calls_in st.older) lack tied_now);
-      }) (arranged_on s h st open_still nothing p rest next whole (Good status) st.newest.given (record { call = call_of c s.call; what = ToldReady } ∷ h.calls) e refl (λ _. refl) (arranged_more s.login (record { call = call_of c s.call; what = ToldReady }) h.calls st.newest st.older con st.arranged)) (λ _. refl)
+      }) (arranged_on s h st open_still nothing p rest next whole (Good status) st.newest.given (record { call = call_of c s.call; what = ToldReady } ∷ h.calls) e refl (λ _. refl) (arranged_more s.login (record { call = call_of c s.call; what = ToldReady }) h.calls st.newest st.older con st.arranged)) (λ _. refl) tt

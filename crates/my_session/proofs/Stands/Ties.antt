@@ -5,7 +5,7 @@ use Rattle.my_grammar.specs.declared.spot.Spot.{Spot}
 use Rattle.my_reading.specs.declared.call.Call.{Call}
 use Rattle.my_reading.specs.declared.call.Call.TheVariants as calls
 use Rattle.my_reading.specs.declared.call.CallKind.{CallKind}
-use Rattle.my_reading.specs.declared.call.CallKind.TheVariants.{Connect, Query, Prepare, Execute, Batch, CloseStmt, NextRow, DropResult, TakeSet, SkipTaken, Ping, Reset, Quit}
+use Rattle.my_reading.specs.declared.call.CallKind.TheVariants.{Connect, Query, Prepare, Execute, Batch, CloseStmt, NextRow, DropResult, TakeSet, SkipTaken, Ping, Reset, Begin, Rollback, ForgetTransaction, Quit}
 use Rattle.my_session.specs.declared.task.Task.{Task}
 use Rattle.my_session.specs.declared.task.Task.TheVariants as tasks
 use Rattle.my_reading.specs.Calls.{kind_of, call_of, is_connect, asks}
@@ -13,10 +13,11 @@ use Rattle.my_session.specs.Tasks.{kind_in, is_open}
 use Rattle.my_session.specs.Entries.{Entry, calls_in, connecting_in, connects, has_connected, owns_more, OwnsFirst, IsTied, may_lack}
 use Rattle.my_reading.specs.Told.{Told, ToldReady, ToldRow, ToldEnd, ToldNone, ToldStatement, ToldFlag, ToldError, Dropped, closes}
 use Rattle.my_session.specs.History.{History, Made, answered, noted, with_answer}
-use Rattle.my_session.specs.Machine.{is_greeting, with_statements, with_taken}
+use Rattle.my_session.specs.Machine.{is_greeting, with_statements, with_status, with_taken}
+use Rattle.my_reading.specs.declared.transaction.TxStatus.{TxStatus}
 use Rattle.my_reading.specs.Statements.{Statements}
 use Rattle.my_session.specs.Seen.{Seen}
-use Rattle.my_session.specs.Stands.{Stands, TieIs, IsArranged, begun_of}
+use Rattle.my_session.specs.Stands.{Stands, TieIs, IsArranged, CleansAt, begun_of}
 
 -- the open call's answer joins the history
 pub answered_stands : (s : Seen) (h : History) (c : Call) (t : Told) → h.pending ≡ Some c → Stands s (record { sent = h.sent; taken = h.taken; calls = record { call = c; what = t } ∷ h.calls; pending = None; ended = h.ended; lost = h.lost }) → Stands s (answered h t)
@@ -28,28 +29,34 @@ noted_stands s h c t e st = subst (λ (o : Option Call). Stands s (record { sent
 
 -- no history tells whether a stream took the set
 pub taken_stands : (s : Seen) (h : History) → Stands s h → Stands (with_taken s) h
-taken_stands s h st = record { newest = st.newest; older = st.older; wire = st.wire; heard = st.heard; arranged = st.arranged; ended_is = st.ended_is; settled = st.settled }
+taken_stands s h st = record { newest = st.newest; older = st.older; wire = st.wire; heard = st.heard; arranged = st.arranged; ended_is = st.ended_is; settled = st.settled; cleans = st.cleans }
 
 -- nor which prepared statements are known
 pub known_stands : (s : Seen) (h : History) (known : Statements) → Stands s h → Stands (with_statements s known) h
-known_stands s h known st = record { newest = st.newest; older = st.older; wire = st.wire; heard = st.heard; arranged = st.arranged; ended_is = st.ended_is; settled = st.settled }
+known_stands s h known st = record { newest = st.newest; older = st.older; wire = st.wire; heard = st.heard; arranged = st.arranged; ended_is = st.ended_is; settled = st.settled; cleans = st.cleans }
+
+-- nor how a transaction stands, but where one is rolled back
+pub status_stands : (s : Seen) (h : History) (status : TxStatus) → CleansAt s.task s.untold status → Stands s h → Stands (with_status s status) h
+status_stands s h status cleans st = record { newest = st.newest; older = st.older; wire = st.wire; heard = st.heard; arranged = st.arranged; ended_is = st.ended_is; settled = st.settled; cleans = cleans }
 
 pub kind_there_is : (t : Task) → is_open t ≡ true → (c : CallKind) × (kind_in t ≡ Some c)
 kind_there_is tasks.Nothing e = cc
 kind_there_is (tasks.Begun c) e = (c, refl)
 kind_there_is (tasks.Cleaning c) e = (c, refl)
+kind_there_is (tasks.Undoing c) e = (c, refl)
+kind_there_is (tasks.Cleaned c) e = (c, refl)
 kind_there_is (tasks.Own c) e = (c, refl)
 kind_there_is tasks.Giving e = (Prepare, refl)
 kind_there_is (tasks.Arranging n) e = (Connect, refl)
 kind_there_is (tasks.Running n) e = (Batch, refl)
 kind_there_is (tasks.Finishing n) e = (Batch, refl)
 kind_there_is tasks.Clearing e = (Reset, refl)
-kind_there_is (tasks.Setting n) e = (Reset, refl)
+kind_there_is (tasks.Asking c n) e = (c, refl)
 kind_there_is tasks.Reading e = (NextRow, refl)
 kind_there_is tasks.Dropping e = (DropResult, refl)
 kind_there_is tasks.Taking e = (TakeSet, refl)
 kind_there_is tasks.Skipping e = (SkipTaken, refl)
-kind_there_is tasks.Leaving e = (Quit, refl)
+kind_there_is (tasks.Leaving c) e = (c, refl)
 kind_there_is (tasks.Failing c fault) e = (c, refl)
 
 pub asks_not : (c : CallKind) (opened : Call) → asks c ≡ true → is_connect (kind_of (call_of c opened)) ≡ false
@@ -65,6 +72,9 @@ asks_not TakeSet opened e = cc
 asks_not SkipTaken opened e = cc
 asks_not Ping opened e = refl
 asks_not Reset opened e = refl
+asks_not Begin opened e = refl
+asks_not Rollback opened e = refl
+asks_not ForgetTransaction opened e = cc
 asks_not Quit opened e = refl
 
 -- after the first of the exchanges that a call owns
@@ -90,20 +100,25 @@ pub closed_tie : (t : Task) (c : CallKind) (opened : Call) (spot : Spot) (made :
 closed_tie tasks.Nothing c opened spot made call older m k e lack t = cc
 closed_tie (tasks.Begun d) c opened spot made call older m k e lack t = inl (lack, t)
 closed_tie (tasks.Cleaning d) c opened spot made call older m k e lack t = inl (lack, t)
-closed_tie (tasks.Own d) c opened spot made call older m k e lack t =
+closed_tie (tasks.Undoing d) c opened spot made call older m k e lack t = let same : d ≡ c = cc in owned_tie d c opened spot made call older m same e lack t
+closed_tie (tasks.Cleaned d) c opened spot made call older m k e lack t =
     let same : d ≡ c = cc in
-    owns_tie (is_greeting spot) made m call (calls_in older) lack (e ∙ ap (λ (x : CallKind). call_of x opened) (sym same) ∙ sym t.0, inl t.1)
+    elim t as (λ _. IsTied (m ∷ made) (begun_of spot call older)) [
+      | inl w ↦ owned_tie d c opened spot made call older m same e lack w
+      | inr w ↦ inl (lack, w.1)
+    ]
+closed_tie (tasks.Own d) c opened spot made call older m k e lack t = let same : d ≡ c = cc in owned_tie d c opened spot made call older m same e lack t
 closed_tie (tasks.Arranging n) c opened spot made call older m k e lack t = let same : Connect ≡ c = cc in owned_tie Connect c opened spot made call older m same e lack t
 closed_tie tasks.Giving c opened spot made call older m k e lack t = let same : Prepare ≡ c = cc in owned_tie Prepare c opened spot made call older m same e lack t
 closed_tie (tasks.Running n) c opened spot made call older m k e lack t = let same : Batch ≡ c = cc in owned_tie Batch c opened spot made call older m same e lack t
 closed_tie (tasks.Finishing n) c opened spot made call older m k e lack t = let same : Batch ≡ c = cc in owned_tie Batch c opened spot made call older m same e lack t
 closed_tie tasks.Clearing c opened spot made call older m k e lack t = let same : Reset ≡ c = cc in owned_tie Reset c opened spot made call older m same e lack t
-closed_tie (tasks.Setting n) c opened spot made call older m k e lack t = let same : Reset ≡ c = cc in owned_tie Reset c opened spot made call older m same e lack t
+closed_tie (tasks.Asking d n) c opened spot made call older m k e lack t = let same : d ≡ c = cc in owned_tie d c opened spot made call older m same e lack t
 closed_tie tasks.Reading c opened spot made call older m k e lack t = inl (lack, t)
 closed_tie tasks.Dropping c opened spot made call older m k e lack t = inl (lack, t)
 closed_tie tasks.Taking c opened spot made call older m k e lack t = inl (lack, t)
 closed_tie tasks.Skipping c opened spot made call older m k e lack t = inl (lack, t)
-closed_tie tasks.Leaving c opened spot made call older m k e lack t = inl (lack, t)
+closed_tie (tasks.Leaving d) c opened spot made call older m k e lack t = inl (lack, t)
 closed_tie (tasks.Failing d fault) c opened spot made call older m k e lack t =
     let same : d ≡ c = cc in
     elim t as (λ _. IsTied (m ∷ made) (begun_of spot call older)) [
@@ -120,10 +135,6 @@ none_waits spot made call older e t = subst (λ b. IsTied made (cond b (calls_in
 
 pub at_greeting : (spot : Spot) (made : List Made) (call : Call) (older : List Entry) → is_greeting spot ≡ true → IsTied made (begun_of spot call older) → IsTied made (calls_in older)
 at_greeting spot made call older e t = subst (λ b. IsTied made (cond b (calls_in older) (call ∷ calls_in older))) e t
-
--- the answer of a call with its own exchange, after the greeting
-pub own_after : (spot : Spot) (made : List Made) (m : Made) (call : Call) (older : List Entry) → is_greeting spot ≡ false → m.call ≡ call → IsTied made (calls_in older) → IsTied (m ∷ made) (begun_of spot call older)
-own_after spot made m call older e same t = none_waits spot (m ∷ made) call older e (inr (same, inl t))
 
 -- the answer of a call that owns all exchanges from some one on
 pub owns_all : (spot : Spot) (made : List Made) (m : Made) (c call : Call) (older : List Entry) → is_greeting spot ≡ false → m.call ≡ c → OwnsFirst c (call ∷ calls_in older) (IsTied made) → IsTied (m ∷ made) (begun_of spot call older)
@@ -149,6 +160,9 @@ closes_unmade ToldReady TakeSet e = refl
 closes_unmade ToldReady SkipTaken e = refl
 closes_unmade ToldReady Ping e = refl
 closes_unmade ToldReady Reset e = refl
+closes_unmade ToldReady Begin e = refl
+closes_unmade ToldReady Rollback e = refl
+closes_unmade ToldReady ForgetTransaction e = refl
 closes_unmade ToldReady Quit e = refl
 closes_unmade (ToldRow row) c e = refl
 closes_unmade ToldEnd c e = refl

@@ -6,16 +6,19 @@ use Rattle.my_reply.specs.declared.err.ErrPacket.{ErrPacket}
 use Rattle.my_grammar.specs.declared.spot.Kind.{Kind}
 use Rattle.my_grammar.specs.Kinds.{kind_there}
 use Rattle.my_grammar.specs.Talk.{Talk}
-use Rattle.my_reading.specs.declared.call.CallKind.TheVariants.{Execute, Batch}
+use Rattle.my_reading.specs.declared.call.CallKind.{CallKind}
+use Rattle.my_reading.specs.declared.call.CallKind.TheVariants.{Execute, Batch, Begin}
 use Rattle.my_statements.specs.Cache.{Held}
 use Rattle.my_reading.specs.declared.error.DriverError.{DriverError}
-use Rattle.my_reading.specs.Calls.{call_of, text_in, lists_in, statement_in}
-use Rattle.my_reading.specs.Commands.{closing, command_of, connecting, execution, queried, setup_texts}
+use Rattle.my_reading.specs.Calls.{call_of, opts_in, text_in, lists_in, statement_in}
+use Rattle.my_reading.specs.Commands.{closing, command_of, connecting, execution, queried}
 use Rattle.my_reading.specs.Facts.{prepared_by}
 use Rattle.my_reading.specs.Statements.{held_in, is_mixed_text, leaving, query_of}
 use Rattle.my_reading.specs.Errors.{invalid_data, unexpected_eof}
 use Rattle.my_reading.specs.Rows.{row_at}
+use Rattle.my_reading.specs.Transactions.{begin_refusal, is_given_up, rollback_text}
 use Rattle.my_reading.specs.Versions.{can_reset}
+use Rattle.my_session.specs.Queries.{queries_of}
 use Rattle.my_handshake.specs.Version.{version_of}
 use Rattle.my_session.specs.declared.answer.SessionStep.{SessionStep}
 use Rattle.my_session.specs.declared.answer.Tick.{Tick}
@@ -25,9 +28,9 @@ use Rattle.my_session.specs.declared.reactions.Reaction.{Reaction}
 use Rattle.my_session.specs.declared.reactions.Reaction.TheVariants as reactions
 use Rattle.my_session.specs.declared.task.LinkFault.{LinkFault}
 use Rattle.my_session.specs.declared.task.Task.{Task}
-use Rattle.my_session.specs.declared.task.Task.TheVariants.{Nothing, Cleaning, Own, Giving, Arranging, Running, Setting}
+use Rattle.my_session.specs.declared.task.Task.TheVariants.{Nothing, Cleaning, Undoing, Own, Giving, Arranging, Running, Asking}
 use Rattle.my_session.specs.Machine as machine
-use Rattle.my_session.specs.Machine.{Move, Sends, Needs, Does, advanced, reply_to, above, unless_above, refused, gave, passed, reacted, read_by, reading, next_terms, unless_exceeds, unless_refused, refusal, is_doubled, looked, with_kept, kept, asked, arranged, offered, set_up, planned, when_owed, next_by, next, refused_by, batched, ran}
+use Rattle.my_session.specs.Machine.{Move, Sends, Needs, Does, advanced, reply_to, above, unless_above, refused, gave, passed, reacted, read_by, reading, next_terms, unless_exceeds, unless_refused, refusal, is_doubled, looked, with_kept, kept, asked, arranged, offered, undone, queried_by, admitted, planned, when_owed, next_by, next, refused_by, batched, ran}
 use Rattle.my_session.specs.Seen.{Seen}
 use Rattle.my_session.specs.Steps.{Steps, last_tick, moved}
 use Rattle.my_session.specs.Tables.{is_breaking, is_connecting, plan_of, react}
@@ -121,9 +124,17 @@ module _ (s : Seen) where
   offered_fewer true = omega arith
   offered_fewer false = omega arith
 
-  set_up_fewer : (n : ℕ) (o : Option (List ℕ)) → Fewer (set_up s n o)
-  set_up_fewer n None = omega arith
-  set_up_fewer n (Some text) = begins_if s (Setting (suc n)) (queried (next_terms s) text) _ (omega arith)
+  queried_fewer : (c : CallKind) (n : ℕ) (o : Option (List ℕ)) → Fewer (queried_by s c n o)
+  queried_fewer c n None = omega arith
+  queried_fewer c n (Some text) = begins_if s (Asking c (suc n)) (queried (next_terms s) text) _ (omega arith)
+
+  admitted_fewer : (o : Option DriverError) → Fewer (admitted s o)
+  admitted_fewer None = queried_fewer Begin 0 (slice_get (queries_of s.login Begin s.call) 0)
+  admitted_fewer (Some e) = omega arith
+
+  undone_fewer : (c : CallKind) (b : Bool) → Fewer (undone s c b)
+  undone_fewer c true = begins_if s (Undoing c) (queried (next_terms s) rollback_text) _ (omega arith)
+  undone_fewer c false = omega arith
 
   looked_fewer : (mixed : Bool) (o : Option Held) → Fewer (looked s mixed o)
   looked_fewer true o = omega arith
@@ -146,7 +157,12 @@ module _ (s : Seen) where
   plan_fewer plans.Forgets = omega arith
   plan_fewer plans.Resets = offered_fewer (can_reset (version_of s.facts.version))
   plan_fewer plans.Clears = omega arith
-  plan_fewer (plans.Sets n) = set_up_fewer n (slice_get (setup_texts s.login) n)
+  plan_fewer (plans.Queries c n) = queried_fewer c n (slice_get (queries_of s.login c s.call) n)
+  plan_fewer (plans.Undoes c) = undone_fewer c (is_given_up s.status)
+  plan_fewer (plans.Settles c) = omega arith
+  plan_fewer plans.Admits = admitted_fewer (begin_refusal (opts_in s.call) (version_of s.facts.version) s.status)
+  plan_fewer plans.GivesUp = omega arith
+  plan_fewer plans.Forsakes = omega arith
   plan_fewer (plans.Asks c) = unless_refused_fewer (refusal c s.call) (asked s (Own c) (command_of (next_terms s) s.statements (call_of c s.call))) (asked_fewer (Own c) (command_of (next_terms s) s.statements (call_of c s.call)))
   plan_fewer (plans.Arranges n) = arranged_fewer n (connecting s.login (next_terms s) (suc n))
   plan_fewer plans.Readies = omega arith

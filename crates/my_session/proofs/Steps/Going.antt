@@ -27,10 +27,10 @@ use Rattle.my_reading.specs.Facts.{prepared_by}
 use Rattle.my_reading.specs.Statements.{held_in, is_mixed_text, known_in, leaving, query_of}
 use Rattle.my_grammar.proofs.Cutting.Fronts.{takes_whole}
 use Rattle.my_reading.specs.declared.call.CallKind.{CallKind}
-use Rattle.my_reading.specs.declared.call.CallKind.TheVariants.{Connect, Query, Prepare, Execute, Batch, CloseStmt, NextRow, DropResult, TakeSet, SkipTaken, Ping, Reset, Quit}
+use Rattle.my_reading.specs.declared.call.CallKind.TheVariants.{Connect, Query, Prepare, Execute, Batch, CloseStmt, NextRow, DropResult, TakeSet, SkipTaken, Ping, Reset, Begin, Rollback, ForgetTransaction, Quit}
 use Rattle.my_session.specs.declared.task.LinkFault.{LinkFault}
 use Rattle.my_session.specs.declared.task.Task.{Task}
-use Rattle.my_session.specs.declared.task.Task.TheVariants.{Nothing, Begun, Cleaning, Own, Giving, Arranging, Running, Finishing, Clearing, Setting, Reading, Dropping, Taking, Skipping, Leaving, Failing}
+use Rattle.my_session.specs.declared.task.Task.TheVariants.{Nothing, Begun, Cleaning, Undoing, Cleaned, Own, Giving, Arranging, Running, Finishing, Clearing, Asking, Reading, Dropping, Taking, Skipping, Leaving, Failing}
 use Rattle.my_reading.specs.declared.error.Error.{Error}
 use Rattle.my_reading.specs.declared.error.Error.TheVariants as errors
 use Rattle.my_session.specs.declared.tables.Plan.{Plan}
@@ -39,14 +39,16 @@ use Rattle.my_session.specs.declared.reactions.Reaction.{Reaction}
 use Rattle.my_session.specs.declared.reactions.Reaction.TheVariants as reactions
 use Rattle.my_session.specs.declared.answer.Tick.{Tick}
 use Rattle.my_session.specs.declared.answer.Tick.TheVariants as ticks
-use Rattle.my_reading.specs.Calls.{call_of, id_in, params_in, statement_in, text_in, lists_in}
+use Rattle.my_reading.specs.Calls.{call_of, id_in, is_quit, opts_in, params_in, statement_in, text_in, lists_in}
 use Rattle.my_session.specs.Tasks.{is_open, fault_in}
-use Rattle.my_reading.specs.Commands.{arranging, arranging_texts, closing, command_of, execution, setup_texts}
+use Rattle.my_reading.specs.Commands.{arranging, arranging_texts, closing, command_of, execution, queried}
 use Rattle.my_reading.specs.Errors.{invalid_data, unexpected_eof}
 use Rattle.my_session.specs.Machine as machine
-use Rattle.my_session.specs.Machine.{Move, Doing, Goes, Sends, Needs, Tells, Did, Does, FaultIs, fell, with_task, advanced, reply_to, above, unless_above, refused, gave, passed, reacted, read_by, read_kind, reading, next_terms, unless_exceeds, unless_refused, refusal, is_doubled, looked, with_kept, kept, asked, arranged, offered, set_up, planned, when_owed, next_by, next, doing, refused_by, batched, ran}
+use Rattle.my_session.specs.Machine.{Move, Doing, Goes, Sends, Needs, Tells, Did, Does, FaultIs, fell, with_task, advanced, reply_to, above, unless_above, refused, gave, passed, reacted, read_by, read_kind, reading, next_terms, unless_exceeds, unless_refused, refusal, is_doubled, looked, with_kept, kept, asked, arranged, offered, begins, undone, queried_by, admitted, planned, when_owed, next_by, next, doing, refused_by, batched, ran}
 use Rattle.my_reading.specs.Rows.{row_at}
+use Rattle.my_reading.specs.Transactions.{begin_refusal, is_given_up, rollback_text}
 use Rattle.my_reading.specs.Versions.{can_reset}
+use Rattle.my_session.specs.Queries.{queries_of}
 use Rattle.my_handshake.specs.Version.{version_of}
 use Rattle.my_session.specs.Seen.{Seen}
 use Rattle.my_session.specs.Steps.{rank, left_to_do, TickIs}
@@ -135,19 +137,24 @@ own_goes TakeSet k = tt
 own_goes SkipTaken k = tt
 own_goes Ping k = single_goes (reactions.Readies false) k tt
 own_goes Reset k = single_goes (reactions.Goes Clearing) k (refl, omega arith)
+own_goes Begin k = tt
+own_goes Rollback k = tt
+own_goes ForgetTransaction k = tt
 own_goes Quit k = tt
 
 react_goes : (t : Task) (k : Kind) → GoesOn (react t k)
 react_goes Nothing k = tt
 react_goes (Begun c) k = tt
 react_goes (Cleaning c) k = whole_goes (Cleaning c) refl (omega arith) k
+react_goes (Undoing c) k = whole_goes (Undoing c) refl (omega arith) k
+react_goes (Cleaned c) k = tt
 react_goes (Own c) k = own_goes c k
 react_goes Giving k = tt
 react_goes (Arranging n) k = whole_goes (Arranging n) refl (omega arith) k
 react_goes (Running n) k = head_goes (reactions.Goes (Finishing n)) (Running n) k (refl, omega arith) refl (omega arith)
 react_goes (Finishing n) k = whole_goes (Finishing n) refl (omega arith) k
 react_goes Clearing k = tt
-react_goes (Setting n) k = whole_goes (Setting n) refl (omega arith) k
+react_goes (Asking c n) k = whole_goes (Asking c n) refl (omega arith) k
 react_goes Reading (kinds.Greets n) = tt
 react_goes Reading (kinds.Good status) = tt
 react_goes Reading kinds.Failed = tt
@@ -185,25 +192,27 @@ react_goes Skipping (kinds.Prepared params columns) = tt
 react_goes Skipping kinds.Parameter = tt
 react_goes Skipping kinds.Field = tt
 react_goes Skipping kinds.Bad = tt
-react_goes Leaving k = tt
+react_goes (Leaving c) k = tt
 react_goes (Failing c fault) k = tt
 
 rank_false : (t : Task) (untold : Bool) → rank t false ≤ rank t untold + 3
 rank_false Nothing untold = omega arith
 rank_false (Begun c) untold = omega arith
 rank_false (Cleaning c) untold = omega arith
+rank_false (Undoing c) untold = omega arith
+rank_false (Cleaned c) untold = omega arith
 rank_false (Own c) untold = omega arith
 rank_false Giving untold = omega arith
 rank_false (Arranging n) untold = omega arith
 rank_false (Running n) untold = omega arith
 rank_false (Finishing n) untold = omega arith
 rank_false Clearing untold = omega arith
-rank_false (Setting n) untold = omega arith
+rank_false (Asking c n) untold = omega arith
 rank_false Reading untold = omega arith
 rank_false Dropping untold = omega arith
 rank_false Taking untold = omega arith
 rank_false Skipping untold = omega arith
-rank_false Leaving untold = omega arith
+rank_false (Leaving c) untold = omega arith
 rank_false (Failing c fault) untold = omega arith
 
 -- the session after a payload
@@ -280,7 +289,10 @@ FitsTask t untold plans.Batches = rank (Cleaning Batch) untold < rank t untold
 FitsTask t untold (plans.Notes n) = rank (Finishing n) untold < rank t untold
 FitsTask t untold plans.Forgets = rank (Cleaning CloseStmt) untold < rank t untold
 FitsTask t untold plans.Resets = rank (Cleaning Reset) untold < rank t untold
-FitsTask t untold plans.Clears = rank (Setting 0) untold < rank t untold
+FitsTask t untold plans.Clears = rank (Asking Reset 0) untold < rank t untold
+FitsTask t untold plans.GivesUp = rank (Cleaning Rollback) untold < rank t untold
+FitsTask t untold (plans.Undoes c) = rank (Cleaned c) untold < rank t untold
+FitsTask t untold (plans.Settles c) = rank (Cleaned c) untold < rank t untold
 FitsTask t untold plans.Keeps = rank Giving false < rank t untold
 FitsTask t untold p = Unit {0}
 
@@ -323,6 +335,9 @@ asked_is s TakeSet call none = refl
 asked_is s SkipTaken call none = refl
 asked_is s Ping call none = begins_if s s (Own Ping) (Asked (next_terms s) (packet_bytes packets.Ping)) _ none refl (some_bytes (packet_bytes packets.Ping) 0)
 asked_is s Reset call none = begins_if s s (Own Reset) (Asked (next_terms s) (packet_bytes packets.ResetConnection)) _ none refl (some_bytes (packet_bytes packets.ResetConnection) 0)
+asked_is s Begin call none = refl
+asked_is s Rollback call none = refl
+asked_is s ForgetTransaction call none = refl
 asked_is s Quit call none = begins_if s s (Own Quit) (Silent (next_terms s) (packet_bytes packets.Quit)) _ none refl (some_bytes (packet_bytes packets.Quit) 0)
 
 arranged_is : (s : Seen) (n : ℕ) (text : Option (List ℕ)) → s.owed ≡ [] → MoveIs s (arranged s n (arranging (next_terms s) text)).seen (arranged s n (arranging (next_terms s) text)).does
@@ -348,9 +363,21 @@ offered_is : (s : Seen) (b : Bool) → rank (Cleaning Reset) s.untold < rank s.t
 offered_is s true less = (refl, omega arith)
 offered_is s false less = refl
 
-set_up_is : (s : Seen) (n : ℕ) (text : Option (List ℕ)) → s.owed ≡ [] → MoveIs s (set_up s n text).seen (set_up s n text).does
-set_up_is s n None none = refl
-set_up_is s n (Some text) none = begins_if s s (Setting (suc n)) (Queried (next_terms s) (packet_bytes (packets.Query text)) (NoSets ByText)) _ none refl (some_bytes (packet_bytes (packets.Query text)) 0)
+-- a query of the client's own
+query_is : (s : Seen) (u : Task) (text : List ℕ) → s.owed ≡ [] → is_open u ≡ true → MoveIs s (begins s u (queried (next_terms s) text)).seen (begins s u (queried (next_terms s) text)).does
+query_is s u text none op = begins_if s s u (queried (next_terms s) text) _ none op (some_bytes (packet_bytes (packets.Query text)) 0)
+
+queried_is : (s : Seen) (c : CallKind) (n : ℕ) (text : Option (List ℕ)) → s.owed ≡ [] → MoveIs s (queried_by s c n text).seen (queried_by s c n text).does
+queried_is s c n None none = refl
+queried_is s c n (Some text) none = query_is s (Asking c (suc n)) text none refl
+
+admitted_is : (s : Seen) (e : Option DriverError) → s.owed ≡ [] → MoveIs s (admitted s e).seen (admitted s e).does
+admitted_is s None none = queried_is s Begin 0 (slice_get (queries_of s.login Begin s.call) 0) none
+admitted_is s (Some e) none = refl
+
+undone_is : (s : Seen) (c : CallKind) (b : Bool) → s.owed ≡ [] → rank (Cleaned c) s.untold < rank s.task s.untold → MoveIs s (undone s c b).seen (undone s c b).does
+undone_is s c true none less = query_is s (Undoing c) rollback_text none refl
+undone_is s c false none less = (refl, omega (arith, less))
 
 looked_is : (s : Seen) (mixed : Bool) (o : Option Held) → rank (Cleaning Prepare) s.untold < rank s.task s.untold → MoveIs s (looked s mixed o).seen (looked s mixed o).does
 looked_is s true o less = refl
@@ -373,7 +400,12 @@ plan_is s (plans.Notes n) op none f = (refl, omega (arith, f))
 plan_is s plans.Forgets op none f = (refl, omega (arith, f))
 plan_is s plans.Resets op none f = offered_is s (can_reset (version_of s.facts.version)) f
 plan_is s plans.Clears op none f = (refl, omega (arith, f))
-plan_is s (plans.Sets n) op none f = set_up_is s n (slice_get (setup_texts s.login) n) none
+plan_is s (plans.Queries c n) op none f = queried_is s c n (slice_get (queries_of s.login c s.call) n) none
+plan_is s (plans.Undoes c) op none f = undone_is s c (is_given_up s.status) none f
+plan_is s (plans.Settles c) op none f = (refl, omega (arith, f))
+plan_is s plans.Admits op none f = admitted_is s (begin_refusal (opts_in s.call) (version_of s.facts.version) s.status) none
+plan_is s plans.GivesUp op none f = (refl, omega (arith, f))
+plan_is s plans.Forsakes op none f = refl
 plan_is s (plans.Asks c) op none f = unless_refused_is s (refusal c s.call) (asked s (Own c) (command_of (next_terms s) s.statements (call_of c s.call))) (asked_is s c s.call none)
 plan_is s (plans.Arranges n) op none f = arranged_is s n (slice_get (arranging_texts s.login) n) none
 plan_is s plans.Readies op none f = refl
@@ -429,6 +461,9 @@ first_fits TakeSet untold = (refl, omega arith)
 first_fits SkipTaken untold = (refl, rank_skipping untold)
 first_fits Ping untold = (refl, rank_cleaning Ping untold)
 first_fits Reset untold = rank_cleaning Reset untold
+first_fits Begin untold = (refl, rank_cleaning Begin untold)
+first_fits Rollback untold = rank_cleaning Rollback untold
+first_fits ForgetTransaction untold = tt
 first_fits Quit untold = (refl, rank_cleaning Quit untold)
 
 query_fits : (spot : Spot) (untold : Bool) → FitsTask (Own Query) untold (query_plan spot)
@@ -492,6 +527,9 @@ own_fits TakeSet spot untold = tt
 own_fits SkipTaken spot untold = tt
 own_fits Ping spot untold = tt
 own_fits Reset spot untold = tt
+own_fits Begin spot untold = tt
+own_fits Rollback spot untold = tt
+own_fits ForgetTransaction spot untold = tt
 own_fits Quit spot untold = tt
 
 read_fits : (spot : Spot) → FitsTask Reading false (read_plan spot)
@@ -558,28 +596,31 @@ skip_fits (spots.ParametersEnd columns) = tt
 skip_fits (spots.Fields left) = tt
 skip_fits spots.FieldsEnd = tt
 
-ask_fits : (t : Task) (c : CallKind) → FitsTask t false (ask_plan c)
-ask_fits t Connect = tt
-ask_fits t Query = tt
-ask_fits t Prepare = tt
-ask_fits t Execute = tt
-ask_fits t Batch = tt
-ask_fits t CloseStmt = tt
-ask_fits t NextRow = tt
-ask_fits t DropResult = tt
-ask_fits t TakeSet = tt
-ask_fits t SkipTaken = tt
-ask_fits t Ping = tt
-ask_fits t Reset = tt
-ask_fits t Quit = tt
+ask_fits : (t : Task) (c : CallKind) (untold : Bool) → FitsTask t untold (ask_plan c)
+ask_fits t Connect untold = tt
+ask_fits t Query untold = tt
+ask_fits t Prepare untold = tt
+ask_fits t Execute untold = tt
+ask_fits t Batch untold = tt
+ask_fits t CloseStmt untold = tt
+ask_fits t NextRow untold = tt
+ask_fits t DropResult untold = tt
+ask_fits t TakeSet untold = tt
+ask_fits t SkipTaken untold = tt
+ask_fits t Ping untold = tt
+ask_fits t Reset untold = tt
+ask_fits t Begin untold = tt
+ask_fits t Rollback untold = tt
+ask_fits t ForgetTransaction untold = tt
+ask_fits t Quit untold = tt
 
 rank_finishing : (n : ℕ) (untold : Bool) → rank (Finishing n) untold < 2
 rank_finishing n true = omega arith
 rank_finishing n false = omega arith
 
-rank_setting : (n : ℕ) (untold : Bool) → rank (Setting n) untold < 2
-rank_setting n true = omega arith
-rank_setting n false = omega arith
+rank_asking : (c : CallKind) (n : ℕ) (untold : Bool) → rank (Asking c n) untold < 2
+rank_asking c n true = omega arith
+rank_asking c n false = omega arith
 
 run_fits : (n : ℕ) (spot : Spot) (untold : Bool) → FitsTask (Running n) untold (run_plan n spot)
 run_fits n spots.Idle untold = tt
@@ -597,17 +638,23 @@ run_fits n (spots.ParametersEnd columns) untold = tt
 run_fits n (spots.Fields left) untold = tt
 run_fits n spots.FieldsEnd untold = tt
 
+leaving_fits : (c : CallKind) (untold quit : Bool) → FitsTask (Leaving c) untold (cond quit plans.Quits plans.Readies)
+leaving_fits c untold true = tt
+leaving_fits c untold false = tt
+
 plan_fits : (t : Task) (spot : Spot) (untold : Bool) → FitsTask t untold (plan_of t spot untold)
 plan_fits Nothing spot untold = tt
 plan_fits (Begun c) spot untold = first_fits c untold
-plan_fits (Cleaning c) spot untold = cleaning_fits (Cleaning c) (ask_plan c) (omega arith) (ask_fits (Cleaning c) c) spot untold
+plan_fits (Cleaning c) spot untold = cleaning_fits (Cleaning c) (plans.Undoes c) (omega arith) (omega arith) spot untold
+plan_fits (Undoing c) spot untold = cleaning_fits (Undoing c) (plans.Settles c) (omega arith) (omega arith) spot untold
+plan_fits (Cleaned c) spot untold = ask_fits (Cleaned c) c untold
 plan_fits (Own c) spot untold = own_fits c spot untold
 plan_fits Giving spot untold = tt
 plan_fits (Arranging n) spot untold = cleaning_fits (Arranging n) (plans.Arranges n) (omega arith) tt spot untold
 plan_fits (Running n) spot untold = run_fits n spot untold
 plan_fits (Finishing n) spot untold = cleaning_fits (Finishing n) (plans.Runs n) (omega arith) tt spot untold
-plan_fits Clearing spot untold = rank_setting 0 untold
-plan_fits (Setting n) spot untold = cleaning_fits (Setting n) (plans.Sets n) (omega arith) tt spot untold
+plan_fits Clearing spot untold = rank_asking Reset 0 untold
+plan_fits (Asking c n) spot untold = cleaning_fits (Asking c n) (plans.Queries c n) (omega arith) tt spot untold
 plan_fits Reading spot true = tt
 plan_fits Reading spot false = read_fits spot
 plan_fits Dropping spot true = omega arith
@@ -616,7 +663,7 @@ plan_fits Taking spot true = tt
 plan_fits Taking spot false = take_fits spot
 plan_fits Skipping spot true = omega arith
 plan_fits Skipping spot false = skip_fits spot
-plan_fits Leaving spot untold = tt
+plan_fits (Leaving c) spot untold = leaving_fits c untold (is_quit c)
 plan_fits (Failing c fault) spot untold = tt
 
 owed_is : (s : Seen) (owed : List ℕ) → s.owed ≡ owed → is_open s.task ≡ true → MoveIs s (when_owed owed s).seen (when_owed owed s).does

@@ -10,10 +10,10 @@ use Rattle.my_grammar.specs.declared.spot.Kind.TheVariants as kinds
 use Rattle.my_grammar.specs.Kinds.{kind_there}
 use Rattle.my_grammar.specs.Talk.{Talk}
 use Rattle.my_reading.specs.declared.call.CallKind.{CallKind}
-use Rattle.my_reading.specs.declared.call.CallKind.TheVariants.{Connect, Query, Prepare, Execute, Batch, CloseStmt, NextRow, DropResult, TakeSet, SkipTaken, Ping, Reset, Quit}
+use Rattle.my_reading.specs.declared.call.CallKind.TheVariants.{Connect, Query, Prepare, Execute, Batch, CloseStmt, NextRow, DropResult, TakeSet, SkipTaken, Ping, Reset, Begin, Rollback, ForgetTransaction, Quit}
 use Rattle.my_session.specs.declared.task.LinkFault.{LinkFault}
 use Rattle.my_session.specs.declared.task.Task.{Task}
-use Rattle.my_session.specs.declared.task.Task.TheVariants.{Nothing, Begun, Cleaning, Own, Giving, Arranging, Running, Finishing, Clearing, Setting, Reading, Dropping, Taking, Skipping, Leaving, Failing}
+use Rattle.my_session.specs.declared.task.Task.TheVariants.{Nothing, Begun, Cleaning, Undoing, Cleaned, Own, Giving, Arranging, Running, Finishing, Clearing, Asking, Reading, Dropping, Taking, Skipping, Leaving, Failing}
 use Rattle.my_session.specs.declared.tables.Plan.{Plan}
 use Rattle.my_session.specs.declared.tables.Plan.TheVariants as plans
 use Rattle.my_session.specs.declared.reactions.Reaction.{Reaction}
@@ -25,16 +25,18 @@ use Rattle.my_session.specs.declared.answer.Tick.TheVariants as ticks
 use Rattle.my_session.specs.Tasks.{kind_in, fault_in}
 use Rattle.my_statements.specs.Cache.{Held}
 use Rattle.my_reading.specs.declared.error.DriverError.{DriverError}
-use Rattle.my_reading.specs.Calls.{call_of, text_in, lists_in, statement_in}
-use Rattle.my_reading.specs.Commands.{closing, command_of, connecting, execution, queried, setup_texts}
+use Rattle.my_reading.specs.Calls.{call_of, is_quit, opts_in, text_in, lists_in, statement_in}
+use Rattle.my_reading.specs.Commands.{closing, command_of, connecting, execution, queried}
 use Rattle.my_reading.specs.Facts.{prepared_by}
 use Rattle.my_reading.specs.Statements.{held_in, is_mixed_text, leaving, query_of}
 use Rattle.my_reading.specs.Errors.{invalid_data, unexpected_eof}
 use Rattle.my_session.specs.Machine as machine
-use Rattle.my_session.specs.Machine.{Move, Doing, Goes, Sends, Needs, Tells, Did, Does, FaultIs, advanced, reply_to, above, unless_above, refused, gave, passed, reacted, read_by, reading, next_terms, unless_exceeds, unless_refused, refusal, is_doubled, looked, with_kept, kept, asked, arranged, offered, set_up, planned, when_owed, next_by, next, doing, refused_by, batched, ran}
+use Rattle.my_session.specs.Machine.{Move, Doing, Goes, Sends, Needs, Tells, Did, Does, FaultIs, advanced, reply_to, above, unless_above, refused, gave, passed, reacted, read_by, reading, next_terms, unless_exceeds, unless_refused, refusal, is_doubled, looked, with_kept, kept, asked, arranged, offered, undone, queried_by, admitted, planned, when_owed, next_by, next, doing, refused_by, batched, ran}
 use Rattle.my_session.specs.Passed.{IsItem, is_passing}
 use Rattle.my_reading.specs.Rows.{row_at}
+use Rattle.my_reading.specs.Transactions.{begin_refusal, is_given_up, rollback_text}
 use Rattle.my_reading.specs.Versions.{can_reset}
+use Rattle.my_session.specs.Queries.{queries_of}
 use Rattle.my_handshake.specs.Version.{version_of}
 use Rattle.my_session.specs.Seen.{Seen}
 use Rattle.my_session.specs.Steps.{goes_on}
@@ -127,19 +129,24 @@ own_stays TakeSet k = tt
 own_stays SkipTaken k = tt
 own_stays Ping k = single_stays (Some Ping) (reactions.Readies false) k tt
 own_stays Reset k = single_stays (Some Reset) (reactions.Goes Clearing) k (refl, refl)
+own_stays Begin k = tt
+own_stays Rollback k = tt
+own_stays ForgetTransaction k = tt
 own_stays Quit k = tt
 
 react_stays : (t : Task) (k : Kind) → StaysIn (kind_in t) (react t k)
 react_stays Nothing k = tt
 react_stays (Begun c) k = tt
 react_stays (Cleaning c) k = whole_stays (Cleaning c) refl k
+react_stays (Undoing c) k = whole_stays (Undoing c) refl k
+react_stays (Cleaned c) k = tt
 react_stays (Own c) k = own_stays c k
 react_stays Giving k = tt
 react_stays (Arranging n) k = whole_stays (Arranging n) refl k
 react_stays (Running n) k = head_stays (reactions.Goes (Finishing n)) (Running n) k (refl, refl) refl
 react_stays (Finishing n) k = whole_stays (Finishing n) refl k
 react_stays Clearing k = tt
-react_stays (Setting n) k = whole_stays (Setting n) refl k
+react_stays (Asking c n) k = whole_stays (Asking c n) refl k
 react_stays Reading (kinds.Greets n) = tt
 react_stays Reading (kinds.Good status) = tt
 react_stays Reading kinds.Failed = tt
@@ -177,7 +184,7 @@ react_stays Skipping (kinds.Prepared params columns) = tt
 react_stays Skipping kinds.Parameter = tt
 react_stays Skipping kinds.Field = tt
 react_stays Skipping kinds.Bad = tt
-react_stays Leaving k = tt
+react_stays (Leaving c) k = tt
 react_stays (Failing c fault) k = tt
 
 -- plans of one call
@@ -192,6 +199,9 @@ Suits kind plans.Forgets = Some CloseStmt ≡ kind
 Suits kind plans.Resets = Some Reset ≡ kind
 Suits kind plans.Clears = Some Reset ≡ kind
 Suits kind plans.Keeps = Some Prepare ≡ kind
+Suits kind plans.GivesUp = Some Rollback ≡ kind
+Suits kind (plans.Undoes c) = Some c ≡ kind
+Suits kind (plans.Settles c) = Some c ≡ kind
 Suits kind p = Unit {0}
 
 first_suits : (c : CallKind) → Suits (Some c) (first_plan c)
@@ -207,6 +217,9 @@ first_suits TakeSet = (refl, refl)
 first_suits SkipTaken = (refl, refl)
 first_suits Ping = (refl, refl)
 first_suits Reset = refl
+first_suits Begin = (refl, refl)
+first_suits Rollback = refl
+first_suits ForgetTransaction = tt
 first_suits Quit = (refl, refl)
 
 cleaning_suits : (kind : Option CallKind) (p : Plan) → Suits kind p → (spot : Spot) (untold : Bool) → Suits kind (clean_plan p spot untold)
@@ -287,6 +300,9 @@ own_suits TakeSet spot = tt
 own_suits SkipTaken spot = tt
 own_suits Ping spot = tt
 own_suits Reset spot = tt
+own_suits Begin spot = tt
+own_suits Rollback spot = tt
+own_suits ForgetTransaction spot = tt
 own_suits Quit spot = tt
 
 read_suits : (spot : Spot) → Suits (Some NextRow) (read_plan spot)
@@ -366,6 +382,9 @@ ask_suits TakeSet = tt
 ask_suits SkipTaken = tt
 ask_suits Ping = tt
 ask_suits Reset = tt
+ask_suits Begin = tt
+ask_suits Rollback = tt
+ask_suits ForgetTransaction = tt
 ask_suits Quit = tt
 
 run_suits : (n : ℕ) (spot : Spot) → Suits (Some Batch) (run_plan n spot)
@@ -384,17 +403,23 @@ run_suits n (spots.ParametersEnd columns) = tt
 run_suits n (spots.Fields left) = tt
 run_suits n spots.FieldsEnd = tt
 
+leaving_suits : (kind : Option CallKind) (quit : Bool) → Suits kind (cond quit plans.Quits plans.Readies)
+leaving_suits kind true = tt
+leaving_suits kind false = tt
+
 plan_suits : (t : Task) (spot : Spot) (untold : Bool) → Suits (kind_in t) (plan_of t spot untold)
 plan_suits Nothing spot untold = tt
 plan_suits (Begun c) spot untold = first_suits c
-plan_suits (Cleaning c) spot untold = cleaning_suits (Some c) (ask_plan c) (ask_suits c) spot untold
+plan_suits (Cleaning c) spot untold = cleaning_suits (Some c) (plans.Undoes c) refl spot untold
+plan_suits (Undoing c) spot untold = cleaning_suits (Some c) (plans.Settles c) refl spot untold
+plan_suits (Cleaned c) spot untold = ask_suits c
 plan_suits (Own c) spot untold = own_suits c spot
 plan_suits Giving spot untold = tt
 plan_suits (Arranging n) spot untold = cleaning_suits (Some Connect) (plans.Arranges n) tt spot untold
 plan_suits (Running n) spot untold = run_suits n spot
 plan_suits (Finishing n) spot untold = cleaning_suits (Some Batch) (plans.Runs n) tt spot untold
 plan_suits Clearing spot untold = refl
-plan_suits (Setting n) spot untold = cleaning_suits (Some Reset) (plans.Sets n) tt spot untold
+plan_suits (Asking c n) spot untold = cleaning_suits (Some c) (plans.Queries c n) tt spot untold
 plan_suits Reading spot true = tt
 plan_suits Reading spot false = read_suits spot
 plan_suits Dropping spot true = refl
@@ -403,7 +428,7 @@ plan_suits Taking spot true = tt
 plan_suits Taking spot false = take_suits spot
 plan_suits Skipping spot true = refl
 plan_suits Skipping spot false = skip_suits spot
-plan_suits Leaving spot untold = tt
+plan_suits (Leaving c) spot untold = leaving_suits (Some c) (is_quit c)
 plan_suits (Failing c fault) spot untold = tt
 
 module _ (s : Seen) (sound : fault_in s.task ≡ None) where
@@ -493,9 +518,17 @@ module _ (s : Seen) (sound : fault_in s.task ≡ None) where
   offered_stays true i = ((i, refl), refl)
   offered_stays false i = (tt, refl)
 
-  set_up_stays : (n : ℕ) (o : Option (List ℕ)) → Stays (set_up s n o)
-  set_up_stays n None = (tt, refl)
-  set_up_stays n (Some text) = begins_if s (Setting (suc n)) (queried (next_terms s) text) _ refl
+  queried_stays : (c : CallKind) (n : ℕ) (o : Option (List ℕ)) → Stays (queried_by s c n o)
+  queried_stays c n None = (tt, refl)
+  queried_stays c n (Some text) = begins_if s (Asking c (suc n)) (queried (next_terms s) text) _ refl
+
+  admitted_stays : (o : Option DriverError) → Stays (admitted s o)
+  admitted_stays None = queried_stays Begin 0 (slice_get (queries_of s.login Begin s.call) 0)
+  admitted_stays (Some e) = (tt, refl)
+
+  undone_stays : (c : CallKind) (b : Bool) → Some c ≡ kind_in s.task → Stays (undone s c b)
+  undone_stays c true i = begins_if s (Undoing c) (queried (next_terms s) rollback_text) _ refl
+  undone_stays c false i = ((i, refl), refl)
 
   looked_stays : (mixed : Bool) (o : Option Held) → Some Prepare ≡ kind_in s.task → Stays (looked s mixed o)
   looked_stays true o i = (tt, refl)
@@ -518,7 +551,12 @@ module _ (s : Seen) (sound : fault_in s.task ≡ None) where
   plan_stays plans.Forgets i = ((i, refl), refl)
   plan_stays plans.Resets i = offered_stays (can_reset (version_of s.facts.version)) i
   plan_stays plans.Clears i = ((i, refl), refl)
-  plan_stays (plans.Sets n) i = set_up_stays n (slice_get (setup_texts s.login) n)
+  plan_stays (plans.Queries c n) i = queried_stays c n (slice_get (queries_of s.login c s.call) n)
+  plan_stays (plans.Undoes c) i = undone_stays c (is_given_up s.status) i
+  plan_stays (plans.Settles c) i = ((i, refl), refl)
+  plan_stays plans.Admits i = admitted_stays (begin_refusal (opts_in s.call) (version_of s.facts.version) s.status)
+  plan_stays plans.GivesUp i = ((i, refl), refl)
+  plan_stays plans.Forsakes i = (tt, refl)
   plan_stays (plans.Asks c) i = unless_refused_stays (refusal c s.call) (asked s (Own c) (command_of (next_terms s) s.statements (call_of c s.call))) (asked_stays (Own c) (command_of (next_terms s) s.statements (call_of c s.call)))
   plan_stays (plans.Arranges n) i = arranged_stays n (connecting s.login (next_terms s) (suc n))
   plan_stays plans.Readies i = (tt, refl)

@@ -1,10 +1,11 @@
 //! What a call carries.
 
 ghost use Rattle.std.specs.Prelude.{◌≡◌, ◌<◌, ◌≤◌, ◌-◌, ◌^◌, IfOk, IfSome, length, slice_get};
-ghost use Rattle.my_reading.specs.Calls.{id_in, lists_in, params_in, statement_in, text_in};
+ghost use Rattle.my_reading.specs.Calls.{id_in, lists_in, opts_in, params_in, statement_in, text_in};
 ghost use Rattle.my_reading.specs.Executions.{GivesValues, values_for};
 ghost use Rattle.my_session.specs.Machine.{GivesNext};
 
+use my_opts_parts::TxOpts;
 use my_params::Params;
 use my_reading::{Call, Error, MOST_VALUES, values_for};
 use my_value::Value;
@@ -38,6 +39,16 @@ pub fn executed_id(call: &Call) -> u32
     match call {
         Call::Execute(statement, _) | Call::Batch(statement, _) => statement.id(),
         _ => 0,
+    }
+}
+
+/// How a transaction begins; by the defaults where the call begins none.
+pub fn opts_in(call: &Call) -> TxOpts
+    ensures { result ≡ opts_in call.now }
+{
+    match call {
+        Call::Begin(opts) => *opts,
+        _ => TxOpts::new(),
     }
 }
 

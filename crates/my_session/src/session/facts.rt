@@ -1,14 +1,14 @@
-//! What a session knows: what it was made with, what the server said of itself, and whether a rest of a response is unread.
+//! What a session knows: what it was made with, what the server said of itself, and whether something is left of earlier calls.
 
 ghost use Rattle.std.specs.Prelude.{◌≡◌};
 ghost use Rattle.std.specs.Option.{option_copied};
-ghost use Rattle.my_session.specs.Rest.{has_rest};
+ghost use Rattle.my_session.specs.Rest.{is_dirty};
 ghost use Rattle.my_statements.specs.Known.{known_of};
 
 use super::Session;
 use my_grammar::Spot;
 use my_opts::Opts;
-use my_reading::SetColumns;
+use my_reading::{SetColumns, TxStatus};
 use my_reply::OkPacket;
 use my_statements::Statement;
 
@@ -83,12 +83,13 @@ impl Session {
         self.statements.columns_of(statement.id())
     }
 
-    /// Whether the rest of a response is unread: rows, a further set, or the end of a lone OK.
-    pub fn has_rest(&self) -> bool
-        ensures { result ≡ has_rest self.now.seen }
+    /// Whether something is left of earlier calls: rows, a further set, or the end of a lone OK of a response; or a
+    /// transaction.
+    pub fn is_dirty(&self) -> bool
+        ensures { result ≡ is_dirty self.now.seen }
     {
-        match self.context.spot {
-            Spot::Idle => self.untold,
+        match (self.context.spot, self.status) {
+            (Spot::Idle, TxStatus::None) => self.untold,
             _ => true,
         }
     }

@@ -280,7 +280,10 @@ impl Session {
             | CallKind::NextRow
             | CallKind::DropResult
             | CallKind::TakeSet
-            | CallKind::SkipTaken => self.answer(Answer::NoSet),
+            | CallKind::SkipTaken
+            | CallKind::Begin
+            | CallKind::Rollback
+            | CallKind::ForgetTransaction => self.answer(Answer::NoSet),
         }
     }
 

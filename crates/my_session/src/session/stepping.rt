@@ -20,18 +20,20 @@ fn fault_in(task: Task) -> Option<LinkFault>
         Task::Nothing
         | Task::Begun(_)
         | Task::Cleaning(_)
+        | Task::Undoing(_)
+        | Task::Cleaned(_)
         | Task::Own(_)
         | Task::Giving
         | Task::Arranging(_)
         | Task::Running(_)
         | Task::Finishing(_)
         | Task::Clearing
-        | Task::Setting(_)
+        | Task::Asking(_, _)
         | Task::Reading
         | Task::Dropping
         | Task::Taking
         | Task::Skipping
-        | Task::Leaving => None,
+        | Task::Leaving(_) => None,
     }
 }
 
@@ -112,7 +114,12 @@ impl Session {
             Plan::Forgets => self.forget(),
             Plan::Resets => self.begin_reset(),
             Plan::Clears => self.clear(),
-            Plan::Sets(sent) => self.set_up(alloc, sent),
+            Plan::Undoes(call) => self.undo(alloc, call),
+            Plan::Settles(call) => self.settle(call),
+            Plan::Admits => self.admit(alloc),
+            Plan::Queries(call, sent) => self.ask_next(alloc, call, sent),
+            Plan::GivesUp => self.give_up(),
+            Plan::Forsakes => self.forsake(),
             Plan::Learns => self.learn_columns(),
             Plan::Keeps => self.keep(alloc),
             Plan::Gives => self.give_statement(alloc),
