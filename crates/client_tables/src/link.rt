@@ -10,9 +10,13 @@ const GREETING: &[u8] =
     b"\x4a\x00\x00\x00\x0a8.0.36\x00\x07\x00\x00\x00abcdefgh\x00\x8b\xa2\x2d\x02\x00\x1f\x01\x15\
     \x00\x00\x00\x00\x00\x00\x00\x00\x00\x00ijklmnopqrst\x00mysql_native_password\x00";
 
-// The same from a server of the version 5.7.2.
+// The same from servers of the versions 5.7.2 and 5.6.4.
 const OLD_GREETING: &[u8] =
     b"\x49\x00\x00\x00\x0a5.7.2\x00\x07\x00\x00\x00abcdefgh\x00\x8b\xa2\x2d\x02\x00\x1f\x01\x15\
+    \x00\x00\x00\x00\x00\x00\x00\x00\x00\x00ijklmnopqrst\x00mysql_native_password\x00";
+
+const OLDER_GREETING: &[u8] =
+    b"\x49\x00\x00\x00\x0a5.6.4\x00\x07\x00\x00\x00abcdefgh\x00\x8b\xa2\x2d\x02\x00\x1f\x01\x15\
     \x00\x00\x00\x00\x00\x00\x00\x00\x00\x00ijklmnopqrst\x00mysql_native_password\x00";
 
 const LOGIN: &[u8] = b"\x3c\x00\x00\x01\x81\xa2\x0f\x01\x00\x00\x40\x00\x2d\
@@ -41,11 +45,24 @@ const NULL_ROW: &[u8] = b"\x02\x00\x00\x04\x00\x04";
 const COLUMN: &[u8] =
     b"\x17\x00\x00\x02\x03def\x00\x00\x00\x011\x00\x0c\x3f\x00\x01\x00\x00\x00\x08\x81\x00\x00\x00\x00";
 
+// The client's queries that begin and end a transaction.
+fn transaction_piece(letter: u8) -> &'static [u8] {
+    match letter {
+        b'B' => b"\x12\x00\x00\x00\x03START TRANSACTION",
+        b'V' => b"\x2d\x00\x00\x00\x03SET TRANSACTION ISOLATION LEVEL SERIALIZABLE",
+        b'C' => b"\x1a\x00\x00\x00\x03SET TRANSACTION READ ONLY",
+        b'S' => b"\x2b\x00\x00\x00\x03START TRANSACTION WITH CONSISTENT SNAPSHOT",
+        b'U' => b"\x09\x00\x00\x00\x03ROLLBACK",
+        _ => b"",
+    }
+}
+
 /// The bytes that a letter stands for: packets of the server or of the client, or parts of one.
 pub fn piece(letter: u8) -> &'static [u8] {
     match letter {
         b'g' => GREETING,
         b'G' => OLD_GREETING,
+        b'H' => OLDER_GREETING,
         // An OK to the login, and one with a byte more.
         b'k' => b"\x07\x00\x00\x02\x00\x00\x00\x02\x00\x00\x00",
         b'K' => b"\x07\x00\x00\x02\x00\x00\x00\x02\x00\x00\x00\x01",
@@ -84,7 +101,7 @@ pub fn piece(letter: u8) -> &'static [u8] {
         b'j' => FIELD,
         b'b' => BINARY_ROW,
         b'n' => NULL_ROW,
-        _ => b"",
+        _ => transaction_piece(letter),
     }
 }
 

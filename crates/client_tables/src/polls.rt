@@ -8,11 +8,12 @@ use crate::held::{Given, execution_of, text_of};
 use crate::told::{Letter, of_prepared, of_result, of_shown};
 use my_calls::{
     CallState, CloseCall, DropCall, ExecCall, NextCall, PingCall, Poll, PrepCall, QueryCall,
-    QuitCall, ResetCall, Returns, StreamCall,
+    QuitCall, ResetCall, Returns, StreamCall, TxCall,
 };
 use my_conn::{Conn, Connected, Connecting};
 use my_frame::Blob;
 use my_link::{Link, NoAid};
+use my_opts_parts::{IsolationLevel, TxOpts};
 use my_reading::Error;
 use my_statements::Statement;
 use std::alloc::Global;
@@ -128,6 +129,15 @@ fn close<L: Link>(alloc: Global, conn: &mut Conn<L>, held: &mut Option<Statement
     }
 }
 
+// A transaction with every option.
+fn every_option() -> TxOpts {
+    let mut opts = TxOpts::new();
+    opts.with_isolation_level(Some(IsolationLevel::Serializable))
+        .with_readonly(Some(true))
+        .with_consistent_snapshot(true);
+    opts
+}
+
 // A step with a prepared statement.
 fn poll_held<L: Link>(
     alloc: Global,
@@ -165,6 +175,9 @@ fn poll_idle<L: Link>(
         b'd' => letter(play(alloc, conn, DropCall::new(), polls)),
         b'p' => letter(play(alloc, conn, PingCall::new(), polls)),
         b'R' => letter(play(alloc, conn, ResetCall::new(), polls)),
+        b'O' => letter(play(alloc, conn, TxCall::start(TxOpts::new()), polls)),
+        b'I' => letter(play(alloc, conn, TxCall::start(every_option()), polls)),
+        b'K' => letter(play(alloc, conn, TxCall::rollback(), polls)),
         b'u' => letter(play(alloc, conn, QuitCall::new(), polls)),
         _ => poll_held(alloc, conn, held, step, polls),
     }

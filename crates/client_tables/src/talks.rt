@@ -24,15 +24,17 @@ use std::test::Fail;
 //
 // Steps: `a` the making of the connection, which is the first; `q` a query, `r` a read of the next row, `s` a stream that takes a set,
 // `d` a drop of the result, `p` a ping, `R` a reset, `u` a quit, `c` a check; `i` the facts of the last OK, `v` those of the server and
-// the options, `l` the connection's life, `h` a short one, `t` the tape is taken; `y` whether something is unread, `m` the moment of
-// the last payload, `f` what a pool tells the connection.
+// the options, `l` the connection's life, `h` a short one, `t` the tape is taken; `y` whether something is unread or there is a
+// transaction, `m` the moment of the last payload, `f` what a pool tells the connection.
+// Of transactions: `O` begins one, `I` one with every option; `K` rolls it back, `F` gives it up.
 // Of prepared statements: `P` prepares one with a name, which is held from then on, `M` one of a text with a name and a mark; `X`
 // executes the one that is held, with 42, `Z` without its value; `B` executes it with 42 twice, `T` first with 42 and then without its
 // value, `N` for no list; `Y` closes it; `o` whether the columns of its rows are known.
 // Returned: `k` done, a set is taken, or the server reset its session, `r` a row, `e` the end of a set, `n` that nothing is there, or
 // that the server can't, `.` pending; `S` a server's error, `L` a fault of the link, `U` an end that came too early, `C` that the
 // connection is closed; `A` alive, `D` dead; `c` closed; `R` that the caller refused; `y` and `n` for `y` and `o`; `5` and `7` for `m`;
-// `s` a statement; `M` that names and marks are mixed, `P` that a value is missing.
+// `s` a statement; `M` that names and marks are mixed, `P` that a value is missing; `T` that there is a transaction, `O` that the server
+// is too old for its options.
 // Ended: `k` answered, `e` failed, `x` cancelled, `X` cancelled with the connection closed by that, `.` not yet.
 const POLLED: &str = "\
 gtktOt1234t1234t apivqrrrqduv 111111111111 kkkkkrenkkkc lpqqu gkO12341234 kkkkkkkkk
@@ -103,6 +105,28 @@ gtktw aRp 111 k.C lR gk kXe
 gtktLW aRp 111 k.C l gk kXe
 gtkt12w34 aqRp 1111 kk.C lq gk12 kkXe
 gtkto aRp 101 k.k lp gko kk
+gtktotw aOFqp 11111 kkk.C lBU gko kkkXe
+gtktoto aOOp 1111 kkTk lBp gkoo kkek
+gtktototo aI 11 kk lVCS gkooo kk
+gtkteto aIp 111 kSk lVp gkeo kek
+gtktoteto aIp 111 kSk lVCp gkoeo kek
+gtktototeto aIyp 1111 kSnk lVCSp gkooeo kek
+Htkto aIp 111 kOk lp Hko kek
+gtktoto aOyFyKy 1111111 kkykykn lBU gkoo kkkk
+gtktotetoto aOFpyp 111111 kkkSyk lBUUp gkoeoo kkkek
+gtktotetoto aOKyp 11111 kkSyk lBUUp gkoeoo kkek
+gtktot1234to aOqK 1111 kkkk lBqU gko1234o kkkk
+gtktototo aORyOp 111111 kkkyTk lBRp gkooo kkkek
+gtkth2jtotot12b4to aPOFB 11111 kskkk laBUxx gkh2joo12b4o kkkkk
+gtkto aFyp 1111 kknk lp gko kkk
+gtkt auFOK 11111 kkkCC lu gk kkkee
+gtktwo aO 12 kk lB gko kk
+gtktLW aOp 111 k.C l gk kXe
+gtktw aIp 111 k.C lV gk kXe
+gtktotw aIp 111 k.C lVC gko kXe
+gtktototw aIp 111 k.C lVCS gkoo kXe
+gtkt12w34 aqOp 1111 kk.C lq gk12 kkXe
+gtktotw aOKp 1111 kk.C lBU gko kkXe
 gtkto a 1 k ls gko kkk s
 gtktoto amp 111 k5k lsp gkoo kkkk s
 gtkt1234to a 1 k lqs gk1234o kkkkk qs
@@ -154,10 +178,13 @@ gtkth2jt12b4toth2j aPXRoP kskkys
 Gtkth2jt12b4to aPXRPrrp ksknsrek
 gtkteto aRp kSk
 gtkt aRp kLC
+gtkto aFyp kknk
+gtkt auFp kkkC
 gtk eh kk";
 
 // A row as those that are polled. It plays the same where the link isn't ready before any one of its bytes.
-const HELD: &str = "gtkth2jt12b4toto aPBrR 22222 ksknk laxxR gkh2j12b4oo kkkkk";
+const HELD: &str =
+    "gtkth2jt12b4totototototo aPBrRIK 2222222 ksknkkk laxxRVCSU gkh2j12b4oooooo kkkkkkk";
 
 // The options of each connection.
 const URL: &str = "mysql://root@localhost?max_allowed_packet=4194304&wait_timeout=28800";

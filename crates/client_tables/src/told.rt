@@ -1,5 +1,7 @@
 //! What calls return, as letters.
 
+ghost use Rattle.std.specs.Prelude.{◌≡◌, None};
+
 use crate::link::is_of;
 use my_client::{Said, Tape};
 use my_conn::{Conn, NextAnswer};
@@ -37,6 +39,8 @@ fn of_driver(error: &DriverError) -> u8 {
     match error {
         DriverError::ConnectionClosed => b'C',
         DriverError::MixedParams => b'M',
+        DriverError::NestedTransaction => b'T',
+        DriverError::ReadOnlyTransNotSupported => b'O',
         DriverError::Params(_) => b'P',
         _ => b'?',
     }
@@ -188,7 +192,7 @@ fn of_server<L>(conn: &Conn<L>) -> u8 {
     }
 }
 
-// Whether something of a response is unread.
+// Whether something of a response is unread, or the server has a transaction.
 fn of_rest<L>(conn: &Conn<L>) -> u8 {
     if conn.is_dirty() { b'y' } else { b'n' }
 }
@@ -226,9 +230,19 @@ fn of_marks<L>(conn: &mut Conn<L>) -> u8 {
     yes(conn.is_pooled() && !conn.reset_flag() && conn.now() == 7)
 }
 
-/// What a step shows of a connection without a call.
-pub fn of_shown<L: Link>(conn: &mut Conn<L>, held: &Option<Statement>, step: u8) -> u8 {
+fn of_forgotten<L: Link>(conn: &mut Conn<L>) -> u8
+    requires { conn.old.pending ≡ None }
+{
+    conn.forget_transaction();
+    b'k'
+}
+
+/// What a step shows of a connection without a call. One gives the connection's transaction up.
+pub fn of_shown<L: Link>(conn: &mut Conn<L>, held: &Option<Statement>, step: u8) -> u8
+    requires { conn.old.pending ≡ None }
+{
     match step {
+        b'F' => of_forgotten(conn),
         b'c' => of_check(conn.check()),
         b't' => of_tape(conn.take_tape()),
         b'i' => of_facts(conn),

@@ -6,6 +6,7 @@ ghost use Rattle.my_calls.specs.States.{first_state};
 use crate::states::CallState;
 use my_conn::NextAnswer;
 use my_frame::{Blob, Listed};
+use my_opts_parts::TxOpts;
 use my_params::Params;
 use my_reading::Call;
 use my_statements::Statement;
@@ -137,6 +138,29 @@ impl CallState<Reset, bool> {
         ensures { result ≡ first_state calls.Reset }
     {
         CallState::first(Call::Reset)
+    }
+}
+
+/// The beginning of a transaction, or its end.
+pub type TxCall = CallState<Transact, ()>;
+
+/// Marks `TxCall`.
+#[derive(Drop)]
+pub struct Transact;
+
+impl CallState<Transact, ()> {
+    /// A transaction begins. It is refused where there is one, or where the server is too old for the options.
+    pub fn start(opts: TxOpts) -> TxCall
+        ensures { result ≡ first_state (calls.Begin opts) }
+    {
+        CallState::first(Call::Begin(opts))
+    }
+
+    /// The transaction is rolled back. Where there is none, the server is asked all the same.
+    pub fn rollback() -> TxCall
+        ensures { result ≡ first_state calls.Rollback }
+    {
+        CallState::first(Call::Rollback)
     }
 }
 

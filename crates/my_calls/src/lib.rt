@@ -7,7 +7,8 @@ mod stream;
 
 pub use calls::{
     CloseCall, CloseStmt, DropCall, DropResult, ExecCall, Execute, NextCall, NextRow, Ping,
-    PingCall, PrepCall, Prepare, Query, QueryCall, Quit, QuitCall, Reset, ResetCall,
+    PingCall, PrepCall, Prepare, Query, QueryCall, Quit, QuitCall, Reset, ResetCall, Transact,
+    TxCall,
 };
 pub use my_packets::Poll;
 pub use states::{CallState, Returns};

@@ -35,7 +35,7 @@ use Rattle.my_client.specs.declared.tape.DoneCall.{DoneCall}
 use Rattle.my_client.specs.declared.tape.Said.{Said}
 use Rattle.my_client.specs.declared.tape.Said.TheVariants as says
 use Rattle.my_client.specs.Kept.{Asked, Kept, told_by, ended_by}
-use Rattle.my_client.specs.Reads.{calls_kept, tape_kept, IsRead, span_to, spans_to, AreWithin, AsksAt, EndedRead, RestRead, OpenRead, QuitRead, ReadsAs, StoppedRead, StopsRead}
+use Rattle.my_client.specs.Reads.{calls_kept, tape_kept, IsRead, span_to, spans_to, AreWithin, AsksAt, EndedRead, RestRead, OpenRead, UnrefusedRead, ReadsAs, StoppedRead, StopsRead}
 use Rattle.my_client.proofs.TapeRead.Lists.{between_end, between_none, within_more, within_end, spans_more, spans_end, one_read, with_one, read_one_more, calls_more, spans_at_rest, spans_open, open_span}
 
 -- a list begins with its front
@@ -50,13 +50,13 @@ said_of s p w = subst (λ bytes. begins_with bytes p.sent ≡ true) w.mirrors.al
 -- bytes come to a place in two parts, or none come
 pub bytes_more : (out come more_out more_come : List ℕ) (p : Place) → with_bytes (out ++ more_out) (come ++ more_come) p ≡ with_bytes more_out more_come (with_bytes out come p)
 bytes_more out come more_out more_come p =
-    ap (λ bs. record { call = p.call; talk = p.talk; older = p.older; end_left = p.end_left; taken = p.taken; statements = p.statements; unread = bs; sent = p.sent ++ (out ++ more_out) }) (sym (append_assoc p.unread come more_come))
-    ∙ ap (λ bs. record { call = p.call; talk = p.talk; older = p.older; end_left = p.end_left; taken = p.taken; statements = p.statements; unread = (p.unread ++ come) ++ more_come; sent = bs }) (sym (append_assoc p.sent out more_out))
+    ap (λ bs. record { call = p.call; talk = p.talk; older = p.older; end_left = p.end_left; taken = p.taken; statements = p.statements; status = p.status; unread = bs; sent = p.sent ++ (out ++ more_out) }) (sym (append_assoc p.unread come more_come))
+    ∙ ap (λ bs. record { call = p.call; talk = p.talk; older = p.older; end_left = p.end_left; taken = p.taken; statements = p.statements; status = p.status; unread = (p.unread ++ come) ++ more_come; sent = bs }) (sym (append_assoc p.sent out more_out))
 
 pub no_bytes : (p : Place) → with_bytes [] [] p ≡ p
 no_bytes p =
-    ap (λ bs. record { call = p.call; talk = p.talk; older = p.older; end_left = p.end_left; taken = p.taken; statements = p.statements; unread = bs; sent = p.sent ++ [] }) (append-nil p.unread)
-    ∙ ap (λ bs. record { call = p.call; talk = p.talk; older = p.older; end_left = p.end_left; taken = p.taken; statements = p.statements; unread = p.unread; sent = bs }) (append-nil p.sent)
+    ap (λ bs. record { call = p.call; talk = p.talk; older = p.older; end_left = p.end_left; taken = p.taken; statements = p.statements; status = p.status; unread = bs; sent = p.sent ++ [] }) (append-nil p.unread)
+    ∙ ap (λ bs. record { call = p.call; talk = p.talk; older = p.older; end_left = p.end_left; taken = p.taken; statements = p.statements; status = p.status; unread = p.unread; sent = bs }) (append-nil p.sent)
 
 -- the calls that ended, when bytes come
 pub ended_more : (login : Login) (k : Kept) (n m : ℕ) (closed : Bool) (place : Place) (out come : List ℕ) → EndedRead login k n m closed place

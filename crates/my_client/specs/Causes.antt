@@ -8,6 +8,7 @@ use Rattle.my_reading.specs.declared.error.IoError.{IoError}
 use Rattle.my_reading.specs.declared.error.IoError.TheVariants as ios
 use Rattle.my_reading.specs.declared.error.IoKind.{IoKind}
 use Rattle.my_reading.specs.declared.error.IoKind.TheVariants as kinds
+use Rattle.my_reading.specs.declared.transaction.TxStatus.{TxStatus}
 use Rattle.my_reading.specs.Calls.{kind_of}
 use Rattle.my_reading.specs.Course.{Owes, Awaits}
 use Rattle.my_reading.specs.Statements.{Statements}
@@ -29,8 +30,8 @@ use Rattle.my_client.specs.Reads.{ComesTo, IsWaiting, stop_kept}
 
 -- Which errors a poll may come to in which the link failed `faults` times and ended `ends` times: a link's fault only where it
 -- failed, an end that came too early only where it ended, and both only where the call stopped for bytes; each other error only
--- where the link didn't fail, and the call comes to it by what it carries and by its bytes. The driver refuses texts and
--- parameters alone.
+-- where the link didn't fail, and the call comes to it by what it carries and by its bytes. The driver refuses texts,
+-- parameters and transactions alone.
 abbrev pub KindBy : Login → Kept → Error → IoKind → ℕ → ℕ → Type 0
 KindBy login k e kinds.Link faults ends = (0 < faults) × IsWaiting login k
 KindBy login k e kinds.Dial faults ends = ⊥
@@ -51,15 +52,17 @@ ErrorBy login k (errors.Other e) faults ends = ⊥
 ErrorBy login k errors.NoMemory faults ends = ⊥
 
 -- The error has its cause in what the grammar finds in the bytes taken, over a history that is what was kept, of a call that was
--- made to fail so, or wasn't, where some prepared statements are known; which, says the reading (`ComesTo`). Where these bytes,
--- with those that may still come, are whole exchanges and bring no further ERR, the cause is none of them.
+-- made to fail so, or wasn't, where some prepared statements are known and a transaction stands somehow; which and how, says the
+-- reading (`ComesTo`). Where these bytes, with those that may still come, are whole exchanges and bring no further ERR, the cause
+-- is none of them.
 pub record WhyFailed (login : Login) (k : Kept) (e : Error) : Type 0 where
   pub made : Option LinkFault
   pub statements : Statements
+  pub status : TxStatus
   pub history : History
   pub kept : IsOf k history
-  pub because : Because login made statements history e
-  pub whole : FailsOutside login made statements history e because
+  pub because : Because login made statements status history e
+  pub whole : FailsOutside login made statements status history e because
 
 -- why a poll stays pending: a read wasn't ready where the call awaits bytes, a write where it owes some, or the poll took all
 -- that it may, and the call still stops for bytes

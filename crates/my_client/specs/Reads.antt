@@ -1,9 +1,8 @@
 -- What a connection kept, by the one reading of its tape.
 use Rattle.std.specs.Prelude.{◌≡◌, ◌≢◌, ◌≤◌, ◌⊎◌, ℕ, List, [], ◌∷◌, length, drop, Option, Some, None, Bool, true, false}
 use Rattle.my_grammar.specs.declared.login.Login.{Login}
-use Rattle.my_reading.specs.declared.call.CallKind.TheVariants.{Quit}
 use Rattle.my_reading.specs.declared.facts.Facts.{Facts}
-use Rattle.my_reading.specs.Calls.{kind_of}
+use Rattle.my_reading.specs.Calls.{kind_of, is_unrefused}
 use Rattle.my_reading.specs.Course.{Part, Stop, Owes, Awaits, Returns, Stops, step, parts_of}
 use Rattle.my_reading.specs.Endings.{AreCalls}
 use Rattle.my_reading.specs.Leads.{Leads}
@@ -100,12 +99,12 @@ pub record OpenRead (login : Login) (s : Seen) (k : Kept) (a : Asked) : Type 0 w
       (with_bytes (drop a.sent_from k.sent) (drop a.taken_from k.taken) before) parts place
   pub at : OpenAt s a.call parts place
 
--- a quit on a closed session, which sends nothing
-pub record QuitRead (login : Login) (s : Seen) (k : Kept) (a : Asked) : Type 0 where
+-- a call that a closed session doesn't refuse, on one, which sends nothing
+pub record UnrefusedRead (login : Login) (s : Seen) (k : Kept) (a : Asked) : Type 0 where
   pub before : Place
   pub ended : EndedRead login k a.sent_from a.taken_from true before
-  pub quit : kind_of a.call ≡ Quit
-  pub leaving : s.task ≡ Leaving
+  pub unrefused : is_unrefused (kind_of a.call) ≡ true
+  pub leaving : s.task ≡ Leaving (kind_of a.call)
   pub closed_is : s.closed ≡ true
   pub nothing_sent : a.sent_from ≡ length k.sent
   pub nothing_taken : a.taken_from ≡ length k.taken
@@ -113,7 +112,7 @@ pub record QuitRead (login : Login) (s : Seen) (k : Kept) (a : Asked) : Type 0 w
 
 abbrev pub ReadsAs : Login → Seen → Kept → Option Asked → Type 0
 ReadsAs login s k None = RestRead login s k
-ReadsAs login s k (Some a) = OpenRead login s k a ⊎ QuitRead login s k a
+ReadsAs login s k (Some a) = OpenRead login s k a ⊎ UnrefusedRead login s k a
 
 -- what a session asks for where its open call stops so
 abbrev pub AsksAt : Seen → Stop → Type 0

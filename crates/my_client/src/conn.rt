@@ -142,6 +142,9 @@ pub fn is_connecting<L>(conn: &TapedConn<L>) -> bool
             | Call::SkipTaken
             | Call::Ping
             | Call::Reset
+            | Call::Begin(_)
+            | Call::Rollback
+            | Call::ForgetTransaction
             | Call::Quit => false,
         },
     }

@@ -1,4 +1,5 @@
 pub mod Standing
 pub mod Cancelling
+pub mod Forgetting
 pub mod Driving
 pub mod Making

@@ -8,7 +8,7 @@ use Rattle.my_link.specs.declared.met.Met.{Met}
 use Rattle.my_reading.specs.declared.answer.Answer.TheVariants as answers
 use Rattle.my_reading.specs.declared.call.Call.{Call}
 use Rattle.my_reading.specs.declared.call.CallKind.{CallKind}
-use Rattle.my_reading.specs.declared.call.CallKind.TheVariants.{Quit}
+use Rattle.my_reading.specs.declared.call.CallKind.TheVariants.{ForgetTransaction, Quit}
 use Rattle.my_reading.specs.declared.error.Error.TheVariants as errors
 use Rattle.my_reading.specs.Errors.{connection_closed}
 use Rattle.my_client.specs.declared.poll.After.{After}
@@ -21,6 +21,7 @@ use Rattle.my_conn.specs.Conn.{ConnSeen, session_of}
 
 -- a lost connection is closed
 abbrev pub lost_answer : CallKind → After
+lost_answer ForgetTransaction = Answered answers.Ready
 lost_answer Quit = Answered answers.Ready
 lost_answer _ = Failed connection_closed
 

@@ -10,7 +10,7 @@ use Rattle.my_reading.specs.declared.call.Call.{Call}
 use Rattle.my_reading.specs.declared.call.Call.TheVariants as calls
 use Rattle.my_reading.specs.declared.call.CallKind.{CallKind}
 use Rattle.my_reading.specs.declared.call.CallKind.TheVariants as kinds
-use Rattle.my_reading.specs.declared.call.CallKind.TheVariants.{Quit}
+use Rattle.my_reading.specs.declared.call.CallKind.TheVariants.{ForgetTransaction, Quit}
 use Rattle.my_reading.specs.declared.error.DriverError.TheVariants.{TooLong}
 use Rattle.my_reading.specs.declared.error.Error.{Error}
 use Rattle.my_reading.specs.declared.error.Error.TheVariants as errors
@@ -38,6 +38,7 @@ ResultFits c (Ok answer) = may_be c (told answer) ≡ true
 ResultFits c (Err e) = Unit {0}
 
 abbrev pub lost_result : CallKind → Result Answer Error
+lost_result ForgetTransaction = Ok answers.Ready
 lost_result Quit = Ok answers.Ready
 lost_result _ = Err connection_closed
 

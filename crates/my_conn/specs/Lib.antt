@@ -1,6 +1,7 @@
 pub mod Conn
 pub mod Calls
 pub mod Cancels
+pub mod Forgets
 pub mod Checks
 pub mod Connects
 pub mod Connected

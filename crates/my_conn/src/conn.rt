@@ -2,7 +2,7 @@
 ghost use Rattle.std.specs.Prelude.{◌≡◌, ◌||◌, Some, None, true, false};
 ghost use Rattle.std.specs.Option.{option_copied};
 ghost use Rattle.my_session.specs.Steps.{is_taken};
-ghost use Rattle.my_session.specs.Rest.{has_rest};
+ghost use Rattle.my_session.specs.Rest.{is_dirty};
 ghost use Rattle.my_statements.specs.Known.{known_of};
 ghost use Rattle.my_line.specs.Calls.{pending_after};
 ghost use Rattle.my_conn.specs.Calls.{lost_answer};
@@ -10,7 +10,7 @@ ghost use Rattle.my_conn.specs.News.{first_fixed};
 
 use my_client::{After, Tape};
 use my_frame::NoMemory;
-use my_line::{cancel_open, poll_once};
+use my_line::{cancel_open, forget_open, poll_once};
 use my_link::{CheckStep, Link, Met};
 use my_opts::Opts;
 use my_reading::{Answer, Call, CallKind, DriverError, Error, SetColumns};
@@ -49,6 +49,8 @@ impl Fixed {
 /// Out of memory, it is lost: it is closed then, and keeps no tape.
 #[derive(Drop)]
 pub struct Conn<L> {
+    // What a transaction is given up with.
+    alloc: Global,
     session: Session,
     link: L,
     tape: Option<Tape>,
@@ -81,7 +83,7 @@ fn lost_answer(kind: CallKind) -> After
     ensures { result ≡ lost_answer kind }
 {
     match kind {
-        CallKind::Quit => After::Answered(Answer::Ready),
+        CallKind::ForgetTransaction | CallKind::Quit => After::Answered(Answer::Ready),
         CallKind::Connect
         | CallKind::Query
         | CallKind::Prepare
@@ -93,7 +95,9 @@ fn lost_answer(kind: CallKind) -> After
         | CallKind::TakeSet
         | CallKind::SkipTaken
         | CallKind::Ping
-        | CallKind::Reset => After::Failed(Error::Driver(DriverError::ConnectionClosed)),
+        | CallKind::Reset
+        | CallKind::Begin
+        | CallKind::Rollback => After::Failed(Error::Driver(DriverError::ConnectionClosed)),
     }
 }
 
@@ -111,7 +115,13 @@ impl<L> Conn<L> {
     ghost use Rattle.my_conn.specs.Conn.{Standing};
 
     // A connection whose making is done.
-    pub(crate) fn made(session: Session, link: L, tape: Option<Tape>, fixed: Fixed) -> Conn<L>
+    pub(crate) fn made(
+        alloc: Global,
+        session: Session,
+        link: L,
+        tape: Option<Tape>,
+        fixed: Fixed,
+    ) -> Conn<L>
         requires { Standing false session.seen tape None }
         ensures { result ≡ record {
           seen = session.seen;
@@ -124,6 +134,7 @@ impl<L> Conn<L> {
         } }
     {
         Conn {
+            alloc,
             session,
             link,
             tape,
@@ -161,11 +172,12 @@ impl<L> Conn<L> {
         self.session.wait_timeout()
     }
 
-    /// Whether the rest of a response is unread: rows, a further set, or the end of a lone OK.
+    /// Whether the rest of a response is unread (rows, a further set, or the end of a lone OK), or the server has a transaction, which
+    /// is open or given up.
     pub fn is_dirty(&self) -> bool
-        ensures { result ≡ has_rest self.now.seen }
+        ensures { result ≡ is_dirty self.now.seen }
     {
-        self.session.has_rest()
+        self.session.is_dirty()
     }
 
     /// The kind of the call that is open.
@@ -175,7 +187,7 @@ impl<L> Conn<L> {
         self.pending
     }
 
-    /// Whether it is closed: no call but a quit can be made.
+    /// Whether it is closed: it refuses each call that has something to do there.
     pub fn is_disconnected(&self) -> bool
         ensures { result ≡ (self.now.lost || self.now.seen.closed) }
     {
@@ -337,6 +349,31 @@ impl<L: Link> Conn<L> {
 }
 
 impl<L> Conn<L> {
+    ghost use Rattle.my_conn.specs.Forgets.{ForgetIs};
+
+    /// Gives the transaction up, where the server has one: it is rolled back before the next command. Nothing is sent, and nothing is
+    /// waited for.
+    pub fn forget_transaction(&mut self)
+        requires { self.old.pending ≡ None }
+        ensures { ForgetIs self.old self.new }
+    {
+        if self.lost {
+            return;
+        }
+        match forget_open(
+            self.alloc,
+            &mut self.session,
+            &mut self.tape,
+            self.fixed.now,
+        ) {
+            Ok(()) => {}
+            Err(NoMemory) => {
+                self.lost = true;
+                drop(self.tape.take());
+            }
+        }
+    }
+
     pub(crate) fn link(&self) -> &L
         ensures { result.now ≡ self.now.link }
     {

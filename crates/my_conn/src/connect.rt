@@ -40,7 +40,7 @@ impl<L: BlockingLink + Drop> Conn<L> {
         drop(tape);
         let mut tape = None;
         match shake_hands(alloc, &mut session, &mut link, &mut tape, now) {
-            Ok(()) => return Ok(Conn::made(session, link, tape, fixed)),
+            Ok(()) => return Ok(Conn::made(alloc, session, link, tape, fixed)),
             Err(error) => {
                 drop(session);
                 drop(link);

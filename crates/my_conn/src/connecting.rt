@@ -140,7 +140,7 @@ impl<L: Link + Drop> Connecting<L> {
                 at,
                 fixed,
             }),
-            Ok(None) => Connected::Made(Conn::made(session, link, tape, fixed)),
+            Ok(None) => Connected::Made(Conn::made(alloc, session, link, tape, fixed)),
             Err(error) => {
                 drop(session);
                 drop(link);

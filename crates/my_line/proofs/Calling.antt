@@ -4,7 +4,7 @@ use Rattle.my_grammar.specs.declared.login.Login.{Login}
 use Rattle.my_link.specs.Looks.{Looks}
 use Rattle.my_link.specs.Met.{nothing_met}
 use Rattle.my_link.specs.declared.met.Met.{Met}
-use Rattle.my_reading.specs.Calls.{kind_of, is_quit}
+use Rattle.my_reading.specs.Calls.{kind_of, is_unrefused}
 use Rattle.my_reading.specs.Errors.{connection_closed}
 use Rattle.my_reading.specs.Told.{ToldError}
 use Rattle.my_reading.specs.declared.call.Call.{Call}
@@ -83,7 +83,7 @@ pub refused_call : (s t : Seen) (x y : Looks) (p q r : Option Tape) (call : Call
 refused_call s t x y p q r call m e idle noted refused same why st link none after login k w agrees =
     let end : Kept = ended_by (asking k call None) (asked_by k call) (says.Failed connection_closed) in
     let rests : Rests login t end = refuses login s t k call idle refused same st w.0 in
-    let parts = refused_so s.closed (is_quit (kind_of call)) refused in
+    let parts = refused_so s.closed (is_unrefused (kind_of call)) refused in
     record {
       end = end;
       rests = rests;

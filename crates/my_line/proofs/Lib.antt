@@ -2,6 +2,7 @@ pub mod Noting
 pub mod Calling
 pub mod Standing
 pub mod Cancelling
+pub mod Forgetting
 pub mod Joins
 pub mod Using
 pub mod Waiting

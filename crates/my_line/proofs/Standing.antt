@@ -37,7 +37,7 @@ asked_kind None c e = absurd (no_kind e)
     no_kind e = cc
 asked_kind (Some a) c e = (a, refl, cc)
 
-no_asked : (q : Option Asked) → None ≡ option_map (λ (a : Asked). kind_of a.call) q → q ≡ None
+pub no_asked : (q : Option Asked) → None ≡ option_map (λ (a : Asked). kind_of a.call) q → q ≡ None
 no_asked None e = refl
 no_asked (Some a) e = cc
 
@@ -58,7 +58,7 @@ open_kept login s k a r e = elim (bool_cases (is_open s.task)) [
   | inr down ↦ absurd (none_some k.pending a (is_idle login s k down r.heard) e)
 ]
 
-idle_kept : (login : Login) (s : Seen) (k : Kept) → Rests login s k → k.pending ≡ None → is_open s.task ≡ false
+pub idle_kept : (login : Login) (s : Seen) (k : Kept) → Rests login s k → k.pending ≡ None → is_open s.task ≡ false
 idle_kept login s k r e = elim (bool_cases (is_open s.task)) [
   | inl up ↦ let a = is_asked login s k up r.heard in absurd (none_some k.pending a.0 e a.1)
   | inr down ↦ down

@@ -8,7 +8,7 @@ use Rattle.my_link.specs.Met.{nothing_met}
 use Rattle.my_link.specs.declared.met.Met.{Met}
 use Rattle.my_reading.specs.declared.call.Call.{Call}
 use Rattle.my_reading.specs.declared.call.CallKind.{CallKind}
-use Rattle.my_reading.specs.Calls.{kind_of, is_connect, is_quit}
+use Rattle.my_reading.specs.Calls.{kind_of, is_connect, is_unrefused}
 use Rattle.my_reading.specs.Errors.{connection_closed}
 use Rattle.my_reading.specs.Told.{told}
 use Rattle.my_session.specs.Fits.{may_be}
@@ -49,12 +49,12 @@ pub record PollsOn (login : Login) (call : Option Call) (x y : Looks) (k end : K
   pub pending : (asked_for call k).pending ≡ Some asked
   pub polled : IsPolled login asked (asked_for call k) x m after end y
 
--- a closed connection refuses each call but a quit, and meets nothing
+-- a closed connection refuses each call that has something to do there, and meets nothing
 pub record Refuses (call : Option Call) (x y : Looks) (k end : Kept) (m : Met) (after : After) : Type 0 where
   pub given : Call
   pub call_is : call ≡ Some given
   pub closed : has_closed (made_of k.calls) ≡ true
-  pub other : is_quit (kind_of given) ≡ false
+  pub other : is_unrefused (kind_of given) ≡ false
   pub after_is : after ≡ Failed connection_closed
   pub end_is : end ≡ ended_by (asking k given None) (asked_by k given) (says.Failed connection_closed)
   pub link_is : y ≡ x

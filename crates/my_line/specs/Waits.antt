@@ -12,7 +12,7 @@ use Rattle.my_reading.specs.declared.call.Call.TheVariants.{Connect}
 use Rattle.my_reading.specs.declared.error.DriverError.TheVariants.{TooLong}
 use Rattle.my_reading.specs.declared.error.Error.{Error}
 use Rattle.my_reading.specs.declared.error.Error.TheVariants as errors
-use Rattle.my_reading.specs.Calls.{kind_of, is_quit}
+use Rattle.my_reading.specs.Calls.{kind_of, is_unrefused}
 use Rattle.my_reading.specs.Errors.{connection_closed}
 use Rattle.my_reading.specs.Told.{told}
 use Rattle.my_session.specs.Fits.{may_be}
@@ -55,10 +55,10 @@ pub record Driven (login : Login) (call : Call) (x y : Looks) (k : Kept) (n : �
   pub carries : Carries k following call sent came
   pub ends : DriveEnds login (asked_by k call) following stop r end
 
--- a closed connection refuses each call but a quit
+-- a closed connection refuses each call that has something to do there
 pub record DriveRefused (call : Call) (x y : Looks) (k : Kept) (n : ℕ) (r : Result Answer Error) (end : Kept) : Type 0 where
   pub closed : has_closed (made_of k.calls) ≡ true
-  pub other : is_quit (kind_of call) ≡ false
+  pub other : is_unrefused (kind_of call) ≡ false
   pub result_is : r ≡ Err connection_closed
   pub end_is : end ≡ ended_by (asking k call None) (asked_by k call) (says.Failed connection_closed)
   pub link_is : y ≡ x

@@ -10,7 +10,6 @@ ghost use Rattle.my_client.specs.Kept.{Asked, Kept, asking, ended_by};
 ghost use Rattle.my_client.specs.Lives.{made_in};
 ghost use Rattle.my_client.specs.Notes.{Agrees};
 ghost use Rattle.my_client.specs.Turns.{EachPoll};
-ghost use Rattle.my_client.specs.declared.tape.Said.TheVariants as says;
 ghost use Rattle.my_line.specs.Calls.{EachCall, Leaves, MayStart};
 ghost use Rattle.my_line.specs.Cancels.{EachCancel};
 
@@ -22,7 +21,7 @@ use my_session::Session;
 use std::alloc::Global;
 
 // Notes that this call begins.
-fn note_call(alloc: Global, tape: &mut Option<Tape>, call: &Call) -> Result<(), NoMemory>
+pub(crate) fn note_call(alloc: Global, tape: &mut Option<Tape>, call: &Call) -> Result<(), NoMemory>
     ensures noted { OnOk result ((k : Kept) → Agrees tape.old k → Agrees tape.new (asking k call.now None)) }
     ensures keeps { OnOk result (is_some tape.new ≡ is_some tape.old) }
 {
@@ -171,17 +170,14 @@ pub fn poll_once<L: Link>(
     }
 }
 
-// Notes that the open call was cancelled.
-fn note_cancel(tape: &mut Option<Tape>, closing: bool)
-    ensures noted { (k : Kept) (a : Asked) → Agrees tape.old k → k.pending ≡ Some a
-        → Agrees tape.new (ended_by k a (says.Cancelled closing)) }
+// Notes how the open call ended.
+pub(crate) fn note_end(tape: &mut Option<Tape>, said: Said)
+    ensures noted { (k : Kept) (a : Asked) → Agrees tape.old k → k.pending ≡ Some a → Agrees tape.new (ended_by k a said) }
     ensures keeps { is_some tape.new ≡ is_some tape.old }
 {
     match tape {
-        None => {}
-        Some(tape) => {
-            drop(tape.note(Said::Cancelled(closing)));
-        }
+        None => drop(said),
+        Some(tape) => drop(tape.note(said)),
     }
 }
 
@@ -206,5 +202,5 @@ pub fn cancel_open(session: &mut Session, tape: &mut Option<Tape>)
     ensures keeps { is_some tape.new ≡ is_some tape.old }
 {
     let closing = cancel_session(session);
-    note_cancel(tape, closing);
+    note_end(tape, Said::Cancelled(closing));
 }

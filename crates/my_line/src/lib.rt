@@ -3,11 +3,13 @@
 #![tactic(auto)]
 
 mod begin;
+mod forget;
 mod handshake;
 mod making;
 mod texts;
 
 pub use begin::{cancel_open, poll_once};
+pub use forget::forget_open;
 pub use handshake::{TOO_LONG, never_holds, shake_hands};
 pub use making::make;
 pub use texts::Making;

@@ -5,11 +5,11 @@ use Rattle.my_value.specs.RowParts.{RowParts}
 use Rattle.my_reading.specs.declared.call.Call.{Call}
 use Rattle.my_reading.specs.declared.call.Call.TheVariants as calls
 use Rattle.my_reading.specs.declared.call.CallKind.{CallKind}
-use Rattle.my_reading.specs.declared.call.CallKind.TheVariants.{Connect, Query, Prepare, Execute, Batch, CloseStmt, NextRow, DropResult, TakeSet, SkipTaken, Ping, Reset, Quit}
+use Rattle.my_reading.specs.declared.call.CallKind.TheVariants.{Connect, Query, Prepare, Execute, Batch, CloseStmt, NextRow, DropResult, TakeSet, SkipTaken, Ping, Reset, Begin, Rollback, ForgetTransaction, Quit}
 use Rattle.my_session.specs.declared.task.Task.{Task}
-use Rattle.my_session.specs.declared.task.Task.TheVariants.{Nothing, Begun, Cleaning, Own, Giving, Arranging, Running, Finishing, Clearing, Setting, Reading, Dropping, Taking, Skipping, Leaving, Failing}
+use Rattle.my_session.specs.declared.task.Task.TheVariants.{Nothing, Begun, Cleaning, Undoing, Cleaned, Own, Giving, Arranging, Running, Finishing, Clearing, Asking, Reading, Dropping, Taking, Skipping, Leaving, Failing}
 use Rattle.my_grammar.specs.declared.spot.Spot.{Spot}
-use Rattle.my_reading.specs.Calls.{kind_of, call_of, is_quit}
+use Rattle.my_reading.specs.Calls.{kind_of, call_of, is_unrefused}
 use Rattle.my_reading.specs.Course.{is_greeting}
 use Rattle.my_reading.specs.Place.{Place, Exchange, exchanges, connects_in}
 use Rattle.my_session.specs.Tasks.{kind_in, fault_in, is_open}
@@ -26,9 +26,9 @@ use Rattle.my_client.specs.declared.tape.Said.TheVariants as says
 use Rattle.my_client.specs.Kept.{asked_by, first_asked, first_kept, nothing_kept, Asked, Kept, IsHeard, made_of, is_note, answers_in, call_in, asking, ended_by}
 use Rattle.my_client.specs.declared.conn.TapedConn.{TapedConn}
 use Rattle.my_client.specs.Conn.{kept_of}
-use Rattle.my_client.specs.Reads.{OpenRead, QuitRead, RestRead, ReadsAs}
+use Rattle.my_client.specs.Reads.{OpenRead, UnrefusedRead, RestRead, ReadsAs}
 use Rattle.my_client.specs.Rests.{Rests, IsAsked}
-use Rattle.my_client.proofs.TapeRead.Sessions.{begin_open, begin_quit, fresh_read, refuse_read}
+use Rattle.my_client.proofs.TapeRead.Sessions.{begin_open, begin_unrefused, fresh_read, refuse_read}
 use Rattle.my_client.proofs.Hearing.{answer_counts, ended_of}
 
 -- notes close nothing
@@ -59,6 +59,9 @@ note_keeps SkipTaken (ToldError e) n = cc
 note_keeps SkipTaken (Dropped closing) n = cc
 note_keeps Ping t n = cc
 note_keeps Reset t n = cc
+note_keeps Begin t n = cc
+note_keeps Rollback t n = cc
+note_keeps ForgetTransaction t n = cc
 note_keeps Quit t n = cc
 
 closed_if : (m : Made) (ms : List Made) (b : Bool) → is_note (kind_of m.call) m.what ≡ b → has_closed ms ≡ has_closed (answers_in ms) → has_closed (m ∷ ms) ≡ has_closed (cond b (answers_in ms) (m ∷ answers_in ms))
@@ -83,18 +86,20 @@ open_call t carried p (Some a) o e f = (a, refl)
 open_call Nothing carried p None o e f = cc
 open_call (Begun c) carried p None o e f = let no : Some (call_of c carried) ≡ None = sym e ∙ f in cc
 open_call (Cleaning c) carried p None o e f = let no : Some (call_of c carried) ≡ None = sym e ∙ f in cc
+open_call (Undoing c) carried p None o e f = let no : Some (call_of c carried) ≡ None = sym e ∙ f in cc
+open_call (Cleaned c) carried p None o e f = let no : Some (call_of c carried) ≡ None = sym e ∙ f in cc
 open_call (Own c) carried p None o e f = let no : Some (call_of c carried) ≡ None = sym e ∙ f in cc
 open_call Giving carried p None o e f = let no : Some (call_of Prepare carried) ≡ None = sym e ∙ f in cc
 open_call (Arranging n) carried p None o e f = let no : Some (call_of Connect carried) ≡ None = sym e ∙ f in cc
 open_call (Running n) carried p None o e f = let no : Some (call_of Batch carried) ≡ None = sym e ∙ f in cc
 open_call (Finishing n) carried p None o e f = let no : Some (call_of Batch carried) ≡ None = sym e ∙ f in cc
 open_call Clearing carried p None o e f = let no : Some (call_of Reset carried) ≡ None = sym e ∙ f in cc
-open_call (Setting n) carried p None o e f = let no : Some (call_of Reset carried) ≡ None = sym e ∙ f in cc
+open_call (Asking c n) carried p None o e f = let no : Some (call_of c carried) ≡ None = sym e ∙ f in cc
 open_call Reading carried p None o e f = let no : Some (call_of NextRow carried) ≡ None = sym e ∙ f in cc
 open_call Dropping carried p None o e f = let no : Some (call_of DropResult carried) ≡ None = sym e ∙ f in cc
 open_call Taking carried p None o e f = let no : Some (call_of TakeSet carried) ≡ None = sym e ∙ f in cc
 open_call Skipping carried p None o e f = let no : Some (call_of SkipTaken carried) ≡ None = sym e ∙ f in cc
-open_call Leaving carried p None o e f = let no : Some (call_of Quit carried) ≡ None = sym e ∙ f in cc
+open_call (Leaving c) carried p None o e f = let no : Some (call_of c carried) ≡ None = sym e ∙ f in cc
 open_call (Failing c fault) carried p None o e f = let no : Some (call_of c carried) ≡ None = sym e ∙ f in cc
 
 pub is_asked : (login : Login) (s : Seen) (k : Kept) → is_open s.task ≡ true → IsHeard login s k → (a : Asked) × (k.pending ≡ Some a)
@@ -105,18 +110,20 @@ no_call t carried p None o e f = refl
 no_call Nothing carried p (Some a) o e f = let no : None ≡ Some a.call = sym e ∙ f in cc
 no_call (Begun c) carried p (Some a) o e f = cc
 no_call (Cleaning c) carried p (Some a) o e f = cc
+no_call (Undoing c) carried p (Some a) o e f = cc
+no_call (Cleaned c) carried p (Some a) o e f = cc
 no_call (Own c) carried p (Some a) o e f = cc
 no_call Giving carried p (Some a) o e f = cc
 no_call (Arranging n) carried p (Some a) o e f = cc
 no_call (Running n) carried p (Some a) o e f = cc
 no_call (Finishing n) carried p (Some a) o e f = cc
 no_call Clearing carried p (Some a) o e f = cc
-no_call (Setting n) carried p (Some a) o e f = cc
+no_call (Asking c n) carried p (Some a) o e f = cc
 no_call Reading carried p (Some a) o e f = cc
 no_call Dropping carried p (Some a) o e f = cc
 no_call Taking carried p (Some a) o e f = cc
 no_call Skipping carried p (Some a) o e f = cc
-no_call Leaving carried p (Some a) o e f = cc
+no_call (Leaving c) carried p (Some a) o e f = cc
 no_call (Failing c fault) carried p (Some a) o e f = cc
 
 pub is_idle : (login : Login) (s : Seen) (k : Kept) → is_open s.task ≡ false → IsHeard login s k → k.pending ≡ None
@@ -138,48 +145,52 @@ begun_stands TakeSet spot connected p w first = settled_not_greeting spot (settl
 begun_stands SkipTaken spot connected p w first = settled_not_greeting spot (settled_reads spot w.1)
 begun_stands Ping spot connected p w first = settled_not_greeting spot (settled_reads spot w.1)
 begun_stands Reset spot connected p w first = settled_not_greeting spot (settled_reads spot w.1)
+begun_stands Begin spot connected p w first = settled_not_greeting spot (settled_reads spot w.1)
+begun_stands Rollback spot connected p w first = settled_not_greeting spot (settled_reads spot w.1)
+begun_stands ForgetTransaction spot connected p w first = settled_not_greeting spot (settled_reads spot w.1)
 begun_stands Quit spot connected p w first = settled_not_greeting spot (settled_reads spot w.1)
 
 pub idle_task : (t : Task) → is_open t ≡ false → t ≡ Nothing
 idle_task Nothing e = refl
 idle_task (Begun c) e = cc
 idle_task (Cleaning c) e = cc
+idle_task (Undoing c) e = cc
+idle_task (Cleaned c) e = cc
 idle_task (Own c) e = cc
 idle_task Giving e = cc
 idle_task (Arranging n) e = cc
 idle_task (Running n) e = cc
 idle_task (Finishing n) e = cc
 idle_task Clearing e = cc
-idle_task (Setting n) e = cc
+idle_task (Asking c n) e = cc
 idle_task Reading e = cc
 idle_task Dropping e = cc
 idle_task Taking e = cc
 idle_task Skipping e = cc
-idle_task Leaving e = cc
+idle_task (Leaving c) e = cc
 idle_task (Failing c fault) e = cc
 
 begins_read : (login : Login) (s t : Seen) (k : Kept) (call : Call) (rows : Option (List RowParts)) → is_open s.task ≡ false → t ≡ begun s call → (h : History) → Stands t (began h call) → s.login ≡ login → RestRead login s k
-    → OpenRead login t (asking k call rows) (record { call = call; sent_from = length k.sent; taken_from = length k.taken; rows = rows }) ⊎ QuitRead login t (asking k call rows) (record { call = call; sent_from = length k.sent; taken_from = length k.taken; rows = rows })
+    → OpenRead login t (asking k call rows) (record { call = call; sent_from = length k.sent; taken_from = length k.taken; rows = rows }) ⊎ UnrefusedRead login t (asking k call rows) (record { call = call; sent_from = length k.sent; taken_from = length k.taken; rows = rows })
 begins_read login s t k call rows idle e h st log w = by_closed s.closed refl
   where
-    task_is : (b : Bool) → s.closed ≡ b → t.task ≡ cond b Leaving (Begun (kind_of call))
-    task_is b c = ap (λ (x : Seen). x.task) e ∙ ap (λ b. cond b Leaving (Begun (kind_of call))) c
+    task_is : (b : Bool) → s.closed ≡ b → t.task ≡ cond b (Leaving (kind_of call)) (Begun (kind_of call))
+    task_is b c = ap (λ (x : Seen). x.task) e ∙ ap (λ b. cond b (Leaving (kind_of call)) (Begun (kind_of call))) c
 
     spot_is : t.context.spot ≡ s.context.spot
     spot_is = ap (λ (x : Seen). x.context.spot) e
 
-    by_closed : (b : Bool) → s.closed ≡ b → OpenRead login t (asking k call rows) (record { call = call; sent_from = length k.sent; taken_from = length k.taken; rows = rows }) ⊎ QuitRead login t (asking k call rows) (record { call = call; sent_from = length k.sent; taken_from = length k.taken; rows = rows })
+    by_closed : (b : Bool) → s.closed ≡ b → OpenRead login t (asking k call rows) (record { call = call; sent_from = length k.sent; taken_from = length k.taken; rows = rows }) ⊎ UnrefusedRead login t (asking k call rows) (record { call = call; sent_from = length k.sent; taken_from = length k.taken; rows = rows })
     by_closed false c =
         let at = subst (λ (u : Task). TaskIs u t.context.spot t.closed (has_connected h.calls) (connecting_in (st.newest ∷ st.older)) st.newest) (task_is false c) st.heard.at in
         inl (begin_open login s t k call e log (idle_task s.task idle) w rows c
         (begun_stands (kind_of call) s.context.spot (has_connected h.calls) w.place (subst (λ x. BegunAt (kind_of call) x (has_connected h.calls)) spot_is at) w.at.mirrors.first))
     by_closed true c =
-        let quit : Some call ≡ Some calls.Quit = st.heard.pending_is ∙ ap (λ (u : Task). call_with (kind_in u) t.call) (task_is true c) in
-        let is : call ≡ calls.Quit = cc in
-        inr (begin_quit login s t k call e log (idle_task s.task idle) w rows c (ap kind_of is))
+        let at = subst (λ (u : Task). TaskIs u t.context.spot t.closed (has_connected h.calls) (connecting_in (st.newest ∷ st.older)) st.newest) (task_is true c) st.heard.at in
+        inr (begin_unrefused login s t k call e log (idle_task s.task idle) w rows c at.1)
 
 -- the call begins
-begun_fault : (b : Bool) (c : CallKind) → fault_in (cond b Leaving (Begun c)) ≡ None
+begun_fault : (b : Bool) (c : CallKind) → fault_in (cond b (Leaving c) (Begun c)) ≡ None
 begun_fault true c = refl
 begun_fault false c = refl
 
@@ -199,10 +210,10 @@ begins login s t k call rows idle e st w = record {
   asked = refl;
 }
 
-pub refused_so : (closed quit : Bool) → closed && not quit ≡ true → (closed ≡ true) × (quit ≡ false)
+pub refused_so : (closed unrefused : Bool) → closed && not unrefused ≡ true → (closed ≡ true) × (unrefused ≡ false)
 refused_so true false e = (refl, refl)
 refused_so true true e = cc
-refused_so false quit e = cc
+refused_so false unrefused e = cc
 
 -- the closed session refuses it
 pub refuses : (login : Login) (s t : Seen) (k : Kept) (call : Call) → is_open s.task ≡ false → is_refused s.closed (kind_of call) ≡ true → t ≡ s → ((h : History) → Stands s h → Stands t (answered (began h call) (ToldError connection_closed))) → Rests login s k → Rests login t (ended_by (asking k call None) (asked_by k call) (says.Failed connection_closed))
@@ -216,7 +227,7 @@ refuses login s t k call idle shut e st w = record {
   };
   sound = ap (λ (s : Seen). fault_in s.task) e ∙ w.sound;
   alive = λ c. ap (λ (s : Seen). s.ended) e ∙ w.alive (sym (ap (λ (s : Seen). s.closed) e) ∙ c);
-  read = let f = refused_so s.closed (is_quit (kind_of call)) shut in
+  read = let f = refused_so s.closed (is_unrefused (kind_of call)) shut in
       refuse_read login s t k call e f.0 f.1 (subst (ReadsAs login s k) (is_idle login s k idle w.heard) w.read);
 }
 

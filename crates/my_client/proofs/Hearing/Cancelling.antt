@@ -1,6 +1,7 @@
 -- How an open call is cancelled.
 use Rattle.std.proofs.Common.{◌≡◌, ◌∷◌, ◌&&◌, not, Bool, true, false, cond, Some, refl, sym, ap, ◌∙◌, subst}
 use Rattle.my_grammar.specs.declared.login.Login.{Login}
+use Rattle.my_reading.specs.declared.call.CallKind.{CallKind}
 use Rattle.my_session.specs.declared.task.Task.{Task}
 use Rattle.my_session.specs.declared.task.Task.TheVariants.{Nothing, Leaving}
 use Rattle.my_reading.specs.Calls.{kind_of}
@@ -34,7 +35,7 @@ closing_by s false b e f = and_not s.closed
     and_not false = refl
 
 closing_is : (login : Login) (s : Seen) (k : Kept) → Rests login s k → is_open s.task ≡ true → (dropped s).closed && not s.closed ≡ closes_when_cancelled s.task s.context.spot
-closing_is login s k w o = closing_by s (closes_when_cancelled s.task s.context.spot) s.closed refl (λ e. ap (λ (t : Task). closes_when_cancelled t s.context.spot) (is_leaving s.task s.closed e o w.sound w.heard.stands.heard.alive))
+closing_is login s k w o = closing_by s (closes_when_cancelled s.task s.context.spot) s.closed refl (λ e. ap (λ (t : Task). closes_when_cancelled t s.context.spot) (is_leaving s.task s.closed e o w.sound w.heard.stands.heard.alive).1)
 
 dropped_task : (s : Seen) (b : Bool) → (cond {A = Seen} b (fell s) (with_task s Nothing s.untold)).task ≡ Nothing
 dropped_task s true = refl
@@ -62,8 +63,8 @@ pub cancels : (login : Login) (s t : Seen) (k : Kept) (a : Asked) → is_open s.
 cancels login s t k a op seen st pending rested stepped =
     let closes = closes_when_cancelled s.task s.context.spot in
     let closing : closed_by s t ≡ closes = ap (λ (u : Seen). u.closed && not s.closed) seen ∙ closing_is login s k rested op in
-    let shut : s.task ≡ Leaving → s.closed ≡ true =
-    λ leaving. subst (λ (u : Task). TaskIs u s.context.spot s.closed (has_connected rested.heard.history.calls) (connecting_in (rested.heard.stands.newest ∷ rested.heard.stands.older)) rested.heard.stands.newest) leaving rested.heard.stands.heard.at in
+    let shut : (c : CallKind) → s.task ≡ Leaving c → s.closed ≡ true =
+    λ c leaving. (subst (λ (u : Task). TaskIs u s.context.spot s.closed (has_connected rested.heard.history.calls) (connecting_in (rested.heard.stands.newest ∷ rested.heard.stands.older)) rested.heard.stands.newest) leaving rested.heard.stands.heard.at).0 in
     let stopped : StoppedRead login s k a = subst (StopsRead login s k) pending stepped.stops in
     let rests : Rests login t (ended_by k a (says.Cancelled closes)) = record {
       heard = record {

@@ -1,84 +1,70 @@
 -- Why the open call failed: by its own, by the link's fault, or by the link's end.
-use Rattle.std.proofs.Common.{ℕ, ◌≡◌, ◌≢◌, suc, zero, [], Bool, true, false, Option, Some, None, Result, Ok, Err, IfOk, ◌⊎◌, inl, inr, refl, sym, ap, ◌∙◌, subst, arith}
+use Rattle.std.proofs.Common.{ℕ, ◌≡◌, ◌≢◌, Bool, true, false, Option, Some, None, Result, Ok, Err, IfOk, ◌⊎◌, inl, inr, refl, sym, ap, ◌∙◌, subst, arith}
 use Rattle.my_grammar.specs.declared.login.Login.{Login}
 use Rattle.my_session.specs.declared.answer.SessionStep.TheVariants as steps
+use Rattle.my_reading.specs.declared.call.CallKind.{CallKind}
 use Rattle.my_session.specs.declared.task.LinkFault.{LinkFault}
 use Rattle.my_session.specs.declared.task.LinkFault.TheVariants as faults
 use Rattle.my_session.specs.declared.task.Task.{Task}
-use Rattle.my_session.specs.declared.task.Task.TheVariants.{Nothing, Begun, Cleaning, Own, Giving, Arranging, Running, Finishing, Clearing, Setting, Reading, Dropping, Taking, Skipping, Leaving, Failing}
-use Rattle.my_session.specs.declared.answer.Tick.TheVariants as ticks
+use Rattle.my_session.specs.declared.task.Task.TheVariants.{Nothing, Begun, Cleaning, Undoing, Cleaned, Own, Giving, Arranging, Running, Finishing, Clearing, Asking, Reading, Dropping, Taking, Skipping, Leaving, Failing}
 use Rattle.my_reading.specs.declared.error.IoError.{IoError}
 use Rattle.my_reading.specs.declared.error.IoError.TheVariants as ios
 use Rattle.my_reading.specs.declared.error.IoKind.{IoKind}
 use Rattle.my_reading.specs.declared.error.IoKind.TheVariants as kinds
 use Rattle.my_reading.specs.declared.error.Error.{Error}
 use Rattle.my_reading.specs.declared.error.Error.TheVariants as errors
+use Rattle.my_reading.specs.Calls.{kind_of}
 use Rattle.my_session.specs.Tasks.{fault_in, is_open}
 use Rattle.my_reading.specs.Errors.{unexpected_eof}
 use Rattle.my_session.specs.Fits.{FaultFits, OwnKind, OwnIo, OwnError, IsLinkError}
-use Rattle.my_session.specs.Machine.{Tells, Does, FaultIs, next, next_by, when_owed, planned}
-use Rattle.my_session.specs.Tables.{plan_of}
-use Rattle.my_reading.specs.Told.{ToldReady, ToldError}
+use Rattle.my_reading.specs.Told.{ToldError}
 use Rattle.my_session.specs.History.{History, ending}
 use Rattle.my_session.specs.Mirror.{EachStepReads}
 use Rattle.my_session.specs.Seen.{Seen}
 use Rattle.my_session.specs.Stands.{Stands, is_alive, owes}
-use Rattle.my_session.specs.Steps.{Steps, AllGo, goes_on, moved, with_end, with_failing, failing}
-use Rattle.my_session.proofs.Ends.{first_goes}
+use Rattle.my_session.specs.Steps.{Steps, with_end, with_failing, failing}
 use Rattle.my_reading.specs.declared.error.IoFault.{IoFault}
 use Rattle.my_client.specs.Causes.{KindBy, IoBy, ErrorBy}
 use Rattle.my_client.specs.Poll.{Awaits, Waits}
 use Rattle.my_client.specs.declared.tape.Said.TheVariants as says
 use Rattle.my_client.specs.Kept.{Asked, Kept, ended_by}
-use Rattle.my_client.specs.Reads.{ComesTo, IsWaiting, RestRead, stop_kept}
+use Rattle.my_client.specs.Reads.{ComesTo, IsWaiting, OpenRead, RestRead, UnrefusedRead, stop_kept}
 use Rattle.my_client.specs.Rests.{IsAsked, IsHeld, FailsNow, FailLeaves, HasFailed, AwaitsBytes}
 use Rattle.my_client.proofs.Hearing.{heard_end, heard_failing}
 use Rattle.my_client.proofs.Hearing.Stepping.{StepStands, asked_read, fails_now, nothing_faults}
-use Rattle.my_client.proofs.TapeRead.Sessions.{broke_read, end_read, fault_read, fault_stop}
+use Rattle.my_client.proofs.Once.{once_fails}
+use Rattle.my_client.proofs.TapeRead.Sessions.{broke_read, end_read, fault_read, fault_stop, left_tells}
 use Rattle.my_client.proofs.TapeRead.Stopping.{awaits_kept, waits_kept}
 use Rattle.my_reading.specs.Course as stops
 
--- a quit of a closed session doesn't fail
-pub leaving_told : (s : Seen) → s.task ≡ Leaving → s.owed ≡ [] → (next s).does ≡ Tells ToldReady
-leaving_told s e o = ap (λ t. (next_by (fault_in t) s).does) e ∙ ap (λ bytes. (when_owed bytes s).does) o ∙ ap (λ t. (planned s (plan_of t s.context.spot s.untold)).does) e
-
-leaving_now : (s t : Seen) (e : Error) → (next s).does ≡ Tells ToldReady → FaultIs (next s) s t e → e ≡ errors.NoMemory
-leaving_now s t (errors.Driver e) r d = let no : Tells ToldReady ≡ Tells (ToldError (errors.Driver e)) = sym r ∙ d.does in cc
-leaving_now s t (errors.Io e) r d = let no : Tells ToldReady ≡ Tells (ToldError (errors.Io e)) = sym r ∙ d.does in cc
-leaving_now s t (errors.Server e) r d = let no : Tells ToldReady ≡ Tells (ToldError (errors.Server e)) = sym r ∙ d.does in cc
-leaving_now s t (errors.Url e) r d = absurd d
-leaving_now s t (errors.Other e) r d = absurd d
-leaving_now s t errors.NoMemory r d = refl
-
-leaving_from : (s t : Seen) (e : Error) (n : ℕ) → (next s).does ≡ Tells ToldReady → AllGo n s → Does (next (moved n s)) (moved n s) t (ticks.Fault e) → e ≡ errors.NoMemory
-leaving_from s t e zero r g d = leaving_now s t e r d
-leaving_from s t e (suc n) r g d = let no : false ≡ true = sym (ap goes_on r) ∙ first_goes n s g in cc
-
--- an open call of a session that was told its link's end, and isn't told to fail, is a quit of a closed session
-pub is_leaving : (t : Task) (closed : Bool) → closed ≡ true → is_open t ≡ true → fault_in t ≡ None → (is_alive t ≡ true → closed ≡ false) → t ≡ Leaving
+-- an open call of a session that was told its link's end, and isn't told to fail, is one that a closed session doesn't refuse
+pub is_leaving : (t : Task) (closed : Bool) → closed ≡ true → is_open t ≡ true → fault_in t ≡ None → (is_alive t ≡ true → closed ≡ false) → (k : CallKind) × (t ≡ Leaving k)
 is_leaving Nothing closed c o f a = cc
 is_leaving (Begun k) closed c o f a = let no : true ≡ false = sym c ∙ a refl in cc
 is_leaving (Cleaning k) closed c o f a = let no : true ≡ false = sym c ∙ a refl in cc
+is_leaving (Undoing k) closed c o f a = let no : true ≡ false = sym c ∙ a refl in cc
+is_leaving (Cleaned k) closed c o f a = let no : true ≡ false = sym c ∙ a refl in cc
 is_leaving (Own k) closed c o f a = let no : true ≡ false = sym c ∙ a refl in cc
 is_leaving Giving closed c o f a = let no : true ≡ false = sym c ∙ a refl in cc
 is_leaving (Arranging n) closed c o f a = let no : true ≡ false = sym c ∙ a refl in cc
 is_leaving (Running n) closed c o f a = let no : true ≡ false = sym c ∙ a refl in cc
 is_leaving (Finishing n) closed c o f a = let no : true ≡ false = sym c ∙ a refl in cc
 is_leaving Clearing closed c o f a = let no : true ≡ false = sym c ∙ a refl in cc
-is_leaving (Setting n) closed c o f a = let no : true ≡ false = sym c ∙ a refl in cc
+is_leaving (Asking k n) closed c o f a = let no : true ≡ false = sym c ∙ a refl in cc
 is_leaving Reading closed c o f a = let no : true ≡ false = sym c ∙ a refl in cc
 is_leaving Dropping closed c o f a = let no : true ≡ false = sym c ∙ a refl in cc
 is_leaving Taking closed c o f a = let no : true ≡ false = sym c ∙ a refl in cc
 is_leaving Skipping closed c o f a = let no : true ≡ false = sym c ∙ a refl in cc
-is_leaving Leaving closed c o f a = refl
+is_leaving (Leaving k) closed c o f a = (k, refl)
 is_leaving (Failing k fault) closed c o f a = cc
 
 never_ended : (login : Login) (s t : Seen) (k : Kept) (a : Asked) (e : Error) (closed : Bool) → s.closed ≡ closed → IsAsked login s k a → is_open s.task ≡ true → Steps s t (steps.Fault e) → e ≢ errors.NoMemory → s.ended ≡ true → ⊥
 never_ended login s t k a e false c w op v ne ended = let no : false ≡ true = sym (w.rests.alive c) ∙ ended in cc
-never_ended login s t k a e true c w op v ne ended =
-    let leaving : s.task ≡ Leaving = is_leaving s.task s.closed c op w.rests.sound w.rests.heard.stands.heard.alive in
-    let quiet : s.owed ≡ [] = w.rests.heard.stands.settled (ap owes leaving) in
-    ne (leaving_from s t e v.count (leaving_told s leaving quiet) v.go v.last)
+never_ended login s t k a e true c w op v ne ended = by_read (asked_read login s k a w)
+  where
+    by_read : OpenRead login s k a ⊎ UnrefusedRead login s k a → ⊥
+    by_read (inl o) = let no : true ≡ false = sym c ∙ o.at.alive in cc
+    by_read (inr q) = ne (once_fails s t (left_tells s (kind_of a.call) q.unrefused q.leaving (q.at.settled (ap owes q.leaving))) e v).0
 
 -- the call comes to its error by its bytes, unless that is the link's end
 abbrev IsOwn : Login → Kept → Error → Type 0
@@ -126,18 +112,20 @@ told_to_fail : (t : Task) (fault : LinkFault) → is_open t ≡ true → fault_i
 told_to_fail Nothing fault o = cc
 told_to_fail (Begun c) fault o = refl
 told_to_fail (Cleaning c) fault o = refl
+told_to_fail (Undoing c) fault o = refl
+told_to_fail (Cleaned c) fault o = refl
 told_to_fail (Own c) fault o = refl
 told_to_fail Giving fault o = refl
 told_to_fail (Arranging n) fault o = refl
 told_to_fail (Running n) fault o = refl
 told_to_fail (Finishing n) fault o = refl
 told_to_fail Clearing fault o = refl
-told_to_fail (Setting n) fault o = refl
+told_to_fail (Asking c n) fault o = refl
 told_to_fail Reading fault o = refl
 told_to_fail Dropping fault o = refl
 told_to_fail Taking fault o = refl
 told_to_fail Skipping fault o = refl
-told_to_fail Leaving fault o = refl
+told_to_fail (Leaving c) fault o = refl
 told_to_fail (Failing c old) fault o = refl
 
 link_by : (login : Login) (k : Kept) (e : Error) → e ≢ errors.NoMemory → IsWaiting login k → IsLinkError faults.Link e → ErrorBy login k e 1 0

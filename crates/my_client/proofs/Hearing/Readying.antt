@@ -2,7 +2,7 @@
 use Rattle.std.proofs.Common.{◌≡◌, List, [], ◌∷◌, ◌||◌, Bool, true, false, cond, None, refl, sym, ap, ◌∙◌, subst}
 use Rattle.my_grammar.specs.declared.login.Login.{Login}
 use Rattle.my_reading.specs.declared.call.CallKind.{CallKind}
-use Rattle.my_reading.specs.declared.call.CallKind.TheVariants.{Connect, Query, Prepare, Execute, Batch, CloseStmt, NextRow, DropResult, TakeSet, SkipTaken, Ping, Reset, Quit}
+use Rattle.my_reading.specs.declared.call.CallKind.TheVariants.{Connect, Query, Prepare, Execute, Batch, CloseStmt, NextRow, DropResult, TakeSet, SkipTaken, Ping, Reset, Begin, Rollback, ForgetTransaction, Quit}
 use Rattle.my_session.specs.declared.task.Task.{Task}
 use Rattle.my_session.specs.declared.task.Task.TheVariants.{Nothing}
 use Rattle.my_reading.specs.Calls.{kind_of, is_connect}
@@ -49,6 +49,9 @@ note_joins SkipTaken (ToldError e) n = cc
 note_joins SkipTaken (Dropped closing) n = cc
 note_joins Ping t n = cc
 note_joins Reset t n = cc
+note_joins Begin t n = cc
+note_joins Rollback t n = cc
+note_joins ForgetTransaction t n = cc
 note_joins Quit t n = cc
 
 connected_if : (m : Made) (ms : List Made) (b : Bool) → is_note (kind_of m.call) m.what ≡ b → has_connected ms ≡ has_connected (answers_in ms) → has_connected (m ∷ ms) ≡ has_connected (cond b (answers_in ms) (m ∷ answers_in ms))
@@ -86,6 +89,9 @@ at_begun TakeSet spot e s = s
 at_begun SkipTaken spot e s = s
 at_begun Ping spot e s = s
 at_begun Reset spot e s = s
+at_begun Begin spot e s = s
+at_begun Rollback spot e s = s
+at_begun ForgetTransaction spot e s = s
 at_begun Quit spot e s = s
 
 -- the handshake that is answered connects
@@ -107,4 +113,7 @@ connect_ready TakeSet answer e m = cc
 connect_ready SkipTaken answer e m = cc
 connect_ready Ping answer e m = cc
 connect_ready Reset answer e m = cc
+connect_ready Begin answer e m = cc
+connect_ready Rollback answer e m = cc
+connect_ready ForgetTransaction answer e m = cc
 connect_ready Quit answer e m = cc

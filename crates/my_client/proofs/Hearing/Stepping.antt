@@ -27,7 +27,7 @@ use Rattle.my_session.proofs.Ends.{each_end}
 use Rattle.my_session.proofs.Fits.{each_answer_fits}
 use Rattle.my_client.specs.declared.tape.Said.TheVariants as says
 use Rattle.my_client.specs.Kept.{Asked, Kept, IsOf, IsHeard, call_in, ended_by}
-use Rattle.my_client.specs.Reads.{OpenRead, QuitRead, ReadsAs, StoppedRead}
+use Rattle.my_client.specs.Reads.{OpenRead, UnrefusedRead, ReadsAs, StoppedRead}
 use Rattle.my_client.specs.Rests.{IsAsked, IsHeld, IsAnswered, FailsNow, AwaitsBytes}
 use Rattle.my_client.proofs.Hearing.{answer_counts, asked_kind, ended_of, heard_gone, heard_took, passing_of, pending_passing}
 use Rattle.my_client.proofs.TapeRead.Sessions.{done_read, done_stop, need_read, send_read, sent_read, taken_read}
@@ -59,16 +59,17 @@ fails_now login s t k a e w p v n st rd =
     let f = fits_of login s t k (steps.Fault e) v w in
     let heard : IsHeard login t (ended_by k a (says.Failed e)) = heard_on login s t k (steps.Fault e) (ended_by k a (says.Failed e)) f.login st w (λ h i. ended_of k a h (says.Failed e) p (answer_counts (kind_of a.call) (ToldError e) refl) i) in
     let u = st w.history w.stands in
-    let because : Because login (fault_in u.3.here.task) u.3.here.statements (passing w.history u.0) e = subst (λ l. Because l (fault_in u.3.here.task) u.3.here.statements (passing w.history u.0) e) (u.3.login ∙ w.login_is) u.3.cause in
+    let because : Because login (fault_in u.3.here.task) u.3.here.statements u.3.here.status (passing w.history u.0) e = subst (λ l. Because l (fault_in u.3.here.task) u.3.here.statements u.3.here.status (passing w.history u.0) e) (u.3.login ∙ w.login_is) u.3.cause in
     let closed_then : t.closed ≡ has_closed (answered (passing w.history u.0) (ToldError e)).calls || (passing w.history u.0).lost = u.2.heard.closed_is in
     record {
       why = record {
         made = fault_in u.3.here.task;
         statements = u.3.here.statements;
+        status = u.3.here.status;
         history = passing w.history u.0;
         kept = passing_of k w.history (kind_in s.task) s.call u.0 w.stands.heard.pending_is u.1 w.kept;
         because = because;
-        whole = each_whole_call login (fault_in u.3.here.task) u.3.here.statements (passing w.history u.0) e because;
+        whole = each_whole_call login (fault_in u.3.here.task) u.3.here.statements u.3.here.status (passing w.history u.0) e because;
       };
       heard = heard;
       step = v;
@@ -100,7 +101,7 @@ held login s t k a step w v st stopped same asks =
     }
 
 -- the open call's reading
-pub asked_read : (login : Login) (s : Seen) (k : Kept) (a : Asked) → IsAsked login s k a → OpenRead login s k a ⊎ QuitRead login s k a
+pub asked_read : (login : Login) (s : Seen) (k : Kept) (a : Asked) → IsAsked login s k a → OpenRead login s k a ⊎ UnrefusedRead login s k a
 asked_read login s k a w = subst (ReadsAs login s k) w.asked w.rests.read
 
 pub nothing_faults : (t : Task) → t ≡ Nothing → fault_in t ≡ None

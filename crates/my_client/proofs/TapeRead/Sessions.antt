@@ -11,10 +11,10 @@ use Rattle.my_reading.specs.declared.answer.Answer.{Answer}
 use Rattle.my_reading.specs.declared.call.Call.{Call}
 use Rattle.my_reading.specs.declared.call.Call.TheVariants as calls
 use Rattle.my_reading.specs.declared.call.CallKind.{CallKind}
-use Rattle.my_reading.specs.declared.call.CallKind.TheVariants.{Connect, Query, Prepare, Execute, Batch, CloseStmt, NextRow, DropResult, TakeSet, SkipTaken, Ping, Reset, Quit}
+use Rattle.my_reading.specs.declared.call.CallKind.TheVariants.{Connect, Query, Prepare, Execute, Batch, CloseStmt, NextRow, DropResult, TakeSet, SkipTaken, Ping, Reset, Begin, Rollback, ForgetTransaction, Quit}
 use Rattle.my_reading.specs.declared.error.Error.{Error}
 use Rattle.my_reading.specs.declared.error.Error.TheVariants as errors
-use Rattle.my_reading.specs.Calls.{asks, kind_of, call_of, is_quit}
+use Rattle.my_reading.specs.Calls.{asks, kind_of, call_of, is_unrefused}
 use Rattle.my_reading.specs.Course.{Part, Owes, Awaits, Returns, Stops, step, parts_of}
 use Rattle.my_reading.specs.Endings.{closes_cancelled, awaits_head}
 use Rattle.my_reading.specs.Errors.{io_error, connection_closed, unexpected_eof}
@@ -30,56 +30,40 @@ use Rattle.my_session.specs.declared.task.Task.{Task}
 use Rattle.my_session.specs.declared.task.Task.TheVariants as tasks
 use Rattle.my_session.specs.Fits.{is_begun}
 use Rattle.my_session.specs.LinkErrors.{link_error}
-use Rattle.my_session.specs.Machine.{Sends, Needs, Tells, Does, FaultIs, Move, fell, failed_by, next, next_by, when_owed, planned, with_task, dropped}
+use Rattle.my_session.specs.Machine.{Tells, Does, FaultIs, Move, fell, failed_by, next, next_by, when_owed, planned, with_task, dropped}
 use Rattle.my_session.specs.Mirror.{OwnStandsAt, TaskStandsAt, StandsAt, OpenAt, BegunStandsAt, EachStepReads, EndsAt, FailsAt, ReturnsAt, StepReads, StepsTo, passes_end}
 use Rattle.my_session.specs.Seen.{Seen}
 use Rattle.my_session.specs.Stands.{call_with, owes}
 use Rattle.my_session.specs.Steps.{Steps, AllGo, goes_on, moved, begun, fresh, with_owed, with_unread, with_end, with_failing}
-use Rattle.my_session.specs.Tables.{plan_of, closes_when_cancelled}
+use Rattle.my_session.specs.Tables.{leave_plan, plan_of, closes_when_cancelled}
 use Rattle.my_session.specs.Tasks.{kind_in, fault_in, is_open}
 use Rattle.my_session.proofs.Ends.{first_goes}
 use Rattle.my_session.proofs.Mirror.Fields.{mirrors_sent, mirrors_taken}
-use Rattle.my_session.proofs.Mirror.Payloads.{fallen_at}
+use Rattle.my_session.proofs.CallKinds.{of_unrefused}
+use Rattle.my_session.proofs.Mirror.Payloads.{fallen_at, resting_at}
 use Rattle.my_client.specs.declared.tape.Said.TheVariants as says
 use Rattle.my_client.specs.Kept.{Asked, Kept, nothing_kept, asking, asked_by, ended_by}
-use Rattle.my_client.specs.Reads.{ComesTo, place_kept, EndedRead, RestRead, OpenRead, QuitRead, StoppedRead}
+use Rattle.my_client.specs.Reads.{ComesTo, place_kept, EndedRead, RestRead, OpenRead, UnrefusedRead, StoppedRead}
+use Rattle.my_client.proofs.Once.{once_done, once_fails, once_needs, once_sends}
 use Rattle.my_client.proofs.TapeRead.Stopping.{place_here, stop_led, stop_open}
 use Rattle.my_client.proofs.TapeRead.{open_on, open_bytes, returns_open, faults_open, breaks_open, cancels_open, ends_closed, no_bytes}
 
--- a quit on a closed session returns at once
-module _ (s t : Seen) (leaving : s.task ≡ tasks.Leaving) (nothing : s.owed ≡ []) where
-  quit_now : next s ≡ record { seen = fell s; does = Tells ToldReady }
-  quit_now = ap (λ x. next_by (fault_in x) s) leaving ∙ ap (λ bytes. when_owed bytes s) nothing ∙ ap (λ x. planned s (plan_of x s.context.spot s.untold)) leaving
+-- a call that a closed session doesn't refuse returns at once
+module _ (s : Seen) (c : CallKind) (unrefused : is_unrefused c ≡ true) (leaving : s.task ≡ tasks.Leaving c) (nothing : s.owed ≡ []) where
+  left_now : next s ≡ planned s (leave_plan c)
+  left_now = ap (λ x. next_by (fault_in x) s) leaving ∙ ap (λ bytes. when_owed bytes s) nothing ∙ ap (λ x. planned s (plan_of x s.context.spot s.untold)) leaving
 
-  quit_stops : (n : ℕ) → AllGo (suc n) s → ⊥
-  quit_stops n g = let no : false ≡ true = sym (ap (λ (m : Move). goes_on m.does) quit_now) ∙ first_goes n s g in cc
+  pub left_tells : (next s).does ≡ Tells ToldReady
+  left_tells = ap (λ (m : Move). m.does) left_now ∙ of_unrefused (λ c. (planned s (leave_plan c)).does ≡ Tells ToldReady) refl refl c unrefused
 
-  quit_sends : (n : ℕ) → AllGo n s → Does (next (moved n s)) (moved n s) t ticks.Sends → ⊥
-  quit_sends zero g d = let no : Tells ToldReady ≡ Sends = sym (ap (λ (m : Move). m.does) quit_now) ∙ d.does in cc
-  quit_sends (suc n) g d = quit_stops n g
+  left_leaves : (p : Place) → s.closed ≡ true → StandsAt s p → StandsAt (planned s (leave_plan c)).seen p × ((planned s (leave_plan c)).seen.closed ≡ true)
+  left_leaves p shut at =
+      of_unrefused (λ c. StandsAt (planned s (leave_plan c)).seen p × ((planned s (leave_plan c)).seen.closed ≡ true))
+      (resting_at s p shut nothing at, shut) (fallen_at s p s at.mirrors at.taken_is, refl) c unrefused
 
-  quit_needs : (n : ℕ) → AllGo n s → Does (next (moved n s)) (moved n s) t ticks.Needs → ⊥
-  quit_needs zero g d = let no : Tells ToldReady ≡ Needs = sym (ap (λ (m : Move). m.does) quit_now) ∙ d.does in cc
-  quit_needs (suc n) g d = quit_stops n g
-
-  quit_done : (a : Answer) (n : ℕ) → AllGo n s → Does (next (moved n s)) (moved n s) t (ticks.Done a) → (told a ≡ ToldReady) × (t ≡ fell s)
-  quit_done a zero g d =
-      let same : Tells ToldReady ≡ Tells (told a) = sym (ap (λ (m : Move). m.does) quit_now) ∙ d.does in
-      let answer : told a ≡ ToldReady = cc in
-      (answer, d.seen ∙ ap (λ (m : Move). m.seen) quit_now)
-  quit_done a (suc n) g d = absurd (quit_stops n g)
-
-  quit_fault : (e : Error) → FaultIs (next s) s t e → e ≡ errors.NoMemory
-  quit_fault (errors.Driver e) d = let no : Tells ToldReady ≡ Tells (ToldError (errors.Driver e)) = sym (ap (λ (m : Move). m.does) quit_now) ∙ d.does in cc
-  quit_fault (errors.Io e) d = let no : Tells ToldReady ≡ Tells (ToldError (errors.Io e)) = sym (ap (λ (m : Move). m.does) quit_now) ∙ d.does in cc
-  quit_fault (errors.Server e) d = let no : Tells ToldReady ≡ Tells (ToldError (errors.Server e)) = sym (ap (λ (m : Move). m.does) quit_now) ∙ d.does in cc
-  quit_fault (errors.Url e) d = absurd d
-  quit_fault (errors.Other e) d = absurd d
-  quit_fault errors.NoMemory d = refl
-
-  quit_fails : (e : Error) (n : ℕ) → AllGo n s → Does (next (moved n s)) (moved n s) t (ticks.Fault e) → e ≡ errors.NoMemory
-  quit_fails e zero g d = quit_fault e d
-  quit_fails e (suc n) g d = absurd (quit_stops n g)
+  -- where it leaves the session
+  left_at : (t : Seen) (p : Place) → t ≡ (next s).seen → s.closed ≡ true → StandsAt s p → StandsAt t p × (t.closed ≡ true)
+  left_at t p e shut at = subst (λ (x : Seen). StandsAt x p × (x.closed ≡ true)) (sym (e ∙ ap (λ (m : Move). m.seen) left_now)) (left_leaves p shut at)
 
 -- a call that was made to fail fails at once
 module _ (s t : Seen) (fault : LinkFault) (made : fault_in s.task ≡ Some fault) where
@@ -100,6 +84,9 @@ module _ (s t : Seen) (fault : LinkFault) (made : fault_in s.task ≡ Some fault
 
 -- what a step of the open call leaves
 module _ (login : Login) (s t : Seen) (k : Kept) (a : Asked) (log : s.login ≡ login) where
+  tells_left : UnrefusedRead login s k a → (next s).does ≡ Tells ToldReady
+  tells_left q = left_tells s (kind_of a.call) q.unrefused q.leaving (q.at.settled (ap owes q.leaving))
+
   send_stops : t.owed ≢ [] → (o : OpenRead login s k a) → StepReads s t a.call o.parts o.place steps.Send → StoppedRead login t k a
   unfolding open_on
   send_stops some o w = record {
@@ -118,37 +105,37 @@ module _ (login : Login) (s t : Seen) (k : Kept) (a : Asked) (log : s.login ≡ 
     stops = subst (λ l. step l a.call w.rest w.place ≡ Stops w.place Awaits) log w.comes.0;
   }
 
-  pub send_read : t.owed ≢ [] → EachStepReads s t steps.Send → Steps s t steps.Send → OpenRead login s k a ⊎ QuitRead login s k a → StoppedRead login t k a
+  pub send_read : t.owed ≢ [] → EachStepReads s t steps.Send → Steps s t steps.Send → OpenRead login s k a ⊎ UnrefusedRead login s k a → StoppedRead login t k a
   send_read some r v (inl o) = send_stops some o (r a.call o.parts o.place o.at)
-  send_read some r v (inr q) = absurd (quit_sends s t q.leaving (q.at.settled (ap owes q.leaving)) v.count v.go v.last)
+  send_read some r v (inr q) = absurd (once_sends s t (tells_left q) v)
 
-  pub need_read : t.owed ≡ [] → EachStepReads s t steps.Need → Steps s t steps.Need → OpenRead login s k a ⊎ QuitRead login s k a → StoppedRead login t k a
+  pub need_read : t.owed ≡ [] → EachStepReads s t steps.Need → Steps s t steps.Need → OpenRead login s k a ⊎ UnrefusedRead login s k a → StoppedRead login t k a
   need_read none r v (inl o) = need_stops none o (r a.call o.parts o.place o.at)
-  need_read none r v (inr q) = absurd (quit_needs s t q.leaving (q.at.settled (ap owes q.leaving)) v.count v.go v.last)
+  need_read none r v (inr q) = absurd (once_needs s t (tells_left q) v)
 
-  quit_answer : (call : Call) → kind_of call ≡ Quit → closed_answer call ≡ ToldReady
-  quit_answer call e = ap (λ c. cond (is_quit c) ToldReady (ToldError connection_closed)) e
+  unrefused_answer : (call : Call) → is_unrefused (kind_of call) ≡ true → closed_answer call ≡ ToldReady
+  unrefused_answer call e = ap (λ b. cond b ToldReady (ToldError connection_closed)) e
 
-  pub done_read : (answer : Answer) → EachStepReads s t (steps.Done answer) → Steps s t (steps.Done answer) → OpenRead login s k a ⊎ QuitRead login s k a → RestRead login t (ended_by k a (says.Answered answer))
+  pub done_read : (answer : Answer) → EachStepReads s t (steps.Done answer) → Steps s t (steps.Done answer) → OpenRead login s k a ⊎ UnrefusedRead login s k a → RestRead login t (ended_by k a (says.Answered answer))
   done_read answer r v (inl o) =
       let w = r a.call o.parts o.place o.at in
       returns_open login s t k a (says.Answered answer) o w.rest w.place (subst (λ l. Leads l a.call o.parts o.place w.rest w.place) log w.leads) (subst (λ l. StepsTo l a.call w.rest w.place (steps.Done answer) t) log w.comes)
   done_read answer r v (inr q) =
-      let d = quit_done s t q.leaving (q.at.settled (ap owes q.leaving)) answer v.count v.go v.last in
-      ends_closed login s t k a (says.Answered answer) q.before q.ended q.nothing_sent q.nothing_taken (d.0 ∙ sym (quit_answer a.call q.quit))
-      (subst (λ (n : Seen). StandsAt n q.before) (sym d.1) (fallen_at s q.before s q.at.mirrors q.at.taken_is)) (ap (λ (n : Seen). n.closed) d.1)
+      let d = once_done s t (tells_left q) answer v in
+      let left = left_at s (kind_of a.call) q.unrefused q.leaving (q.at.settled (ap owes q.leaving)) t q.before d.1 q.closed_is q.at in
+      ends_closed login s t k a (says.Answered answer) q.before q.ended q.nothing_sent q.nothing_taken (d.0 ∙ sym (unrefused_answer a.call q.unrefused)) left.0 left.1
 
   -- what the call came to then
-  pub done_stop : (answer : Answer) → k.pending ≡ Some a → EachStepReads s t (steps.Done answer) → Steps s t (steps.Done answer) → OpenRead login s k a ⊎ QuitRead login s k a → ComesTo login k (told answer)
+  pub done_stop : (answer : Answer) → k.pending ≡ Some a → EachStepReads s t (steps.Done answer) → Steps s t (steps.Done answer) → OpenRead login s k a ⊎ UnrefusedRead login s k a → ComesTo login k (told answer)
   done_stop answer p r v (inl o) =
       let w = r a.call o.parts o.place o.at in
       let c = subst (λ l. StepsTo l a.call w.rest w.place (steps.Done answer) t) log w.comes in
       stop_led login s k a o w.rest w.place c.place (Returns (told answer)) p (subst (λ l. Leads l a.call o.parts o.place w.rest w.place) log w.leads) c.stops
   done_stop answer p r v (inr q) =
-      let d = quit_done s t q.leaving (q.at.settled (ap owes q.leaving)) answer v.count v.go v.last in
-      stop_open login k a true q.before q.ended p ∙ ap (λ x. Some (Returns x)) (quit_answer a.call q.quit ∙ sym d.0)
+      let d = once_done s t (tells_left q) answer v in
+      stop_open login k a true q.before q.ended p ∙ ap (λ x. Some (Returns x)) (unrefused_answer a.call q.unrefused ∙ sym d.0)
 
-  pub fault_stop : (e : Error) → e ≢ errors.NoMemory → k.pending ≡ Some a → EachStepReads s t (steps.Fault e) → Steps s t (steps.Fault e) → OpenRead login s k a ⊎ QuitRead login s k a
+  pub fault_stop : (e : Error) → e ≢ errors.NoMemory → k.pending ≡ Some a → EachStepReads s t (steps.Fault e) → Steps s t (steps.Fault e) → OpenRead login s k a ⊎ UnrefusedRead login s k a
       → ComesTo login k (ToldError e) ⊎ ((n : ℕ) × (e ≡ unexpected_eof n))
   fault_stop e some p r v (inl o) =
       let w = r a.call o.parts o.place o.at in
@@ -167,11 +154,11 @@ module _ (login : Login) (s t : Seen) (k : Kept) (a : Asked) (log : s.login ≡ 
       by_error (errors.Url e) some rest q l c = by_place (errors.Url e) rest q l c
       by_error (errors.Other e) some rest q l c = by_place (errors.Other e) rest q l c
       by_error errors.NoMemory some rest q l c = absurd (some refl)
-  fault_stop e some p r v (inr q) = absurd (some (quit_fails s t q.leaving (q.at.settled (ap owes q.leaving)) e v.count v.go v.last))
+  fault_stop e some p r v (inr q) = absurd (some (once_fails s t (tells_left q) e v).0)
 
-  pub fault_read : (e : Error) → e ≢ errors.NoMemory → EachStepReads s t (steps.Fault e) → Steps s t (steps.Fault e) → OpenRead login s k a ⊎ QuitRead login s k a → RestRead login t (ended_by k a (says.Failed e))
+  pub fault_read : (e : Error) → e ≢ errors.NoMemory → EachStepReads s t (steps.Fault e) → Steps s t (steps.Fault e) → OpenRead login s k a ⊎ UnrefusedRead login s k a → RestRead login t (ended_by k a (says.Failed e))
   fault_read e some r v (inl o) = faults_open login s t k a e o log some (r a.call o.parts o.place o.at)
-  fault_read e some r v (inr q) = absurd (some (quit_fails s t q.leaving (q.at.settled (ap owes q.leaving)) e v.count v.go v.last))
+  fault_read e some r v (inr q) = absurd (some (once_fails s t (tells_left q) e v).0)
 
 -- bytes go and come
 sent_at : (s t : Seen) (call : Call) (parts : List Part) (p : Place) (n : ℕ) → t ≡ with_owed s (drop n s.owed) → OpenAt s call parts p → OpenAt t call parts (with_bytes (take n s.owed) [] p)
@@ -183,6 +170,7 @@ sent_at s t call parts p n e o = subst (λ (x : Seen). OpenAt x call parts (with
     own_end = o.at.own_end;
     task_at = o.at.task_at;
     statements_are = o.at.statements_are;
+    status_is = o.at.status_is;
     checked = o.at.checked;
     settled = λ quiet. ap (drop n) (o.at.settled quiet) ∙ drop-nil {A = ℕ} n;
   };
@@ -201,6 +189,7 @@ taken_at s t call parts p bytes e o = subst (λ (x : Seen). OpenAt x call parts 
     own_end = o.at.own_end;
     task_at = o.at.task_at;
     statements_are = o.at.statements_are;
+    status_is = o.at.status_is;
     checked = o.at.checked;
     settled = o.at.settled;
   };
@@ -212,7 +201,7 @@ taken_at s t call parts p bytes e o = subst (λ (x : Seen). OpenAt x call parts 
 
 ended_at : (s t : Seen) (call : Call) (parts : List Part) (p : Place) → t ≡ with_end s → OpenAt s call parts p → OpenAt t call parts p
 ended_at s t call parts p e o = subst (λ (x : Seen). OpenAt x call parts p) (sym e) (record {
-  at = record { mirrors = o.at.mirrors; end_is = o.at.end_is; taken_is = o.at.taken_is; own_end = o.at.own_end; task_at = o.at.task_at; statements_are = o.at.statements_are; checked = o.at.checked; settled = o.at.settled };
+  at = record { mirrors = o.at.mirrors; end_is = o.at.end_is; taken_is = o.at.taken_is; own_end = o.at.own_end; task_at = o.at.task_at; statements_are = o.at.statements_are; status_is = o.at.status_is; checked = o.at.checked; settled = o.at.settled };
   alive = o.alive;
   sound = o.sound;
   call_is = o.call_is;
@@ -253,10 +242,13 @@ kind_back TakeSet carried = refl
 kind_back SkipTaken carried = refl
 kind_back Ping carried = refl
 kind_back Reset carried = refl
+kind_back Begin carried = refl
+kind_back Rollback carried = refl
+kind_back ForgetTransaction carried = refl
 kind_back Quit carried = refl
 
 -- the open call is cancelled
-module _ (s : Seen) (call : Call) (parts : List Part) (p : Place) (o : OpenAt s call parts p) (stepped : is_begun s.task ≡ false) (shut : s.task ≡ tasks.Leaving → s.closed ≡ true) where
+module _ (s : Seen) (call : Call) (parts : List Part) (p : Place) (o : OpenAt s call parts p) (stepped : is_begun s.task ≡ false) (shut : (c : CallKind) → s.task ≡ tasks.Leaving c → s.closed ≡ true) where
   kind_is : (c : CallKind) → kind_in s.task ≡ Some c → kind_of call ≡ c
   kind_is c e = let same : Some (call_of c s.call) ≡ Some call = sym (ap (λ k. call_with k s.call) e) ∙ o.call_is in let is : call ≡ call_of c s.call = cc in ap kind_of is ∙ kind_back c s.call
 
@@ -276,6 +268,9 @@ module _ (s : Seen) (call : Call) (parts : List Part) (p : Place) (o : OpenAt s 
   closes_asking SkipTaken e = cc
   closes_asking Ping e = refl
   closes_asking Reset e = refl
+  closes_asking Begin e = refl
+  closes_asking Rollback e = refl
+  closes_asking ForgetTransaction e = refl
   closes_asking Quit e = refl
 
   closes_own : (c : CallKind) → OwnStandsAt c s.context.spot (connects_in (exchanges p)) → closes_cancelled c p ≡ true
@@ -291,60 +286,69 @@ module _ (s : Seen) (call : Call) (parts : List Part) (p : Place) (o : OpenAt s 
   closes_own SkipTaken w = absurd w
   closes_own Ping w = refl
   closes_own Reset w = refl
+  closes_own Begin w = absurd w
+  closes_own Rollback w = absurd w
+  closes_own ForgetTransaction w = absurd w
   closes_own Quit w = refl
 
   closes_is : (t : Task) → s.task ≡ t → TaskStandsAt t s.context.spot (connects_in (exchanges p)) → closes_when_cancelled t s.context.spot ≡ closes_cancelled (kind_of call) p
   closes_is tasks.Nothing e w = let no : None ≡ Some call = sym (ap (λ u. call_with (kind_in u) s.call) e) ∙ o.call_is in cc
   closes_is (tasks.Begun c) e w = let no : true ≡ false = sym (ap is_begun e) ∙ stepped in cc
   closes_is (tasks.Cleaning c) e w = sym (ap (λ k. closes_cancelled k p) (kind_is c (ap kind_in e)) ∙ closes_asking c w.0)
+  closes_is (tasks.Undoing c) e w = sym (ap (λ k. closes_cancelled k p) (kind_is c (ap kind_in e)) ∙ closes_asking c w.0)
+  closes_is (tasks.Cleaned c) e w = sym (ap (λ k. closes_cancelled k p) (kind_is c (ap kind_in e)) ∙ closes_asking c w.0)
   closes_is (tasks.Own c) e w = sym (ap (λ k. closes_cancelled k p) (kind_is c (ap kind_in e)) ∙ closes_own c w)
   closes_is tasks.Giving e w = sym (ap (λ k. closes_cancelled k p) (kind_is Prepare (ap kind_in e)))
   closes_is (tasks.Arranging n) e w = sym (ap (λ k. closes_cancelled k p) (kind_is Connect (ap kind_in e)))
   closes_is (tasks.Running n) e w = sym (ap (λ k. closes_cancelled k p) (kind_is Batch (ap kind_in e)))
   closes_is (tasks.Finishing n) e w = sym (ap (λ k. closes_cancelled k p) (kind_is Batch (ap kind_in e)))
   closes_is tasks.Clearing e w = sym (ap (λ k. closes_cancelled k p) (kind_is Reset (ap kind_in e)))
-  closes_is (tasks.Setting n) e w = sym (ap (λ k. closes_cancelled k p) (kind_is Reset (ap kind_in e)))
+  closes_is (tasks.Asking c n) e w = sym (ap (λ k. closes_cancelled k p) (kind_is c (ap kind_in e)) ∙ closes_asking c w.0)
   closes_is tasks.Reading e w = ap awaits_head spot_is ∙ sym (ap (λ k. closes_cancelled k p) (kind_is NextRow (ap kind_in e)))
   closes_is tasks.Dropping e w = ap awaits_head spot_is ∙ sym (ap (λ k. closes_cancelled k p) (kind_is DropResult (ap kind_in e)))
   closes_is tasks.Taking e w = ap awaits_head spot_is ∙ sym (ap (λ k. closes_cancelled k p) (kind_is TakeSet (ap kind_in e)))
   closes_is tasks.Skipping e w = ap awaits_head spot_is ∙ sym (ap (λ k. closes_cancelled k p) (kind_is SkipTaken (ap kind_in e)))
-  closes_is tasks.Leaving e w = let no : true ≡ false = sym (shut e) ∙ o.alive in cc
+  closes_is (tasks.Leaving c) e w = let no : true ≡ false = sym (shut c e) ∙ o.alive in cc
   closes_is (tasks.Failing c fault) e w = let no : Some fault ≡ None = sym (ap fault_in e) ∙ o.sound in cc
 
   keeps_end : (t : Task) → s.task ≡ t → closes_when_cancelled t s.context.spot ≡ false → passes_end t ≡ false
   keeps_end tasks.Nothing e f = refl
   keeps_end (tasks.Begun c) e f = refl
   keeps_end (tasks.Cleaning c) e f = cc
+  keeps_end (tasks.Undoing c) e f = cc
+  keeps_end (tasks.Cleaned c) e f = cc
   keeps_end (tasks.Own c) e f = refl
   keeps_end tasks.Giving e f = refl
   keeps_end (tasks.Arranging n) e f = cc
   keeps_end (tasks.Running n) e f = cc
   keeps_end (tasks.Finishing n) e f = cc
   keeps_end tasks.Clearing e f = cc
-  keeps_end (tasks.Setting n) e f = cc
+  keeps_end (tasks.Asking c n) e f = cc
   keeps_end tasks.Reading e f = refl
   keeps_end tasks.Dropping e f = refl
   keeps_end tasks.Taking e f = refl
   keeps_end tasks.Skipping e f = refl
-  keeps_end tasks.Leaving e f = refl
+  keeps_end (tasks.Leaving c) e f = refl
   keeps_end (tasks.Failing c fault) e f = refl
 
   owes_not : (t : Task) → s.task ≡ t → closes_when_cancelled t s.context.spot ≡ false → owes t ≡ false
   owes_not tasks.Nothing e f = refl
   owes_not (tasks.Begun c) e f = refl
   owes_not (tasks.Cleaning c) e f = refl
+  owes_not (tasks.Undoing c) e f = cc
+  owes_not (tasks.Cleaned c) e f = cc
   owes_not (tasks.Own c) e f = cc
   owes_not tasks.Giving e f = cc
   owes_not (tasks.Arranging n) e f = cc
   owes_not (tasks.Running n) e f = cc
   owes_not (tasks.Finishing n) e f = cc
   owes_not tasks.Clearing e f = cc
-  owes_not (tasks.Setting n) e f = cc
+  owes_not (tasks.Asking c n) e f = cc
   owes_not tasks.Reading e f = refl
   owes_not tasks.Dropping e f = refl
   owes_not tasks.Taking e f = refl
   owes_not tasks.Skipping e f = refl
-  owes_not tasks.Leaving e f = refl
+  owes_not (tasks.Leaving c) e f = refl
   owes_not (tasks.Failing c fault) e f = cc
 
   dropped_at : (b : Bool) → closes_when_cancelled s.task s.context.spot ≡ b → StandsAt (cond b (fell s) (with_task s tasks.Nothing s.untold)) p × ((cond {A = Seen} b (fell s) (with_task s tasks.Nothing s.untold)).closed ≡ b)
@@ -357,6 +361,7 @@ module _ (s : Seen) (call : Call) (parts : List Part) (p : Place) (o : OpenAt s 
       own_end = λ no. cc;
       task_at = tt;
       statements_are = o.at.statements_are;
+      status_is = o.at.status_is;
       checked = refl;
       settled = λ _. o.at.settled (owes_not s.task refl e);
     },
@@ -364,13 +369,13 @@ module _ (s : Seen) (call : Call) (parts : List Part) (p : Place) (o : OpenAt s 
   )
 
 -- a cancelling closes exactly where the reading says so
-pub cancel_closes : (login : Login) (s : Seen) (k : Kept) (a : Asked) → is_begun s.task ≡ false → (s.task ≡ tasks.Leaving → s.closed ≡ true) → StoppedRead login s k a → k.pending ≡ Some a
+pub cancel_closes : (login : Login) (s : Seen) (k : Kept) (a : Asked) → is_begun s.task ≡ false → ((c : CallKind) → s.task ≡ tasks.Leaving c → s.closed ≡ true) → StoppedRead login s k a → k.pending ≡ Some a
     → closes_when_cancelled s.task s.context.spot ≡ closes_cancelled (kind_of a.call) (place_kept login k)
 cancel_closes login s k a stepped shut w pending =
     closes_is s a.call w.so_far.parts w.so_far.place w.so_far.at stepped shut s.task refl w.so_far.at.at.task_at
     ∙ ap (λ (p : Place). closes_cancelled (kind_of a.call) p) (sym (place_here login s k a w pending))
 
-pub cancel_read : (login : Login) (s t : Seen) (k : Kept) (a : Asked) (closing : Bool) → is_begun s.task ≡ false → (s.task ≡ tasks.Leaving → s.closed ≡ true) → t ≡ dropped s → closing ≡ closes_when_cancelled s.task s.context.spot → StoppedRead login s k a
+pub cancel_read : (login : Login) (s t : Seen) (k : Kept) (a : Asked) (closing : Bool) → is_begun s.task ≡ false → ((c : CallKind) → s.task ≡ tasks.Leaving c → s.closed ≡ true) → t ≡ dropped s → closing ≡ closes_when_cancelled s.task s.context.spot → StoppedRead login s k a
     → RestRead login t (ended_by k a (says.Cancelled closing))
 cancel_read login s t k a closing stepped shut e is w =
     let o = w.so_far.at in
@@ -393,11 +398,14 @@ module _ (login : Login) (s t : Seen) (k : Kept) (call : Call) where
   back_whole calls.SkipTaken = refl
   back_whole calls.Ping = refl
   back_whole calls.Reset = refl
+  back_whole (calls.Begin opts) = refl
+  back_whole calls.Rollback = refl
+  back_whole calls.ForgetTransaction = refl
   back_whole calls.Quit = refl
 
   -- the session with this task
   abbrev asked_with : Bool → Seen
-  asked_with b = record { context = s.context; task = (cond b tasks.Leaving (tasks.Begun (kind_of call))); call = call; untold = s.untold; taken = s.taken; closed = s.closed; ended = s.ended; number = s.number; unread = s.unread; owed = s.owed; facts = s.facts; statements = s.statements; login = s.login }
+  asked_with b = record { context = s.context; task = (cond b (tasks.Leaving (kind_of call)) (tasks.Begun (kind_of call))); call = call; untold = s.untold; taken = s.taken; closed = s.closed; ended = s.ended; number = s.number; unread = s.unread; owed = s.owed; facts = s.facts; statements = s.statements; status = s.status; login = s.login }
 
   module _ (e : t ≡ begun s call) (log : s.login ≡ login) (idle : s.task ≡ tasks.Nothing) (w : RestRead login s k) where
     -- for any rows that are gathered
@@ -417,6 +425,7 @@ module _ (login : Login) (s t : Seen) (k : Kept) (call : Call) where
         own_end = λ no. cc;
         task_at = at;
         statements_are = w.at.statements_are;
+        status_is = w.at.status_is;
         checked = refl;
         settled = λ _. w.at.settled (ap owes idle);
       };
@@ -437,15 +446,15 @@ module _ (login : Login) (s t : Seen) (k : Kept) (call : Call) where
     }
 
     leaving_at : (b : Bool) → s.closed ≡ true → b ≡ true → StandsAt (asked_with b) w.place
-    leaving_at true c f = record { mirrors = w.at.mirrors; end_is = λ no _. let stop : true ≡ false = sym c ∙ no in cc; taken_is = w.at.taken_is; own_end = λ no. cc; task_at = tt; statements_are = λ no. let stop : true ≡ false = sym c ∙ no in cc; checked = refl; settled = λ _. w.at.settled (ap owes idle) }
+    leaving_at true c f = record { mirrors = w.at.mirrors; end_is = λ no _. let stop : true ≡ false = sym c ∙ no in cc; taken_is = w.at.taken_is; own_end = λ no. cc; task_at = tt; statements_are = λ no. let stop : true ≡ false = sym c ∙ no in cc; status_is = λ no. let stop : true ≡ false = sym c ∙ no in cc; checked = refl; settled = λ _. w.at.settled (ap owes idle) }
     leaving_at false c f = cc
 
-    pub begin_quit : (rows : Option (List RowParts)) → s.closed ≡ true → kind_of call ≡ Quit → QuitRead login t (asking k call rows) (record { call = call; sent_from = length k.sent; taken_from = length k.taken; rows = rows })
-    begin_quit rows shut quit = record {
+    pub begin_unrefused : (rows : Option (List RowParts)) → s.closed ≡ true → is_unrefused (kind_of call) ≡ true → UnrefusedRead login t (asking k call rows) (record { call = call; sent_from = length k.sent; taken_from = length k.taken; rows = rows })
+    begin_unrefused rows shut unrefused = record {
       before = w.place;
       ended = subst (λ b. EndedRead login (asking k call rows) (length k.sent) (length k.taken) b w.place) shut (ended_first rows);
-      quit = quit;
-      leaving = ap (λ (x : Seen). x.task) e ∙ ap (λ b. cond b tasks.Leaving (tasks.Begun (kind_of call))) shut;
+      unrefused = unrefused;
+      leaving = ap (λ (x : Seen). x.task) e ∙ ap (λ b. cond b (tasks.Leaving (kind_of call)) (tasks.Begun (kind_of call))) shut;
       closed_is = ap (λ (x : Seen). x.closed) e ∙ shut;
       nothing_sent = refl;
       nothing_taken = refl;
@@ -453,7 +462,7 @@ module _ (login : Login) (s t : Seen) (k : Kept) (call : Call) where
     }
 
   -- a closed session refuses it
-  pub refuse_read : t ≡ s → s.closed ≡ true → is_quit (kind_of call) ≡ false → RestRead login s k → RestRead login t (ended_by (asking k call None) (asked_by k call) (says.Failed connection_closed))
+  pub refuse_read : t ≡ s → s.closed ≡ true → is_unrefused (kind_of call) ≡ false → RestRead login s k → RestRead login t (ended_by (asking k call None) (asked_by k call) (says.Failed connection_closed))
   refuse_read e shut other w = subst (λ (x : Seen). RestRead login x (ended_by (asking k call None) (asked_by k call) (says.Failed connection_closed))) (sym e)
       (ends_closed login s s (asking k call None) (asked_by k call) (says.Failed connection_closed) w.place
       (subst (λ b. EndedRead login (asking k call None) (length k.sent) (length k.taken) b w.place) shut
@@ -473,6 +482,7 @@ fresh_read login s e = record {
     own_end = λ _. refl;
     task_at = tt;
     statements_are = λ _. refl;
+    status_is = λ _. refl;
     checked = refl;
     settled = λ _. refl;
   });
