@@ -126,6 +126,9 @@ at_idle closed next (steps.Unstream n) outcome uses = let_go outcome uses
 at_idle closed next (steps.Drop n) outcome uses = asked closed outcome uses
 at_idle closed next (steps.Ping n) outcome uses = asked closed outcome uses
 at_idle closed next (steps.Reset n) outcome uses = asked closed outcome uses
+at_idle closed next (steps.Begin n opts) outcome uses = asked closed outcome uses
+at_idle closed next (steps.Rollback n) outcome uses = asked closed outcome uses
+at_idle closed next (steps.ForgetTransaction n) outcome uses = polled_once outcome uses
 at_idle closed next (steps.Quit n) outcome uses = polled_once outcome uses
 at_idle closed next (steps.Fields n) outcome uses = told outcome uses
 at_idle closed next (steps.Poll n) outcome uses = refused Idle outcome uses
@@ -191,11 +194,13 @@ abbrev pub act_of : Status → ℕ → ℕ → Bool → Step → Outcome → ℕ
 act_of (Ahead k) n next closed step outcome uses = act_ahead k n outcome uses (target step)
 act_of status n next closed step outcome uses = act_there status n next closed step outcome uses (target step)
 
--- a step of a stream that isn't there: it names this number
+-- a step of a stream, or of a transaction, that isn't there: it names this number
 abbrev pub is_missing : ℕ → Bool → Step → Bool
 is_missing n true step = false
 is_missing n false (steps.Item m) = m == n
 is_missing n false (steps.Unstream m) = m == n
+is_missing n false (steps.Rollback m) = m == n
+is_missing n false (steps.ForgetTransaction m) = m == n
 is_missing n false step = false
 
 -- a step of a statement that isn't there: it names this number
@@ -205,11 +210,12 @@ is_unprepared n false (steps.Execute m number params) = m == n
 is_unprepared n false (steps.CloseStatement m number) = m == n
 is_unprepared n false step = false
 
--- what a line may do at connection n, where a stream is there or none, and the statement that its step names is or isn't
+-- what a line may do at connection n, where what its step needs beside the connection's calls is there or isn't, and so is the statement that
+-- it names
 abbrev pub act_with : Bool → Bool → Status → ℕ → ℕ → Bool → Step → Outcome → ℕ → Act
-act_with there prepared status n next closed step outcome uses =
+act_with found prepared status n next closed step outcome uses =
     if moves_world step then moved status outcome uses
-    else if is_missing n there step then refused status outcome uses
+    else if is_missing n found step then refused status outcome uses
     else if is_unprepared n prepared step then refused status outcome uses
     else act_of status n next closed step outcome uses
 
@@ -243,6 +249,9 @@ begun_by taken named (steps.Unstream n) = None
 begun_by taken named (steps.Drop n) = Some calls.DropResult
 begun_by taken named (steps.Ping n) = Some calls.Ping
 begun_by taken named (steps.Reset n) = Some calls.Reset
+begun_by taken named (steps.Begin n opts) = Some (calls.Begin opts)
+begun_by taken named (steps.Rollback n) = Some calls.Rollback
+begun_by taken named (steps.ForgetTransaction n) = Some calls.ForgetTransaction
 begun_by taken named (steps.Quit n) = Some calls.Quit
 begun_by taken named (steps.Fields n) = None
 begun_by taken named (steps.Poll n) = None

@@ -79,11 +79,13 @@ fn at_idle(closed: bool, next: usize, step: &Step, outcome: &Outcome, uses: usiz
         | Step::Item(_)
         | Step::Drop(_)
         | Step::Ping(_)
-        | Step::Reset(_) => asked(closed, outcome, uses),
+        | Step::Reset(_)
+        | Step::Begin(_, _)
+        | Step::Rollback(_) => asked(closed, outcome, uses),
         Step::Collect(_) => collected(closed, next, outcome, uses),
         Step::Stream(_) => streamed(closed, outcome, uses),
         Step::Unstream(_) => let_go(outcome, uses),
-        Step::Quit(_) => polled_once(outcome, uses),
+        Step::ForgetTransaction(_) | Step::Quit(_) => polled_once(outcome, uses),
         Step::Fields(_) => told(outcome, uses),
         Step::Poll(_) | Step::Cancel(_) => refused(Status::Idle, outcome, uses),
     }
@@ -224,15 +226,18 @@ fn moves_world(step: &Step) -> bool
     matches!(step, Step::Advance(_) | Step::Random(_))
 }
 
-// Whether the step is one of a stream that isn't there.
-fn is_missing(number: u64, there: bool, step: &Step) -> bool
-    ensures { result ≡ is_missing number there step.now }
+// Whether the step is one of a stream, or of a transaction, that isn't there.
+fn is_missing(number: u64, found: bool, step: &Step) -> bool
+    ensures { result ≡ is_missing number found step.now }
 {
-    if there {
+    if found {
         return false;
     }
     match step {
-        Step::Item(named) | Step::Unstream(named) => *named == number,
+        Step::Item(named)
+        | Step::Unstream(named)
+        | Step::Rollback(named)
+        | Step::ForgetTransaction(named) => *named == number,
         _ => false,
     }
 }
@@ -250,10 +255,10 @@ fn is_unprepared(number: u64, prepared: bool, step: &Step) -> bool
     }
 }
 
-/// What a line does at the connection with this number, where a stream is there or none, and the statement that the step names
-/// is or isn't; of which `next` calls ended, and which is closed or not.
+/// What a line does at the connection with this number, where the stream or the transaction that the step needs is found or
+/// isn't, and so is the statement that it names; of which `next` calls ended, and which is closed or not.
 pub fn act_with(
-    there: bool,
+    found: bool,
     prepared: bool,
     status: Status,
     number: u64,
@@ -263,12 +268,12 @@ pub fn act_with(
     outcome: &Outcome,
     uses: usize,
 ) -> Act
-    ensures { result ≡ act_with there prepared status number next closed step.now outcome.now uses }
+    ensures { result ≡ act_with found prepared status number next closed step.now outcome.now uses }
 {
     if moves_world(step) {
         return moved(status, outcome, uses);
     }
-    if is_missing(number, there, step) {
+    if is_missing(number, found, step) {
         return refused(status, outcome, uses);
     }
     if is_unprepared(number, prepared, step) {

@@ -1,3 +1,3 @@
-pub mod Parameters
+pub mod EachWord
 pub mod Scripts
 pub mod Texts

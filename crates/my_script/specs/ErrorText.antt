@@ -39,6 +39,8 @@ params_text params.NoMemory = codes "Driver Params NoMemory"
 abbrev pub driver_text : DriverError → List ℕ
 driver_text drivers.ConnectionClosed = codes "Driver ConnectionClosed"
 driver_text drivers.MixedParams = codes "Driver MixedParams"
+driver_text drivers.NestedTransaction = codes "Driver NestedTransaction"
+driver_text drivers.ReadOnlyTransNotSupported = codes "Driver ReadOnlyTransNotSupported"
 driver_text (drivers.Params e) = params_text e
 driver_text (drivers.StmtParamsMismatch required supplied) = two_text (codes "Driver StmtParamsMismatch") required supplied
 driver_text (drivers.StmtParamsNumberExceedsLimit supplied) = codes "Driver StmtParamsNumberExceedsLimit" ++ marked 32 supplied

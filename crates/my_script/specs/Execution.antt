@@ -5,7 +5,7 @@ use Rattle.my_value.specs.declared.value.Value.{Value}
 use Rattle.my_params.specs.declared.params.Params.{Params}
 use Rattle.my_params.specs.declared.params.Params.TheVariants.{Empty, Named, Positional}
 use Rattle.my_script.specs.declared.reading.execution.StatementParts.{StatementParts}
-use Rattle.my_script.specs.Cut.{first_of, rest_of, pieces_left}
+use Rattle.my_script.specs.Cut.{first_of, rest_of, words_in}
 use Rattle.my_script.specs.Number.{number_of}
 use Rattle.my_script.specs.ValueWord.{value_of}
 
@@ -40,11 +40,6 @@ with_word Empty word = None
 with_word (Positional values) word = option_map (λ v. Positional (values ++ v ∷ [])) (value_of word)
 with_word (Named pairs) word = option_map (λ p. Named (pairs ++ p ∷ [])) (pair_of word)
 
--- and those that all these words say; none where one of them doesn't read
-abbrev pub with_words : Params → List (List ℕ) → Option Params
-with_words params [] = Some params
-with_words params (word ∷ words) = with_word params word >>= (λ more. with_words more words)
-
--- the words that follow, one blank apart
+-- and those that all words say which follow; none where one of them doesn't read
 abbrev pub params_in : Params → Option (List ℕ) → Option Params
-params_in params rest = with_words params (pieces_left 32 rest)
+params_in params rest = words_in with_word params rest

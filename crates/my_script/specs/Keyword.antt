@@ -2,7 +2,7 @@
 use Rattle.std.specs.Prelude.{ℕ, List, codes, if◌then◌else◌}
 use Rattle.std.specs.Str.{bytes_eq}
 use Rattle.my_script.specs.declared.reading.keyword.Keyword.{Keyword}
-use Rattle.my_script.specs.declared.reading.keyword.Keyword.TheVariants.{Packet, Drip, Bytes, Turn, Wait, Fail, End, Accept, WriteWait, WriteFail, Dial, Conn, Query, Prepare, Execute, ExecuteNamed, CloseStatement, Next, Collect, Stream, StreamItem, Unstream, Drop, Ping, Reset, Quit, Fields, Poll, Cancel, Advance, Random, Unknown}
+use Rattle.my_script.specs.declared.reading.keyword.Keyword.TheVariants.{Packet, Drip, Bytes, Turn, Wait, Fail, End, Accept, WriteWait, WriteFail, Dial, Conn, Query, Prepare, Execute, ExecuteNamed, CloseStatement, Next, Collect, Stream, StreamItem, Unstream, Drop, Ping, Reset, Begin, Rollback, Forget, Quit, Fields, Poll, Cancel, Advance, Random, Unknown}
 
 -- the words of steps that move the world
 abbrev pub moving_keyword_of : List ℕ → Keyword
@@ -11,6 +11,14 @@ moving_keyword_of word =
     else if bytes_eq word (codes "random") then Random
     else Unknown
 
+-- the words of steps on transactions
+abbrev pub transaction_keyword_of : List ℕ → Keyword
+transaction_keyword_of word =
+    if bytes_eq word (codes "begin") then Begin
+    else if bytes_eq word (codes "rollback") then Rollback
+    else if bytes_eq word (codes "forget") then Forget
+    else moving_keyword_of word
+
 -- the words of steps on prepared statements
 abbrev pub statement_keyword_of : List ℕ → Keyword
 statement_keyword_of word =
@@ -18,7 +26,7 @@ statement_keyword_of word =
     else if bytes_eq word (codes "exec") then Execute
     else if bytes_eq word (codes "execn") then ExecuteNamed
     else if bytes_eq word (codes "closestmt") then CloseStatement
-    else moving_keyword_of word
+    else transaction_keyword_of word
 
 -- the words of steps
 abbrev pub step_keyword_of : List ℕ → Keyword

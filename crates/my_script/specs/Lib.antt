@@ -1,10 +1,13 @@
 pub mod Cut
 pub mod Streams
+pub mod Transactions
+pub mod Beside
 pub mod Numbered
 pub mod Number
 pub mod Keyword
 pub mod ValueWord
 pub mod Execution
+pub mod Beginning
 pub mod Line
 pub mod Script
 pub mod Words

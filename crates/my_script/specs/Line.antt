@@ -5,11 +5,12 @@ use Rattle.my_frame.specs.Numbers.{◌>>=◌}
 use Rattle.my_script.specs.declared.step.Step.TheVariants as steps
 use Rattle.my_params.specs.declared.params.Params.{Params}
 use Rattle.my_params.specs.declared.params.Params.TheVariants.{Named, Positional}
+use Rattle.my_opts_parts.specs.TransactionOptions.{TxView}
 use Rattle.my_world.specs.declared.line.WorldLine.TheVariants as lines
 use Rattle.my_script.specs.declared.reading.line.Item.{Item}
 use Rattle.my_script.specs.declared.reading.line.Item.TheVariants.{Nothing, Plans, Steps, Wrong}
 use Rattle.my_script.specs.declared.reading.keyword.Keyword.{Keyword}
-use Rattle.my_script.specs.declared.reading.keyword.Keyword.TheVariants.{Packet, Drip, Bytes, Turn, Wait, Fail, End, Accept, WriteWait, WriteFail, Dial, Conn, Query, Prepare, Execute, ExecuteNamed, CloseStatement, Next, Collect, Stream, StreamItem, Unstream, Drop, Ping, Reset, Quit, Fields, Poll, Cancel, Advance, Random, Unknown}
+use Rattle.my_script.specs.declared.reading.keyword.Keyword.TheVariants.{Packet, Drip, Bytes, Turn, Wait, Fail, End, Accept, WriteWait, WriteFail, Dial, Conn, Query, Prepare, Execute, ExecuteNamed, CloseStatement, Next, Collect, Stream, StreamItem, Unstream, Drop, Ping, Reset, Begin, Rollback, Forget, Quit, Fields, Poll, Cancel, Advance, Random, Unknown}
 use Rattle.my_script.specs.declared.reading.line.PacketParts.{PacketParts}
 use Rattle.my_script.specs.declared.reading.line.LinkParts.{LinkParts}
 use Rattle.my_script.specs.declared.reading.line.AcceptParts.{AcceptParts}
@@ -17,6 +18,7 @@ use Rattle.my_script.specs.declared.reading.line.QueryParts.{QueryParts}
 use Rattle.my_script.specs.Cut.{first_of, rest_of}
 use Rattle.my_script.specs.Keyword.{keyword_of}
 use Rattle.my_script.specs.Number.{number_of, number_at_most, bytes_of}
+use Rattle.my_script.specs.Beginning.{BeginWords, begin_parts, options_in}
 use Rattle.my_script.specs.Execution.{StatementWords, statement_parts, params_in}
 
 -- a link's number, a packet's number and the digits of its payload
@@ -157,6 +159,15 @@ abbrev pub close_item : Option StatementWords → Item
 close_item None = Wrong
 close_item (Some p) = closed_with p.connection p.statement p.rest
 
+abbrev pub begun_with : ℕ → Option TxView → Item
+begun_with connection None = Wrong
+begun_with connection (Some opts) = Steps (steps.Begin connection opts)
+
+-- `begin C OPTS`
+abbrev pub begin_item : Option BeginWords → Item
+begin_item None = Wrong
+begin_item (Some p) = begun_with p.connection (options_in p.rest)
+
 -- `turn L`, `wait L`, `fail L`, `end L`, `wwait L`, `wfail L`
 abbrev pub link_item : Keyword → Option ℕ → Item
 link_item keyword None = Wrong
@@ -179,6 +190,8 @@ connection_item Unstream (Some connection) = Steps (steps.Unstream connection)
 connection_item Drop (Some connection) = Steps (steps.Drop connection)
 connection_item Ping (Some connection) = Steps (steps.Ping connection)
 connection_item Reset (Some connection) = Steps (steps.Reset connection)
+connection_item Rollback (Some connection) = Steps (steps.Rollback connection)
+connection_item Forget (Some connection) = Steps (steps.ForgetTransaction connection)
 connection_item Quit (Some connection) = Steps (steps.Quit connection)
 connection_item Fields (Some connection) = Steps (steps.Fields connection)
 connection_item Poll (Some connection) = Steps (steps.Poll connection)
@@ -223,6 +236,9 @@ item_with Unstream rest = connection_item Unstream (number_of rest)
 item_with Drop rest = connection_item Drop (number_of rest)
 item_with Ping rest = connection_item Ping (number_of rest)
 item_with Reset rest = connection_item Reset (number_of rest)
+item_with Begin rest = begin_item (begin_parts rest)
+item_with Rollback rest = connection_item Rollback (number_of rest)
+item_with Forget rest = connection_item Forget (number_of rest)
 item_with Quit rest = connection_item Quit (number_of rest)
 item_with Fields rest = connection_item Fields (number_of rest)
 item_with Poll rest = connection_item Poll (number_of rest)

@@ -1,5 +1,5 @@
 -- What the lines of a run make of a stream at a connection: it follows from the steps and their answers alone.
-use Rattle.std.specs.Prelude.{ℕ, ◌==◌, Option, Some, None, Bool, true, false, if◌then◌else◌}
+use Rattle.std.specs.Prelude.{ℕ, Option, Some, None, Bool, true, false}
 use Rattle.my_reading.specs.declared.call.CallKind.{CallKind}
 use Rattle.my_reading.specs.declared.call.CallKind.TheVariants.{SkipTaken}
 use Rattle.my_script.specs.declared.step.Step.{Step}
@@ -7,7 +7,7 @@ use Rattle.my_script.specs.declared.step.Step.TheVariants as steps
 use Rattle.my_script.specs.declared.stream.Stream.{Stream}
 use Rattle.my_script.specs.declared.stream.Stream.TheVariants.{Without, Taking, There, Reading}
 use Rattle.my_script.specs.declared.transcript.Outcome.{Outcome}
-use Rattle.my_script.specs.declared.transcript.Outcome.TheVariants.{Done, Pending, Row, NoSuchHandle}
+use Rattle.my_script.specs.declared.transcript.Outcome.TheVariants.{Done, Pending, Row}
 
 -- the number of the connection that a step names; `conn` names none, nor do the steps of the world
 abbrev pub target : Step → Option ℕ
@@ -24,6 +24,9 @@ target (steps.Unstream n) = Some n
 target (steps.Drop n) = Some n
 target (steps.Ping n) = Some n
 target (steps.Reset n) = Some n
+target (steps.Begin n opts) = Some n
+target (steps.Rollback n) = Some n
+target (steps.ForgetTransaction n) = Some n
 target (steps.Quit n) = Some n
 target (steps.Fields n) = Some n
 target (steps.Poll n) = Some n
@@ -54,27 +57,14 @@ abbrev pub after_cancel : Stream → Stream
 after_cancel Reading = There
 after_cancel stream = Without
 
--- each other step that begins a call lets the stream go first, as `unstream` does
-abbrev pub after_step : Stream → Step → Outcome → Stream
-after_step stream (steps.Stream n) outcome = after_taking outcome
-after_step stream (steps.Item n) outcome = after_item outcome
-after_step stream (steps.Fields n) outcome = stream
-after_step stream (steps.Poll n) outcome = after_poll stream outcome
-after_step stream (steps.Cancel n) outcome = after_cancel stream
-after_step stream step outcome = Without
-
--- a step that is refused changes nothing
+-- After a step at its number that isn't refused: each other one that begins a call lets the stream go first, as `unstream` does.
 abbrev pub stream_after : Stream → Step → Outcome → Stream
-stream_after stream step NoSuchHandle = stream
-stream_after stream step outcome = after_step stream step outcome
-
--- at connection n, where the step names this number
-abbrev pub stream_named : ℕ → Option ℕ → Stream → Step → Outcome → Stream
-stream_named n None stream step outcome = stream
-stream_named n (Some m) stream step outcome = if m == n then stream_after stream step outcome else stream
-
-abbrev pub stream_by : ℕ → Stream → Step → Outcome → Stream
-stream_by n stream step outcome = stream_named n (target step) stream step outcome
+stream_after stream (steps.Stream n) outcome = after_taking outcome
+stream_after stream (steps.Item n) outcome = after_item outcome
+stream_after stream (steps.Fields n) outcome = stream
+stream_after stream (steps.Poll n) outcome = after_poll stream outcome
+stream_after stream (steps.Cancel n) outcome = after_cancel stream
+stream_after stream step outcome = Without
 
 -- an item is read, or the stream let go, only where one is there and reads nothing
 abbrev pub is_there : Stream → Bool

@@ -2,18 +2,22 @@
 //! plan, and what its steps came to with the text of it.
 #![tactic(auto)]
 
+mod beside;
 mod reading;
 mod statements;
 mod step;
 mod stream;
 mod text;
+mod transaction;
 mod transcript;
 mod words;
 
+pub use beside::Beside;
 pub use reading::script::{BadLine, Read, Script, read_script};
 pub use statements::{NumberedStatements, named_statement};
 pub use step::Step;
-pub use stream::{Stream, is_there, stream_after, stream_by, target};
+pub use stream::{Stream, target};
 pub use text::transcript::text_of;
+pub use transaction::Transaction;
 pub use transcript::{Outcome, StepAnswer, Tape, TapeCall, Transcript, Use};
 pub use words::{Command, WordFault, read_command, read_word};

@@ -1,5 +1,6 @@
 //! Reads scripts and the words of a command.
 
+pub mod beginning;
 pub mod cut;
 pub mod execution;
 pub mod keyword;

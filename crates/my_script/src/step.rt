@@ -1,6 +1,7 @@
 //! What a script asks for.
 
 use my_frame::Blob;
+use my_opts_parts::TxOpts;
 use my_params::Params;
 
 /// A step of a script. Each but the first and the last two names a connection by its number.
@@ -32,6 +33,12 @@ pub enum Step {
     Ping(u64),
     /// Has the server reset this connection's session.
     Reset(u64),
+    /// Begins a transaction at this connection.
+    Begin(u64, TxOpts),
+    /// Rolls this connection's transaction back.
+    Rollback(u64),
+    /// Gives this connection's transaction up, which is rolled back before the next command.
+    ForgetTransaction(u64),
     /// Leaves the server.
     Quit(u64),
     /// Shows what the server's last OK said.

@@ -1,6 +1,6 @@
 //! Streams of connections' sets, as they follow from the lines of a run.
 ghost use Rattle.std.specs.Prelude.{◌≡◌};
-ghost use Rattle.my_script.specs.Streams.{after_cancel, after_item, after_poll, after_step, after_taking, is_there, stream_after, stream_by, target};
+ghost use Rattle.my_script.specs.Streams.{after_cancel, after_item, after_poll, after_taking, is_there, stream_after, target};
 
 use crate::{Outcome, Step};
 
@@ -35,6 +35,9 @@ pub fn target(step: &Step) -> Option<u64>
         | Step::Drop(number)
         | Step::Ping(number)
         | Step::Reset(number)
+        | Step::Begin(number, _)
+        | Step::Rollback(number)
+        | Step::ForgetTransaction(number)
         | Step::Quit(number)
         | Step::Fields(number)
         | Step::Poll(number)
@@ -81,9 +84,9 @@ fn after_cancel(stream: Stream) -> Stream
     }
 }
 
-// After a step that isn't refused.
-fn after_step(stream: Stream, step: &Step, outcome: &Outcome) -> Stream
-    ensures { result ≡ after_step stream step.now outcome.now }
+/// What a step makes of a stream at the number that it names, where the step isn't refused.
+pub fn stream_after(stream: Stream, step: &Step, outcome: &Outcome) -> Stream
+    ensures { result ≡ stream_after stream step.now outcome.now }
 {
     match step {
         Step::Stream(_) => after_taking(outcome),
@@ -92,32 +95,6 @@ fn after_step(stream: Stream, step: &Step, outcome: &Outcome) -> Stream
         Step::Poll(_) => after_poll(stream, outcome),
         Step::Cancel(_) => after_cancel(stream),
         _ => Stream::Without,
-    }
-}
-
-/// What a line makes of a stream at the number that its step names.
-pub fn stream_after(stream: Stream, step: &Step, outcome: &Outcome) -> Stream
-    ensures { result ≡ stream_after stream step.now outcome.now }
-{
-    match outcome {
-        Outcome::NoSuchHandle => stream,
-        _ => after_step(stream, step, outcome),
-    }
-}
-
-/// What a line makes of a stream at this number.
-pub fn stream_by(number: u64, stream: Stream, step: &Step, outcome: &Outcome) -> Stream
-    ensures { result ≡ stream_by number stream step.now outcome.now }
-{
-    match target(step) {
-        Some(named) => {
-            if named == number {
-                stream_after(stream, step, outcome)
-            } else {
-                stream
-            }
-        }
-        None => stream,
     }
 }
 

@@ -1,6 +1,6 @@
 //! The words that lines begin with.
 ghost use Rattle.std.specs.Prelude.{◌≡◌};
-ghost use Rattle.my_script.specs.Keyword.{moving_keyword_of, statement_keyword_of, step_keyword_of, keyword_of};
+ghost use Rattle.my_script.specs.Keyword.{moving_keyword_of, transaction_keyword_of, statement_keyword_of, step_keyword_of, keyword_of};
 
 /// The word that a line begins with.
 #[derive(Clone, Copy)]
@@ -30,6 +30,9 @@ pub enum Keyword {
     Drop,
     Ping,
     Reset,
+    Begin,
+    Rollback,
+    Forget,
     Quit,
     Fields,
     Poll,
@@ -51,6 +54,21 @@ fn moving_keyword(word: &[u8]) -> Keyword
     Keyword::Unknown
 }
 
+fn transaction_keyword(word: &[u8]) -> Keyword
+    ensures { result ≡ transaction_keyword_of word.now }
+{
+    if word == b"begin".as_slice() {
+        return Keyword::Begin;
+    }
+    if word == b"rollback".as_slice() {
+        return Keyword::Rollback;
+    }
+    if word == b"forget".as_slice() {
+        return Keyword::Forget;
+    }
+    moving_keyword(word)
+}
+
 fn statement_keyword(word: &[u8]) -> Keyword
     ensures { result ≡ statement_keyword_of word.now }
 {
@@ -66,7 +84,7 @@ fn statement_keyword(word: &[u8]) -> Keyword
     if word == b"closestmt".as_slice() {
         return Keyword::CloseStatement;
     }
-    moving_keyword(word)
+    transaction_keyword(word)
 }
 
 fn step_keyword(word: &[u8]) -> Keyword

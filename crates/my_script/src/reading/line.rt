@@ -1,8 +1,10 @@
 //! Reads a line of a script.
 ghost use Rattle.std.specs.Prelude.{◌≡◌, IfOk, option_map};
+ghost use Rattle.my_script.specs.Beginning.{begin_parts};
 ghost use Rattle.my_script.specs.Execution.{statement_parts};
-ghost use Rattle.my_script.specs.Line.{packet_parts, link_parts, accept_parts, query_parts, packet_view, link_view, accept_view, query_view, packet_as, packet_with, bytes_with, dial_with, packet_item, bytes_item, dial_item, accept_item, text_as, text_item, no_params, executed_with, execute_item, close_item, link_item, connection_item, moving_item, bare_item, item_with, line_of};
+ghost use Rattle.my_script.specs.Line.{packet_parts, link_parts, accept_parts, query_parts, packet_view, link_view, accept_view, query_view, packet_as, packet_with, bytes_with, dial_with, packet_item, bytes_item, dial_item, accept_item, text_as, text_item, no_params, executed_with, execute_item, close_item, begin_item, link_item, connection_item, moving_item, bare_item, item_with, line_of};
 
+use super::beginning::{begin_parts, options_in};
 use super::cut::cut;
 use super::execution::{params_in, statement_parts};
 use super::keyword::{Keyword, known_keyword};
@@ -264,6 +266,18 @@ fn close_line(rest: &[u8]) -> Item
     }
 }
 
+fn begin_line(rest: &[u8]) -> Item
+    ensures { result ≡ begin_item (begin_parts rest.now) }
+{
+    match begin_parts(rest) {
+        None => Item::Wrong,
+        Some(parts) => match options_in(parts.rest) {
+            None => Item::Wrong,
+            Some(opts) => Item::Steps(Step::Begin(parts.connection, opts)),
+        },
+    }
+}
+
 // The lines that name a link and nothing else.
 fn link_line(keyword: Keyword, link: Option<u64>) -> Item
     ensures { result ≡ link_item keyword link }
@@ -297,6 +311,8 @@ fn connection_line(keyword: Keyword, connection: Option<u64>) -> Item
             Keyword::Drop => Item::Steps(Step::Drop(connection)),
             Keyword::Ping => Item::Steps(Step::Ping(connection)),
             Keyword::Reset => Item::Steps(Step::Reset(connection)),
+            Keyword::Rollback => Item::Steps(Step::Rollback(connection)),
+            Keyword::Forget => Item::Steps(Step::ForgetTransaction(connection)),
             Keyword::Quit => Item::Steps(Step::Quit(connection)),
             Keyword::Fields => Item::Steps(Step::Fields(connection)),
             Keyword::Poll => Item::Steps(Step::Poll(connection)),
@@ -341,6 +357,7 @@ fn with_arguments(alloc: Global, keyword: Keyword, rest: &[u8]) -> Result<Item, 
         Keyword::Query | Keyword::Prepare => text_line(alloc, keyword, rest),
         Keyword::Execute | Keyword::ExecuteNamed => execute_line(alloc, keyword, rest),
         Keyword::CloseStatement => Ok(close_line(rest)),
+        Keyword::Begin => Ok(begin_line(rest)),
         Keyword::Turn
         | Keyword::Wait
         | Keyword::Fail
@@ -355,6 +372,8 @@ fn with_arguments(alloc: Global, keyword: Keyword, rest: &[u8]) -> Result<Item, 
         | Keyword::Drop
         | Keyword::Ping
         | Keyword::Reset
+        | Keyword::Rollback
+        | Keyword::Forget
         | Keyword::Quit
         | Keyword::Fields
         | Keyword::Poll

@@ -67,6 +67,10 @@ fn push_driver(alloc: Global, out: &mut Vec<u8>, error: &DriverError) -> Result<
     match error {
         DriverError::ConnectionClosed => out.extend_from_slice(b"Driver ConnectionClosed"),
         DriverError::MixedParams => out.extend_from_slice(b"Driver MixedParams"),
+        DriverError::NestedTransaction => out.extend_from_slice(b"Driver NestedTransaction"),
+        DriverError::ReadOnlyTransNotSupported => {
+            out.extend_from_slice(b"Driver ReadOnlyTransNotSupported")
+        }
         DriverError::Params(error) => push_params(alloc, out, error),
         DriverError::StmtParamsMismatch { required, supplied } => {
             push_two(
