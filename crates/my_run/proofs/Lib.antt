@@ -1,4 +1,4 @@
 pub mod Outputs
-pub mod Streaming
+pub mod MadeBeside
 pub mod Runs
 pub mod WrongRuns

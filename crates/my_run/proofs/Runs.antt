@@ -18,13 +18,13 @@ use Rattle.my_script.specs.declared.transcript.StepAnswer.{StepAnswer}
 use Rattle.my_script.specs.declared.transcript.Tape.{Tape}
 use Rattle.my_steps.specs.Dialing.{Course, course_of, DialsTo, chance_by, dial_met, has_dialed}
 use Rattle.my_steps.specs.Did.{Stepped}
-use Rattle.my_script.specs.declared.stream.Stream.TheVariants.{Without}
 use Rattle.my_statements.specs.Prepared.{StatementView}
 use Rattle.my_script.specs.Numbered.{named_statement, statement_named, statements_by}
-use Rattle.my_script.specs.Streams.{stream_by, target}
-use Rattle.my_steps.specs.Grows.{Line, StepGrows, handles_after, is_streamed, statements_of, stream_of}
-use Rattle.my_run.specs.declared.streams.Streams.{Streams}
-use Rattle.my_run.specs.Streams.{stream_in}
+use Rattle.my_script.specs.Beside.{beside_by, nothing_beside}
+use Rattle.my_script.specs.Streams.{target}
+use Rattle.my_steps.specs.Grows.{Line, StepGrows, beside_of, handles_after, is_found, statements_of}
+use Rattle.my_run.specs.declared.beside.BesideEach.{BesideEach}
+use Rattle.my_run.specs.Beside.{beside_in}
 use Rattle.my_steps.specs.Handle.{Handle, Absent, Dialing, Joined, at_number}
 use Rattle.my_run.specs.Headline.{AnswerView, answer_view, steps_of, IsSaid, IsExplained, EachExplained, Headline, SoFar}
 use Rattle.my_link.specs.declared.dialer.DialItem.{DialItem}
@@ -68,7 +68,7 @@ count_steps : (ls : List Line) → length (steps_of ls) ≡ length ls
 count_steps [] = refl
 count_steps (l ∷ ls) = omega (arith, count_steps ls, length-append (steps_of ls) (l.step ∷ []))
 
-pub none_yet : {L : Type 0} (look : L → Looks) (login : Login) (plans : Plans) (world : WorldSeen) (done : List Step) (ss : List (Slot L)) (given : List StepAnswer) → SamePlans world.plans plans → done ≡ [] → ss ≡ [] → given ≡ [] → (v : SoFar look login plans (course_of world) world done ss given) × ((n : ℕ) → stream_of n v.lines ≡ Without) × (statements_of v.lines ≡ [])
+pub none_yet : {L : Type 0} (look : L → Looks) (login : Login) (plans : Plans) (world : WorldSeen) (done : List Step) (ss : List (Slot L)) (given : List StepAnswer) → SamePlans world.plans plans → done ≡ [] → ss ≡ [] → given ≡ [] → (v : SoFar look login plans (course_of world) world done ss given) × ((n : ℕ) → beside_of n v.lines ≡ nothing_beside) × (statements_of v.lines ≡ [])
 none_yet {L} look login plans world done ss given same d e f = (
   record {
     lines = [];
@@ -86,23 +86,23 @@ none_yet {L} look login plans world done ss given same d e f = (
   refl,
 )
 
--- and the streams and the statements are those of the lines
-abbrev pub LinesSoFar : {L : Type 0} → (L → Looks) → Login → Plans → Course → WorldSeen → List Step → List (Slot L) → List StepAnswer → Streams → List (Option StatementView) → Type 0
-LinesSoFar look login told before now done slots answers streams given = (plans : Plans) → SamePlans told plans
-    → (v : SoFar look login plans before now done slots answers) × ((n : ℕ) → stream_in streams n ≡ stream_of n v.lines) × (given ≡ statements_of v.lines)
+-- and what stands beside the connections, and the statements, are those of the lines
+abbrev pub LinesSoFar : {L : Type 0} → (L → Looks) → Login → Plans → Course → WorldSeen → List Step → List (Slot L) → List StepAnswer → BesideEach → List (Option StatementView) → Type 0
+LinesSoFar look login told before now done slots answers beside given = (plans : Plans) → SamePlans told plans
+    → (v : SoFar look login plans before now done slots answers) × ((n : ℕ) → beside_in beside n ≡ beside_of n v.lines) × (given ≡ statements_of v.lines)
 
-pub step_on : {L : Type 0} (look : L → Looks) (login : Login) (plans : Plans) (before : Course) (now later : WorldSeen) (done next : List Step) (ss ts : List (Slot L)) (given bs : List StepAnswer) (step : Step) (a : StepAnswer) (there : Bool) (named : Option StatementView) → (u : SoFar look login plans before now done ss given) → there ≡ is_streamed (target step) u.lines → named ≡ statement_named (named_statement step) (statements_of u.lines) → Stepped login ss ts (AreAwaited plans later.plans 0 ts × StepGrows login plans there named (handles_in look now.plans ss) step a.outcome a.uses.items (handles_in look later.plans ts)) → DialsTo now.dials later.dials (dial_met (has_dialed step (handles_in look now.plans ss)) a.uses.items) → later.chance ≡ chance_by (has_dialed step (handles_in look now.plans ss)) step now.chance → a.number ≡ length done + 1 → bs ≡ given ++ a ∷ [] → next ≡ done ++ step ∷ []
-    → (v : SoFar look login plans before later next ts bs) × ((n : ℕ) → stream_of n v.lines ≡ stream_by n (stream_of n u.lines) step a.outcome) × (statements_of v.lines ≡ statements_by (statements_of u.lines) step a.outcome)
-step_on {L} look login plans before now later done next ss ts given bs step a there named u streamed names w dials moves num e f =
+pub step_on : {L : Type 0} (look : L → Looks) (login : Login) (plans : Plans) (before : Course) (now later : WorldSeen) (done next : List Step) (ss ts : List (Slot L)) (given bs : List StepAnswer) (step : Step) (a : StepAnswer) (found : Bool) (named : Option StatementView) → (u : SoFar look login plans before now done ss given) → found ≡ is_found (target step) step u.lines → named ≡ statement_named (named_statement step) (statements_of u.lines) → Stepped login ss ts (AreAwaited plans later.plans 0 ts × StepGrows login plans found named (handles_in look now.plans ss) step a.outcome a.uses.items (handles_in look later.plans ts)) → DialsTo now.dials later.dials (dial_met (has_dialed step (handles_in look now.plans ss)) a.uses.items) → later.chance ≡ chance_by (has_dialed step (handles_in look now.plans ss)) step now.chance → a.number ≡ length done + 1 → bs ≡ given ++ a ∷ [] → next ≡ done ++ step ∷ []
+    → (v : SoFar look login plans before later next ts bs) × ((n : ℕ) → beside_of n v.lines ≡ beside_by n (beside_of n u.lines) step a.outcome) × (statements_of v.lines ≡ statements_by (statements_of u.lines) step a.outcome)
+step_on {L} look login plans before now later done next ss ts given bs step a found named u finds names w dials moves num e f =
     let made : List Handle = handles_in look later.plans ts in
     let lines : List Line = record { step = step; number = a.number; outcome = a.outcome; uses = a.uses.items; handles = made } ∷ u.lines in
-    let found : Bool = is_streamed (target step) u.lines in
+    let known : Bool = is_found (target step) step u.lines in
     let stated : Option StatementView = statement_named (named_statement step) (statements_of u.lines) in
-    let grows : StepGrows login plans found stated (handles_after u.lines) step a.outcome a.uses.items made =
-    subst (λ (b : Bool). StepGrows login plans b stated (handles_after u.lines) step a.outcome a.uses.items made) streamed
-    (subst (λ (q : Option StatementView). StepGrows login plans there q (handles_after u.lines) step a.outcome a.uses.items made) names
-    (subst (λ (hs : List Handle). StepGrows login plans there named hs step a.outcome a.uses.items made) u.handles_are w.grows.1)) in
-    let fits : AllFit plans made = step_fits login plans found stated (handles_after u.lines) step a.outcome a.uses.items made (all_fit login plans u.lines u.explained) grows in (
+    let grows : StepGrows login plans known stated (handles_after u.lines) step a.outcome a.uses.items made =
+    subst (λ (b : Bool). StepGrows login plans b stated (handles_after u.lines) step a.outcome a.uses.items made) finds
+    (subst (λ (q : Option StatementView). StepGrows login plans found q (handles_after u.lines) step a.outcome a.uses.items made) names
+    (subst (λ (hs : List Handle). StepGrows login plans found named hs step a.outcome a.uses.items made) u.handles_are w.grows.1)) in
+    let fits : AllFit plans made = step_fits login plans known stated (handles_after u.lines) step a.outcome a.uses.items made (all_fit login plans u.lines u.explained) grows in (
       record {
         lines = lines;
         steps_are = ap (λ ss. ss ++ step ∷ []) u.steps_are ∙ sym f;

@@ -1,5 +1,5 @@
 -- How wrong runs are refuted.
-use Rattle.std.proofs.Common.{ℕ, ◌≡◌, ◌<◌, ◌≤◌, ◌⊎◌, inl, inr, zero, suc, List, [], ◌∷◌, ◌++◌, length, map, slice_set, Option, Some, None, option_map, unwrap_or, Bool, true, false, refl, sym, ap, ◌∙◌, subst, arith}
+use Rattle.std.proofs.Common.{ℕ, ◌≡◌, ◌==◌, ◌<◌, ◌≤◌, ◌⊎◌, inl, inr, zero, suc, List, [], ◌∷◌, ◌++◌, length, map, slice_set, Option, Some, None, option_map, unwrap_or, Bool, true, false, refl, sym, ap, ◌∙◌, subst, arith, eq-eqb, if◌then◌else◌}
 use Rattle.std.proofs.lemmas.List.{append-nil, length-append}
 use Rattle.my_grammar.specs.declared.login.Login.{Login}
 use Rattle.my_frame.specs.Outside.{Rose}
@@ -17,7 +17,7 @@ use Rattle.my_link.specs.Spent.{spelled, HasGot, IsLeft, Whole, Part, ReadsSpent
 use Rattle.my_link.proofs.Spending.{used_spent}
 use Rattle.my_reading.specs.declared.answer.Answer.TheVariants as answers
 use Rattle.my_handshake.specs.declared.version.ServerVersion.{ServerVersion}
-use Rattle.my_reading.specs.declared.call.Call.TheVariants.{Ping, Quit}
+use Rattle.my_reading.specs.declared.call.Call.TheVariants.{Ping, Quit, Rollback}
 use Rattle.my_reading.specs.Calls.{kind_of}
 use Rattle.my_reading.specs.declared.error.IoKind.TheVariants.{Dial}
 use Rattle.my_reading.specs.Errors.{connection_closed, io_error}
@@ -28,6 +28,7 @@ use Rattle.my_script.specs.declared.step.Step.{Step}
 use Rattle.my_script.specs.declared.step.Step.TheVariants as steps
 use Rattle.my_script.specs.declared.transcript.Outcome.{Outcome}
 use Rattle.my_script.specs.declared.transcript.Outcome.TheVariants.{Connected, Failed, NoSuchHandle, Pending}
+use Rattle.my_script.specs.declared.transcript.Outcome.TheVariants as outcomes
 use Rattle.my_script.specs.declared.transcript.StepAnswer.{StepAnswer}
 use Rattle.my_script.specs.declared.transcript.Tape.{Tape}
 use Rattle.my_script.specs.declared.transcript.TapeCall.{TapeCall}
@@ -50,14 +51,16 @@ use Rattle.my_steps.specs.Dialing.{Course, DialsTo, chance_by, dial_met, has_dia
 use Rattle.my_params.specs.declared.params.Params.{Params}
 use Rattle.my_statements.specs.Prepared.{StatementView}
 use Rattle.my_script.specs.Numbered.{named_statement, statement_named, statement_at, statements_by}
+use Rattle.my_script.specs.declared.beside.Beside.{Beside}
+use Rattle.my_script.specs.Beside.{beside_after, beside_by, finds}
 use Rattle.my_script.specs.Streams.{target}
-use Rattle.my_steps.specs.Grows.{Line, handles_after, is_streamed, statements_of, AreGrown, StepGrows, ExecutesAt, DialsNext, HasPlan, Dials, Holds, Fails, Links, ConnectShows, Connects, PolledOnce, Begins, BeginsOn, Calls, At, shown}
+use Rattle.my_steps.specs.Grows.{Line, beside_of, handles_after, is_found, statements_of, AreGrown, StepGrows, CallsWhere, ExecutesAt, DialsNext, HasPlan, Dials, Holds, Fails, Links, ConnectShows, Connects, PolledOnce, Begins, BeginsOn, Calls, At, shown}
 use Rattle.my_steps.specs.Handle.{Handle, Absent, Dialing, Joined, at_number, put_at}
 use Rattle.my_run.specs.Headline.{AnswerView, answer_view, steps_of, answers_of, Headline, IsExplained, EachExplained}
 use Rattle.my_steps.specs.Sums.{use_of, quiet, held_use, failed_use}
 use Rattle.my_run.specs.Tapes.{TapeView, tape_view, tape_call, open_call, tapes_in, tape_of, tape_at}
 use Rattle.my_run.specs.Tool.{ToolEnds}
-use Rattle.my_run.specs.WrongRuns.{NoPlannedDialFault, NoWaitAsFault, NoHeldDialFault, MayFail, DialFault, NoStillMoment, one_hold, one_fault, NoEarlyEnd, NoHoldAfterTurn, NoHoldInTurn, NoZeroSent, NoOtherTaken, NoFaultAtRest, HasRead, NoBrokenInput, NoClosedExecution, NoUngivenExecution}
+use Rattle.my_run.specs.WrongRuns.{NoPlannedDialFault, NoWaitAsFault, NoHeldDialFault, MayFail, DialFault, NoStillMoment, one_hold, one_fault, NoEarlyEnd, NoHoldAfterTurn, NoHoldInTurn, NoZeroSent, NoOtherTaken, NoFaultAtRest, HasRead, NoBrokenInput, NoClosedExecution, NoUngivenExecution, NoForgottenRollback}
 
 -- what was told
 told_some : {I : Type 0} (x y : Option (List I)) (is : List I) (R : List I → List I → Type 0) → x ≡ Some is → Told x y R → (js : List I) × (y ≡ Some js) × R is js
@@ -185,7 +188,7 @@ lone login plans before later a tapes w =
     let next : DialsNext login plans [] a.outcome a.uses.items l.handles =
     subst (λ (x : Outcome). DialsNext login plans [] x a.uses.items l.handles) outcome
     (subst (λ (us : List Use). DialsNext login plans [] l.outcome us l.handles) uses
-    (subst (λ (s : Step). StepGrows login plans (is_streamed (target s) []) (statement_named (named_statement s) (statements_of [])) [] s l.outcome l.uses l.handles) o.2 grown.0.answer)) in
+    (subst (λ (s : Step). StepGrows login plans (is_found (target s) s []) (statement_named (named_statement s) (statements_of [])) [] s l.outcome l.uses l.handles) o.2 grown.0.answer)) in
     let dialed = subst (λ (ls : List Line). AreDialed before.dials ls later.dials) o.1 w.dialed in
     let explained = subst (EachExplained login plans) o.1 w.explained in
     record {
@@ -377,8 +380,8 @@ no_hold_in_turn login plans before later greeting ok pong a b t c n id v some_ok
     let second : m.outcome ≡ Pending = sym (ap second_outcome answered) ∙ pending in
     let second_uses : m.uses ≡ use_of 0 (record nothing_met { holds = 1 }) ∷ [] = sym (ap uses_second answered) ∙ uses in
     let grown = subst (AreGrown login plans) o.2 w.grown in
-    let next : DialsNext login plans [] l.outcome l.uses l.handles = subst (λ (s : Step). StepGrows login plans (is_streamed (target s) []) (statement_named (named_statement s) (statements_of [])) [] s l.outcome l.uses l.handles) o.3 grown.1.0.answer in
-    let there : At 0 (Calls login 0 Ping) l.handles m.outcome m.uses m.handles = subst (λ (s : Step). StepGrows login plans (is_streamed (target s) (l ∷ [])) (statement_named (named_statement s) (statements_of (l ∷ []))) l.handles s m.outcome m.uses m.handles) o.4 grown.0.answer in
+    let next : DialsNext login plans [] l.outcome l.uses l.handles = subst (λ (s : Step). StepGrows login plans (is_found (target s) s []) (statement_named (named_statement s) (statements_of [])) [] s l.outcome l.uses l.handles) o.3 grown.1.0.answer in
+    let there : At 0 (Calls login 0 Ping) l.handles m.outcome m.uses m.handles = subst (λ (s : Step). StepGrows login plans (is_found (target s) s (l ∷ [])) (statement_named (named_statement s) (statements_of (l ∷ []))) l.handles s m.outcome m.uses m.handles) o.4 grown.0.answer in
     let made = dialed_made login (plans.reads 0) _ (plans.writes 0) (plans.dials 0) 0 id v l.outcome l.uses next.made told first next.dials in
     let handles : l.handles ≡ Joined true made.kept made.link ∷ [] = next.others ∙ ap (λ (h : Handle). h ∷ []) made.is in
     let begun : BeginsOn made.kept.pending login 0 Ping made.kept made.link m.outcome m.uses there.made = subst (λ (hs : List Handle). Calls login 0 Ping (at_number hs 0) m.outcome m.uses there.made) handles there.does in
@@ -533,7 +536,7 @@ past_none (x ∷ xs) (suc number) h = past_none xs number (omega (arith, h))
 not_executed : (login : Login) (plans : Plans) (ls : List Line) (l : Line) (n number : ℕ) (params : Params) → l.step ≡ steps.Execute n number params → statement_at (statements_of ls) number ≡ None → AreGrown login plans (l ∷ ls) → l.outcome ≡ NoSuchHandle
 not_executed login plans ls l n number params is none w =
     let at : At n (ExecutesAt (statement_at (statements_of ls) number) login n params) (handles_after ls) l.outcome l.uses l.handles =
-    subst (λ (s : Step). StepGrows login plans (is_streamed (target s) ls) (statement_named (named_statement s) (statements_of ls)) (handles_after ls) s l.outcome l.uses l.handles) is w.0.answer in
+    subst (λ (s : Step). StepGrows login plans (is_found (target s) s ls) (statement_named (named_statement s) (statements_of ls)) (handles_after ls) s l.outcome l.uses l.handles) is w.0.answer in
     (subst (λ (q : Option StatementView). ExecutesAt q login n params (at_number (handles_after ls) n) l.outcome l.uses at.made) none at.does).outcome
 
 pub no_closed_execution : NoClosedExecution
@@ -545,3 +548,15 @@ no_closed_execution login plans ls l m n k number params closes done is shown w 
 
 pub no_ungiven_execution : NoUngivenExecution
 no_ungiven_execution login plans ls l n number params past is shown w = shown (not_executed login plans ls l n number params is (past_none (statements_of ls) number past) w)
+
+-- a transaction that was given up isn't there
+pub no_forgotten_rollback : NoForgottenRollback
+no_forgotten_rollback login plans ls l m n forgets done is shown w =
+    let here : (n == n) ≡ true = eq-eqb n n refl in
+    let made : beside_by n (beside_of n ls) m.step m.outcome ≡ (if n == n then beside_after (beside_of n ls) (steps.ForgetTransaction n) outcomes.Done else beside_of n ls) =
+    ap (λ (s : Step). beside_by n (beside_of n ls) s m.outcome) forgets ∙ ap (λ (o : Outcome). beside_by n (beside_of n ls) (steps.ForgetTransaction n) o) done in
+    let gone : is_found (Some n) (steps.Rollback n) (m ∷ ls) ≡ false =
+    ap (λ (b : Beside). finds b (steps.Rollback n)) made ∙ ap (λ (b : Bool). finds (if b then beside_after (beside_of n ls) (steps.ForgetTransaction n) outcomes.Done else beside_of n ls) (steps.Rollback n)) here in
+    let at : At n (CallsWhere (is_found (Some n) (steps.Rollback n) (m ∷ ls)) login n Rollback) m.handles l.outcome l.uses l.handles =
+    subst (λ (s : Step). StepGrows login plans (is_found (target s) s (m ∷ ls)) (statement_named (named_statement s) (statements_of (m ∷ ls))) m.handles s l.outcome l.uses l.handles) is w.0.answer in
+    shown (subst (λ (b : Bool). CallsWhere b login n Rollback (at_number m.handles n) l.outcome l.uses at.made) gone at.does).outcome

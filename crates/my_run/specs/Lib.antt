@@ -1,7 +1,7 @@
 pub mod Input
 pub mod Output
 pub mod Tapes
-pub mod Streams
+pub mod Beside
 pub mod Headline
 pub mod Tool
 pub mod WrongRuns

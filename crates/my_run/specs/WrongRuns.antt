@@ -148,3 +148,9 @@ abbrev pub NoUngivenExecution : Type 0
 NoUngivenExecution = (login : Login) (plans : Plans) (ls : List Line) (l : Line) (n number : ℕ) (params : Params)
     → length (statements_of ls) ≤ number → l.step ≡ steps.Execute n number params → (l.outcome ≡ NoSuchHandle → ⊥)
     → AreGrown login plans (l ∷ ls) → ⊥
+
+-- a transaction is rolled back in the line after the one that gave it up, and that isn't refused
+abbrev pub NoForgottenRollback : Type 0
+NoForgottenRollback = (login : Login) (plans : Plans) (ls : List Line) (l m : Line) (n : ℕ) → m.step ≡ steps.ForgetTransaction n
+    → m.outcome ≡ outcomes.Done → l.step ≡ steps.Rollback n → (l.outcome ≡ NoSuchHandle → ⊥)
+    → AreGrown login plans (l ∷ m ∷ ls) → ⊥

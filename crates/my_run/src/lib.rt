@@ -1,11 +1,11 @@
 //! Runs scripts of steps over connections, and returns what they came to.
 #![tactic(auto)]
 
+mod beside;
 mod input;
 mod output;
 mod run;
 mod statements;
-mod streams;
 mod tape;
 mod tool;
 pub mod wrong_runs;

@@ -9,8 +9,8 @@ ghost use Rattle.my_run.specs.Headline.{RunSoFar, RunsTo};
 ghost use Rattle.my_steps.specs.Slot.{handle_of};
 ghost use Rattle.my_run.specs.Tapes.{tape_view, tape_of, tape_at, tapes_in};
 
+use crate::beside::BesideEach;
 use crate::statements::statement_for;
-use crate::streams::Streams;
 use crate::tape::tape_calls;
 use my_client::TapedConn;
 use my_frame::NoMemory;
@@ -35,13 +35,13 @@ fn run_each<N: World>(
     ensures { OnOk result (RunSoFar N.L.looks (login_of opts.now) (N.seen world.old).plans
         (course_of (N.seen world.old)) (N.seen world.new) steps.now slots.new.items answers.new.items) }
 {
-    let mut streams = Streams::new(alloc);
+    let mut beside = BesideEach::new(alloc);
     let mut statements = NumberedStatements::new(alloc);
     for (i, step) in steps.iter().enumerate() {
-        let there = streams.is_there(step);
+        let found = beside.is_found(step);
         let named = statement_for(&statements, step);
-        let did = run_step(alloc, opts, world, slots, step, there, named)?;
-        streams.note(step, &did.outcome)?;
+        let did = run_step(alloc, opts, world, slots, step, found, named)?;
+        beside.note(step, &did.outcome)?;
         statements.note(alloc, step, &did.outcome)?;
         answers.push(StepAnswer {
             number: i as u64 + 1,

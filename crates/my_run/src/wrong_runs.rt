@@ -1,5 +1,5 @@
 //! Runs that no user would call right, each of which the headline refutes, and beside them runs that it accepts.
-ghost use Rattle.my_run.specs.WrongRuns.{NoPlannedDialFault, NoWaitAsFault, NoHeldDialFault, DialFault, NoStillMoment, NoEarlyEnd, NoHoldAfterTurn, NoHoldInTurn, NoZeroSent, NoOtherTaken, NoFaultAtRest, NoBrokenInput, NoClosedExecution, NoUngivenExecution};
+ghost use Rattle.my_run.specs.WrongRuns.{NoPlannedDialFault, NoWaitAsFault, NoHeldDialFault, DialFault, NoStillMoment, NoEarlyEnd, NoHoldAfterTurn, NoHoldInTurn, NoZeroSent, NoOtherTaken, NoFaultAtRest, NoBrokenInput, NoClosedExecution, NoUngivenExecution, NoForgottenRollback};
 
 /// Over a world that planned no wait and no fault of the dial, none is said to have failed.
 pub fn no_planned_dial_fault()
@@ -69,4 +69,9 @@ pub fn no_closed_execution()
 /// Nor is a statement under a number that none took yet.
 pub fn no_ungiven_execution()
     ensures { NoUngivenExecution }
+{}
+
+/// A transaction that was given up isn't rolled back by a step of its own.
+pub fn no_forgotten_rollback()
+    ensures { NoForgottenRollback }
 {}

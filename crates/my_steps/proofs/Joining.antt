@@ -29,7 +29,7 @@ use Rattle.my_link.specs.Looks.{Looks}
 use Rattle.my_link.specs.Moves.{Stop}
 use Rattle.my_world.specs.World.{Plans}
 use Rattle.my_client.specs.Causes.{IsPolled, PollEnds}
-use Rattle.my_steps.specs.Grows.{IsRefused, OnConnection, PolledOnce, IsClosed, Begins, BeginsOn, Calls, ConnectShows, Connects, Dials, Holds, Fails, Links, Gathers, GathersOn, Collects, CollectsOn, CollectsAt, PollsOn, PollsCall, ThenTakes, Skips, Takes, TakesOn, StreamsAt, ItemsAt, LetsGoWith, UnstreamsAt, ExecutesAt, ClosesAt, GoesOnWith, GoesOn, CancelsWith, Cancels, TellsWith, TellsFields, At, StepGrows, Line, AreGrown, handles_after, is_done, is_streamed, statements_of, skips_first}
+use Rattle.my_steps.specs.Grows.{IsRefused, OnConnection, PolledOnce, IsClosed, Begins, BeginsOn, Calls, ConnectShows, Connects, Dials, Holds, Fails, Links, Gathers, GathersOn, Collects, CollectsOn, CollectsAt, PollsOn, PollsCall, ThenTakes, Skips, Takes, TakesOn, StreamsAt, CallsWhere, LetsGoWith, UnstreamsAt, ExecutesAt, ClosesAt, GoesOnWith, GoesOn, CancelsWith, Cancels, TellsWith, TellsFields, At, StepGrows, Line, AreGrown, handles_after, is_done, is_found, statements_of, skips_first}
 use Rattle.my_client.specs.Kept.{asked_by, Asked, Kept, nothing_kept, told_by, made_of, asking, ended_by, first_asked, first_kept}
 use Rattle.my_steps.specs.Handle.{Handle, Absent, Dialing, Joined, at_number, put_at}
 use Rattle.my_client.specs.Ready.{WereJoined, WasJoined, IsOpen, JoinedBy}
@@ -192,9 +192,9 @@ takes_on (Some a) login n k x o us t w r = kept_joined (Joined true k x) o us t 
 streams_joined : (login : Login) (n : ℕ) (o : Outcome) (us : List Use) (h t : Handle) → IsJoined h → StreamsAt login n h o us t → IsJoined t
 streams_joined login n o us h t = on_joined (λ k. TakesOn k.pending login n k) o us h t (λ k x. takes_on k.pending login n k x o us t)
 
-items_joined : (b : Bool) (login : Login) (n : ℕ) (o : Outcome) (us : List Use) (h t : Handle) → IsJoined h → ItemsAt b login n h o us t → IsJoined t
-items_joined true login n o us h t w r = calls_joined login n calls.NextRow o us h t w r
-items_joined false login n o us h t w r = kept_joined h o us t w r
+where_joined : (b : Bool) (login : Login) (n : ℕ) (call : Call) (o : Outcome) (us : List Use) (h t : Handle) → IsJoined h → CallsWhere b login n call h o us t → IsJoined t
+where_joined true login n call o us h t w r = calls_joined login n call o us h t w r
+where_joined false login n call o us h t w r = kept_joined h o us t w r
 
 lets_go_with : (q : Option Asked) (k : Kept) (x : Looks) (o : Outcome) (us : List Use) (t : Handle) → JoinedBy k.pending k → LetsGoWith q k x o us t → IsJoined t
 lets_go_with None k x o us t w r = subst IsJoined (sym r.left) w
@@ -270,27 +270,30 @@ push_joined (h ∷ hs) t j w = (w.0, push_joined hs t j w.1)
 at_step : (n : ℕ) (R : Handle → Outcome → List Use → Handle → Type 0) (hs ts : List Handle) (o : Outcome) (us : List Use) → ((h t : Handle) → IsJoined h → R h o us t → IsJoined t) → AllJoined hs → At n R hs o us ts → AllJoined ts
 at_step n R hs ts o us f w r = subst AllJoined (sym r.others) (put_joined hs n r.made (f (at_number hs n) r.made (at_joined hs n w) r.does) w)
 
-step_joined : (login : Login) (plans : Plans) (there : Bool) (named : Option StatementView) (hs : List Handle) (step : Step) (o : Outcome) (us : List Use) (ts : List Handle) → AllJoined hs → StepGrows login plans there named hs step o us ts → AllJoined ts
-step_joined login plans there named hs steps.Conn o us ts w r = subst AllJoined (sym r.others) (push_joined hs r.made (dials_joined login _ _ _ _ o us r.made r.dials) w)
-step_joined login plans there named hs (steps.Query n text) o us ts w r = at_step n _ hs ts o us (λ h t. calls_joined login n _ o us h t) w r
-step_joined login plans there named hs (steps.Prepare n text) o us ts w r = at_step n _ hs ts o us (λ h t. calls_joined login n _ o us h t) w r
-step_joined login plans there named hs (steps.Execute n number params) o us ts w r = at_step n _ hs ts o us (λ h t. executes_joined named login n params o us h t) w r
-step_joined login plans there named hs (steps.CloseStatement n number) o us ts w r = at_step n _ hs ts o us (λ h t. closes_joined named login n o us h t) w r
-step_joined login plans there named hs (steps.Next n) o us ts w r = at_step n _ hs ts o us (λ h t. calls_joined login n _ o us h t) w r
-step_joined login plans there named hs (steps.Collect n) o us ts w r = at_step n _ hs ts o us (λ h t. collects_joined login n o us h t) w r
-step_joined login plans there named hs (steps.Drop n) o us ts w r = at_step n _ hs ts o us (λ h t. calls_joined login n _ o us h t) w r
-step_joined login plans there named hs (steps.Ping n) o us ts w r = at_step n _ hs ts o us (λ h t. calls_joined login n _ o us h t) w r
-step_joined login plans there named hs (steps.Reset n) o us ts w r = at_step n _ hs ts o us (λ h t. calls_joined login n _ o us h t) w r
-step_joined login plans there named hs (steps.Quit n) o us ts w r = at_step n _ hs ts o us (λ h t. calls_joined login n _ o us h t) w r
-step_joined login plans there named hs (steps.Stream n) o us ts w r = at_step n _ hs ts o us (λ h t. streams_joined login n o us h t) w r
-step_joined login plans there named hs (steps.Item n) o us ts w r = at_step n _ hs ts o us (λ h t. items_joined there login n o us h t) w r
-step_joined login plans there named hs (steps.Unstream n) o us ts w r = at_step n _ hs ts o us (λ h t. unstreams_joined there o us h t) w r
-step_joined login plans there named hs (steps.Fields n) o us ts w r = at_step n _ hs ts o us (λ h t. tells_joined login o us h t) w r
-step_joined login plans there named hs (steps.Poll n) o us ts w r = at_step n _ hs ts o us (λ h t. goes_on_joined login plans n o us h t) w r
-step_joined login plans there named hs (steps.Cancel n) o us ts w r = at_step n _ hs ts o us (λ h t. cancels_joined login o us h t) w r
-step_joined login plans there named hs (steps.Advance by) o us ts w r = subst AllJoined (sym r.same) w
-step_joined login plans there named hs (steps.Random word) o us ts w r = subst AllJoined (sym r.same) w
+step_joined : (login : Login) (plans : Plans) (found : Bool) (named : Option StatementView) (hs : List Handle) (step : Step) (o : Outcome) (us : List Use) (ts : List Handle) → AllJoined hs → StepGrows login plans found named hs step o us ts → AllJoined ts
+step_joined login plans found named hs steps.Conn o us ts w r = subst AllJoined (sym r.others) (push_joined hs r.made (dials_joined login _ _ _ _ o us r.made r.dials) w)
+step_joined login plans found named hs (steps.Query n text) o us ts w r = at_step n _ hs ts o us (λ h t. calls_joined login n _ o us h t) w r
+step_joined login plans found named hs (steps.Prepare n text) o us ts w r = at_step n _ hs ts o us (λ h t. calls_joined login n _ o us h t) w r
+step_joined login plans found named hs (steps.Execute n number params) o us ts w r = at_step n _ hs ts o us (λ h t. executes_joined named login n params o us h t) w r
+step_joined login plans found named hs (steps.CloseStatement n number) o us ts w r = at_step n _ hs ts o us (λ h t. closes_joined named login n o us h t) w r
+step_joined login plans found named hs (steps.Next n) o us ts w r = at_step n _ hs ts o us (λ h t. calls_joined login n _ o us h t) w r
+step_joined login plans found named hs (steps.Collect n) o us ts w r = at_step n _ hs ts o us (λ h t. collects_joined login n o us h t) w r
+step_joined login plans found named hs (steps.Drop n) o us ts w r = at_step n _ hs ts o us (λ h t. calls_joined login n _ o us h t) w r
+step_joined login plans found named hs (steps.Ping n) o us ts w r = at_step n _ hs ts o us (λ h t. calls_joined login n _ o us h t) w r
+step_joined login plans found named hs (steps.Reset n) o us ts w r = at_step n _ hs ts o us (λ h t. calls_joined login n _ o us h t) w r
+step_joined login plans found named hs (steps.Begin n opts) o us ts w r = at_step n _ hs ts o us (λ h t. calls_joined login n _ o us h t) w r
+step_joined login plans found named hs (steps.Rollback n) o us ts w r = at_step n _ hs ts o us (λ h t. where_joined found login n calls.Rollback o us h t) w r
+step_joined login plans found named hs (steps.ForgetTransaction n) o us ts w r = at_step n _ hs ts o us (λ h t. where_joined found login n calls.ForgetTransaction o us h t) w r
+step_joined login plans found named hs (steps.Quit n) o us ts w r = at_step n _ hs ts o us (λ h t. calls_joined login n _ o us h t) w r
+step_joined login plans found named hs (steps.Stream n) o us ts w r = at_step n _ hs ts o us (λ h t. streams_joined login n o us h t) w r
+step_joined login plans found named hs (steps.Item n) o us ts w r = at_step n _ hs ts o us (λ h t. where_joined found login n calls.NextRow o us h t) w r
+step_joined login plans found named hs (steps.Unstream n) o us ts w r = at_step n _ hs ts o us (λ h t. unstreams_joined found o us h t) w r
+step_joined login plans found named hs (steps.Fields n) o us ts w r = at_step n _ hs ts o us (λ h t. tells_joined login o us h t) w r
+step_joined login plans found named hs (steps.Poll n) o us ts w r = at_step n _ hs ts o us (λ h t. goes_on_joined login plans n o us h t) w r
+step_joined login plans found named hs (steps.Cancel n) o us ts w r = at_step n _ hs ts o us (λ h t. cancels_joined login o us h t) w r
+step_joined login plans found named hs (steps.Advance by) o us ts w r = subst AllJoined (sym r.same) w
+step_joined login plans found named hs (steps.Random word) o us ts w r = subst AllJoined (sym r.same) w
 
 pub grown_joined : (login : Login) (plans : Plans) (ls : List Line) → AreGrown login plans ls → AllJoined (handles_after ls)
 grown_joined login plans [] w = tt
-grown_joined login plans (l ∷ ls) w = step_joined login plans (is_streamed (target l.step) ls) (statement_named (named_statement l.step) (statements_of ls)) (handles_after ls) l.step l.outcome l.uses l.handles (grown_joined login plans ls w.1) w.0.answer
+grown_joined login plans (l ∷ ls) w = step_joined login plans (is_found (target l.step) l.step ls) (statement_named (named_statement l.step) (statements_of ls)) (handles_after ls) l.step l.outcome l.uses l.handles (grown_joined login plans ls w.1) w.0.answer

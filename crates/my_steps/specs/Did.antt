@@ -5,6 +5,7 @@ use Rattle.my_link.specs.Looks.{Looks}
 use Rattle.my_params.specs.declared.params.Params.{Params}
 use Rattle.my_statements.specs.Prepared.{StatementView}
 use Rattle.my_reading.specs.Calls.{is_connect, kind_of}
+use Rattle.my_reading.specs.declared.call.Call.{Call}
 use Rattle.my_reading.specs.declared.call.Call.TheVariants as calls
 use Rattle.my_session.specs.Seen.{Seen}
 use Rattle.my_world.specs.declared.line.WorldLine.{WorldLine}
@@ -72,10 +73,10 @@ does_at login plans n works.Cancel = Cancels login
 abbrev pub untold : Plans
 untold = record { reads = λ n. None; writes = λ n. None; dials = λ n. None }
 
--- an item is the next row, and a stream is let go, where one is there
-abbrev pub item_work : Bool → Work
-item_work true = works.Begin calls.NextRow
-item_work false = works.Miss
+-- this call is begun where the step finds what it needs, and there a stream is let go
+abbrev pub found_work : Bool → Call → Work
+found_work true call = works.Begin call
+found_work false call = works.Miss
 
 abbrev pub unstream_work : Bool → Work
 unstream_work true = works.LetGo
@@ -94,28 +95,31 @@ close_work None = works.Miss
 abbrev pub at_place : ℕ → Work → Order
 at_place n work = orders.Visit (record { number = n; work = work })
 
--- what a step does: it dials, does something at the number that it names, where a stream is there or none and with the statement
--- that it names, or moves the world
+-- what a step does: it dials, does something at the number that it names, where it finds its stream or its transaction or doesn't
+-- and with the statement that it names, or moves the world
 abbrev pub order_of : Bool → Option StatementView → Step → Order
-order_of there named steps.Conn = orders.Dial
-order_of there named (steps.Query n text) = at_place n (works.Begin (calls.Query text))
-order_of there named (steps.Prepare n text) = at_place n (works.Begin (calls.Prepare text))
-order_of there named (steps.Execute n number params) = at_place n (execute_work named params)
-order_of there named (steps.CloseStatement n number) = at_place n (close_work named)
-order_of there named (steps.Next n) = at_place n (works.Begin calls.NextRow)
-order_of there named (steps.Drop n) = at_place n (works.Begin calls.DropResult)
-order_of there named (steps.Ping n) = at_place n (works.Begin calls.Ping)
-order_of there named (steps.Reset n) = at_place n (works.Begin calls.Reset)
-order_of there named (steps.Quit n) = at_place n (works.Begin calls.Quit)
-order_of there named (steps.Fields n) = at_place n works.Fields
-order_of there named (steps.Cancel n) = at_place n works.Cancel
-order_of there named (steps.Collect n) = at_place n works.Collect
-order_of there named (steps.Poll n) = at_place n works.Poll
-order_of there named (steps.Stream n) = at_place n works.Take
-order_of there named (steps.Item n) = at_place n (item_work there)
-order_of there named (steps.Unstream n) = at_place n (unstream_work there)
-order_of there named (steps.Advance by) = orders.Move (lines.Advance by)
-order_of there named (steps.Random word) = orders.Move (lines.Random word)
+order_of found named steps.Conn = orders.Dial
+order_of found named (steps.Query n text) = at_place n (works.Begin (calls.Query text))
+order_of found named (steps.Prepare n text) = at_place n (works.Begin (calls.Prepare text))
+order_of found named (steps.Execute n number params) = at_place n (execute_work named params)
+order_of found named (steps.CloseStatement n number) = at_place n (close_work named)
+order_of found named (steps.Next n) = at_place n (works.Begin calls.NextRow)
+order_of found named (steps.Drop n) = at_place n (works.Begin calls.DropResult)
+order_of found named (steps.Ping n) = at_place n (works.Begin calls.Ping)
+order_of found named (steps.Reset n) = at_place n (works.Begin calls.Reset)
+order_of found named (steps.Begin n opts) = at_place n (works.Begin (calls.Begin opts))
+order_of found named (steps.Rollback n) = at_place n (found_work found calls.Rollback)
+order_of found named (steps.ForgetTransaction n) = at_place n (found_work found calls.ForgetTransaction)
+order_of found named (steps.Quit n) = at_place n (works.Begin calls.Quit)
+order_of found named (steps.Fields n) = at_place n works.Fields
+order_of found named (steps.Cancel n) = at_place n works.Cancel
+order_of found named (steps.Collect n) = at_place n works.Collect
+order_of found named (steps.Poll n) = at_place n works.Poll
+order_of found named (steps.Stream n) = at_place n works.Take
+order_of found named (steps.Item n) = at_place n (found_work found calls.NextRow)
+order_of found named (steps.Unstream n) = at_place n (unstream_work found)
+order_of found named (steps.Advance by) = orders.Move (lines.Advance by)
+order_of found named (steps.Random word) = orders.Move (lines.Random word)
 
 -- lines that give no link anything
 abbrev pub IsMoving : WorldLine → Type 0

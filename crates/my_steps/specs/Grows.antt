@@ -8,7 +8,7 @@ use Rattle.my_grammar.specs.declared.login.Login.{Login}
 use Rattle.my_reading.specs.declared.answer.Answer.{Answer}
 use Rattle.my_reading.specs.declared.answer.Answer.TheVariants as answers
 use Rattle.my_reading.specs.declared.call.Call.{Call}
-use Rattle.my_reading.specs.declared.call.Call.TheVariants.{Query, Prepare, Execute, CloseStmt, NextRow, DropResult, TakeSet, SkipTaken, Ping, Reset, Quit}
+use Rattle.my_reading.specs.declared.call.Call.TheVariants.{Query, Prepare, Execute, CloseStmt, NextRow, DropResult, TakeSet, SkipTaken, Ping, Reset, Begin, Rollback, ForgetTransaction, Quit}
 use Rattle.my_reading.specs.Calls.{kind_of, is_connect}
 use Rattle.my_reading.specs.Endings.{closes_cancelled}
 use Rattle.my_reading.specs.Errors.{connection_closed, io_error}
@@ -20,9 +20,9 @@ use Rattle.my_client.specs.declared.poll.After.{After}
 use Rattle.my_client.specs.declared.poll.After.TheVariants as after
 use Rattle.my_script.specs.declared.step.Step.{Step}
 use Rattle.my_script.specs.declared.step.Step.TheVariants as steps
-use Rattle.my_script.specs.declared.stream.Stream.{Stream}
-use Rattle.my_script.specs.declared.stream.Stream.TheVariants.{Without}
-use Rattle.my_script.specs.Streams.{is_skip, is_there, stream_by, target}
+use Rattle.my_script.specs.declared.beside.Beside.{Beside}
+use Rattle.my_script.specs.Beside.{beside_by, finds, nothing_beside}
+use Rattle.my_script.specs.Streams.{is_skip, target}
 use Rattle.my_script.specs.Numbered.{named_statement, statement_named, statements_by}
 use Rattle.my_client.specs.declared.tape.Said.TheVariants as says
 use Rattle.my_script.specs.declared.transcript.Outcome.{Outcome}
@@ -235,14 +235,14 @@ TakesOn (Some a) login n k x o us t = IsRefused (Joined true k x) o us t
 abbrev pub StreamsAt : Login → ℕ → Handle → Outcome → List Use → Handle → Type 0
 StreamsAt login n h o us t = OnConnection (λ k. TakesOn k.pending login n k) h o us t
 
--- a step of a stream, or of a statement, that isn't there
+-- a step of a stream, a transaction or a statement that isn't there
 abbrev pub Misses : Handle → Outcome → List Use → Handle → Type 0
 Misses h o us t = IsRefused h o us t
 
--- An item is the next row of the set, where a stream is there.
-abbrev pub ItemsAt : Bool → Login → ℕ → Handle → Outcome → List Use → Handle → Type 0
-ItemsAt true login n = Calls login n NextRow
-ItemsAt false login n = Misses
+-- a step begins this call where it finds its stream or its transaction: an item is the next row of the set
+abbrev pub CallsWhere : Bool → Login → ℕ → Call → Handle → Outcome → List Use → Handle → Type 0
+CallsWhere true login n call = Calls login n call
+CallsWhere false login n call = Misses
 
 -- A stream is let go, where one is there: the connection is what it was, so that the next stream passes over the set's rest.
 pub record IsLetGo (k : Kept) (x : Looks) (o : Outcome) (us : List Use) (t : Handle) : Type 0 where
@@ -351,29 +351,33 @@ pub record Moves (hs : List Handle) (o : Outcome) (us : List Use) (ts : List Han
   pub uses : us ≡ []
   pub same : ts ≡ hs
 
--- by the step, over what the earlier steps and their answers made of the numbers: whether a stream is there at the one that the
--- step names, and the statement that it names
+-- by the step, over what the earlier steps and their answers made of the numbers: whether the step finds its stream or its
+-- transaction at the one that it names, and the statement that it names
 abbrev pub StepGrows : Login → Plans → Bool → Option StatementView → List Handle → Step → Outcome → List Use → List Handle
     → Type 0
-StepGrows login plans there named hs steps.Conn o us ts = DialsNext login plans hs o us ts
-StepGrows login plans there named hs (steps.Query n text) o us ts = At n (Calls login n (Query text)) hs o us ts
-StepGrows login plans there named hs (steps.Prepare n text) o us ts = At n (Calls login n (Prepare text)) hs o us ts
-StepGrows login plans there named hs (steps.Execute n number params) o us ts = At n (ExecutesAt named login n params) hs o us ts
-StepGrows login plans there named hs (steps.CloseStatement n number) o us ts = At n (ClosesAt named login n) hs o us ts
-StepGrows login plans there named hs (steps.Next n) o us ts = At n (Calls login n NextRow) hs o us ts
-StepGrows login plans there named hs (steps.Collect n) o us ts = At n (CollectsAt login n) hs o us ts
-StepGrows login plans there named hs (steps.Drop n) o us ts = At n (Calls login n DropResult) hs o us ts
-StepGrows login plans there named hs (steps.Ping n) o us ts = At n (Calls login n Ping) hs o us ts
-StepGrows login plans there named hs (steps.Reset n) o us ts = At n (Calls login n Reset) hs o us ts
-StepGrows login plans there named hs (steps.Quit n) o us ts = At n (Calls login n Quit) hs o us ts
-StepGrows login plans there named hs (steps.Stream n) o us ts = At n (StreamsAt login n) hs o us ts
-StepGrows login plans there named hs (steps.Item n) o us ts = At n (ItemsAt there login n) hs o us ts
-StepGrows login plans there named hs (steps.Unstream n) o us ts = At n (UnstreamsAt there) hs o us ts
-StepGrows login plans there named hs (steps.Fields n) o us ts = At n (TellsFields login) hs o us ts
-StepGrows login plans there named hs (steps.Poll n) o us ts = At n (GoesOn login plans n) hs o us ts
-StepGrows login plans there named hs (steps.Cancel n) o us ts = At n (Cancels login) hs o us ts
-StepGrows login plans there named hs (steps.Advance by) o us ts = Moves hs o us ts
-StepGrows login plans there named hs (steps.Random word) o us ts = Moves hs o us ts
+StepGrows login plans found named hs steps.Conn o us ts = DialsNext login plans hs o us ts
+StepGrows login plans found named hs (steps.Query n text) o us ts = At n (Calls login n (Query text)) hs o us ts
+StepGrows login plans found named hs (steps.Prepare n text) o us ts = At n (Calls login n (Prepare text)) hs o us ts
+StepGrows login plans found named hs (steps.Execute n number params) o us ts = At n (ExecutesAt named login n params) hs o us ts
+StepGrows login plans found named hs (steps.CloseStatement n number) o us ts = At n (ClosesAt named login n) hs o us ts
+StepGrows login plans found named hs (steps.Next n) o us ts = At n (Calls login n NextRow) hs o us ts
+StepGrows login plans found named hs (steps.Collect n) o us ts = At n (CollectsAt login n) hs o us ts
+StepGrows login plans found named hs (steps.Drop n) o us ts = At n (Calls login n DropResult) hs o us ts
+StepGrows login plans found named hs (steps.Ping n) o us ts = At n (Calls login n Ping) hs o us ts
+StepGrows login plans found named hs (steps.Reset n) o us ts = At n (Calls login n Reset) hs o us ts
+StepGrows login plans found named hs (steps.Begin n opts) o us ts = At n (Calls login n (Begin opts)) hs o us ts
+StepGrows login plans found named hs (steps.Rollback n) o us ts = At n (CallsWhere found login n Rollback) hs o us ts
+StepGrows login plans found named hs (steps.ForgetTransaction n) o us ts =
+    At n (CallsWhere found login n ForgetTransaction) hs o us ts
+StepGrows login plans found named hs (steps.Quit n) o us ts = At n (Calls login n Quit) hs o us ts
+StepGrows login plans found named hs (steps.Stream n) o us ts = At n (StreamsAt login n) hs o us ts
+StepGrows login plans found named hs (steps.Item n) o us ts = At n (CallsWhere found login n NextRow) hs o us ts
+StepGrows login plans found named hs (steps.Unstream n) o us ts = At n (UnstreamsAt found) hs o us ts
+StepGrows login plans found named hs (steps.Fields n) o us ts = At n (TellsFields login) hs o us ts
+StepGrows login plans found named hs (steps.Poll n) o us ts = At n (GoesOn login plans n) hs o us ts
+StepGrows login plans found named hs (steps.Cancel n) o us ts = At n (Cancels login) hs o us ts
+StepGrows login plans found named hs (steps.Advance by) o us ts = Moves hs o us ts
+StepGrows login plans found named hs (steps.Random word) o us ts = Moves hs o us ts
 
 -- a step, its answer, and what the numbers stand for then
 pub record Line : Type 0 where
@@ -387,14 +391,14 @@ abbrev pub handles_after : List Line → List Handle
 handles_after [] = []
 handles_after (l ∷ ls) = l.handles
 
--- what lines make of a stream at connection n, and whether one is there at the number that a step names
-abbrev pub stream_of : ℕ → List Line → Stream
-stream_of n [] = Without
-stream_of n (l ∷ ls) = stream_by n (stream_of n ls) l.step l.outcome
+-- what lines make beside the calls of connection n, and whether a step finds there what it needs
+abbrev pub beside_of : ℕ → List Line → Beside
+beside_of n [] = nothing_beside
+beside_of n (l ∷ ls) = beside_by n (beside_of n ls) l.step l.outcome
 
-abbrev pub is_streamed : Option ℕ → List Line → Bool
-is_streamed None ls = false
-is_streamed (Some n) ls = is_there (stream_of n ls)
+abbrev pub is_found : Option ℕ → Step → List Line → Bool
+is_found None step ls = true
+is_found (Some n) step ls = finds (beside_of n ls) step
 
 -- what lines make of the statements by their numbers
 abbrev pub statements_of : List Line → List (Option StatementView)
@@ -404,7 +408,7 @@ statements_of (l ∷ ls) = statements_by (statements_of ls) l.step l.outcome
 -- the lines are newest first; each is what its step may come to after the earlier ones
 pub record Grows (login : Login) (plans : Plans) (before : List Line) (l : Line) : Type 0 where
   pub number : l.number ≡ length before + 1
-  pub answer : StepGrows login plans (is_streamed (target l.step) before)
+  pub answer : StepGrows login plans (is_found (target l.step) l.step before)
       (statement_named (named_statement l.step) (statements_of before)) (handles_after before) l.step l.outcome l.uses l.handles
 
 abbrev pub AreGrown : Login → Plans → List Line → Type 0

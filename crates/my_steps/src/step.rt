@@ -6,7 +6,7 @@ ghost use Rattle.my_script.specs.Script.{may_stand};
 ghost use Rattle.my_world.specs.World.{SamePlans};
 ghost use Rattle.my_world.specs.Plan.{chance_on};
 ghost use Rattle.my_steps.specs.Dialing.{DialsTo, chance_by, dial_met, has_dialed};
-ghost use Rattle.my_steps.specs.Did.{IsMoving, StepsOn, at_place, close_work, execute_work, item_work, order_of, unstream_work};
+ghost use Rattle.my_steps.specs.Did.{IsMoving, StepsOn, at_place, close_work, execute_work, found_work, order_of, unstream_work};
 ghost use Rattle.my_steps.specs.Orders.{Carries, MayCarry, chance_of, dials_by};
 ghost use Rattle.my_steps.specs.Grows.{StepGrows};
 ghost use Rattle.my_steps.specs.Ready.{AreReady};
@@ -25,21 +25,21 @@ use my_statements::Statement;
 use my_world::{World, WorldLine};
 use std::alloc::Global;
 
-// An item is the next row, where a stream is there.
-fn item(there: bool) -> Work
-    ensures { result ≡ item_work there }
+// Begins the call where the step finds what it needs.
+fn begin_where(found: bool, call: Call) -> Work
+    ensures { result ≡ found_work found call }
 {
-    if there {
-        Work::Begin(Call::NextRow)
-    } else {
-        Work::Miss
+    if found {
+        return Work::Begin(call);
     }
+    drop(call);
+    Work::Miss
 }
 
-fn unstream(there: bool) -> Work
-    ensures { result ≡ unstream_work there }
+fn unstream(found: bool) -> Work
+    ensures { result ≡ unstream_work found }
 {
-    if there { Work::LetGo } else { Work::Miss }
+    if found { Work::LetGo } else { Work::Miss }
 }
 
 // A statement is executed, and closed by its id, where one is there.
@@ -86,10 +86,10 @@ fn visit(number: u64, work: Work) -> Order
 fn order_for(
     alloc: Global,
     step: &Step,
-    there: bool,
+    found: bool,
     named: Option<&Statement>,
 ) -> Result<Order, NoMemory>
-    ensures { IfOk result (λ order. order ≡ order_of there (option_copied named.entry) step.now) }
+    ensures { IfOk result (λ order. order ≡ order_of found (option_copied named.entry) step.now) }
 {
     match step {
         Step::Conn => Ok(Order::Dial),
@@ -107,14 +107,19 @@ fn order_for(
         Step::Drop(number) => Ok(visit(*number, Work::Begin(Call::DropResult))),
         Step::Ping(number) => Ok(visit(*number, Work::Begin(Call::Ping))),
         Step::Reset(number) => Ok(visit(*number, Work::Begin(Call::Reset))),
+        Step::Begin(number, opts) => Ok(visit(*number, Work::Begin(Call::Begin(*opts)))),
+        Step::Rollback(number) => Ok(visit(*number, begin_where(found, Call::Rollback))),
+        Step::ForgetTransaction(number) => {
+            Ok(visit(*number, begin_where(found, Call::ForgetTransaction)))
+        }
         Step::Quit(number) => Ok(visit(*number, Work::Begin(Call::Quit))),
         Step::Fields(number) => Ok(visit(*number, Work::Fields)),
         Step::Cancel(number) => Ok(visit(*number, Work::Cancel)),
         Step::Collect(number) => Ok(visit(*number, Work::Collect)),
         Step::Poll(number) => Ok(visit(*number, Work::Poll)),
         Step::Stream(number) => Ok(visit(*number, Work::Take)),
-        Step::Item(number) => Ok(visit(*number, item(there))),
-        Step::Unstream(number) => Ok(visit(*number, unstream(there))),
+        Step::Item(number) => Ok(visit(*number, begin_where(found, Call::NextRow))),
+        Step::Unstream(number) => Ok(visit(*number, unstream(found))),
         Step::Advance(by) => Ok(Order::Move(WorldLine::Advance(*by))),
         Step::Random(word) => Ok(Order::Move(WorldLine::Random(*word))),
     }
@@ -173,9 +178,9 @@ fn carry_out<N: World>(
     }
 }
 
-/// Does a step at the number that it names, where a stream is there or none, with the statement that it names; a `conn`
-/// takes the next number, and a step that moves the world needs one that takes a plan. All polls of a step are at one
-/// moment.
+/// Does a step at the number that it names, where it finds its stream or its transaction or doesn't, with the statement that
+/// it names; a `conn` takes the next number, and a step that moves the world needs one that takes a plan. All polls of a step
+/// are at one moment.
 ///
 /// What the step comes to is what `StepGrows` lets it come to after the earlier ones, for any plans that the world
 /// told.
@@ -185,7 +190,7 @@ pub fn run_step<N: World>(
     world: &mut N,
     slots: &mut Vec<Slot<N::L>>,
     step: &Step,
-    there: bool,
+    found: bool,
     named: Option<&Statement>,
 ) -> Result<StepResult, NoMemory>
     requires ready { AreReady N.L.looks slots.old.items }
@@ -201,9 +206,9 @@ pub fn run_step<N: World>(
         StepsOn N.L.looks (login_of opts.now) (N.seen world.old).plans (N.seen world.new).plans
         slots.old.items slots.new.items
         (λ plans hs o us ts.
-        StepGrows (login_of opts.now) plans there (option_copied named.entry) hs step.now o us ts) d) }
+        StepGrows (login_of opts.now) plans found (option_copied named.entry) hs step.now o us ts) d) }
 {
-    let order = order_for(alloc, step, there, named)?;
+    let order = order_for(alloc, step, found, named)?;
     let now = world.now();
     carry_out(alloc, opts, world, slots, order, now)
 }

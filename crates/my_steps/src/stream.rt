@@ -40,6 +40,9 @@ pub(crate) fn is_skipping<L>(conn: &TapedConn<L>) -> bool
             | Call::TakeSet
             | Call::Ping
             | Call::Reset
+            | Call::Begin(_)
+            | Call::Rollback
+            | Call::ForgetTransaction
             | Call::Quit => false,
         },
     }

@@ -30,7 +30,7 @@ use Rattle.my_client.specs.Causes.{PollEnds, IsPolled}
 use Rattle.my_client.specs.Kept.{Asked, Kept, made_of, asking, asked_by, ended_by, first_asked, first_kept}
 use Rattle.my_client.specs.Reads.{calls_kept}
 use Rattle.my_world.specs.World.{Plans}
-use Rattle.my_steps.specs.Grows.{Line, IsRefused, OnConnection, PolledOnce, IsClosed, Begins, BeginsOn, Calls, ConnectShows, Connects, Dials, Holds, Fails, Links, Gathers, GathersOn, Collects, CollectsOn, CollectsAt, PollsOn, PollsCall, ThenTakes, Skips, Takes, TakesOn, StreamsAt, ItemsAt, LetsGoWith, UnstreamsAt, ExecutesAt, ClosesAt, GoesOnWith, GoesOn, CancelsWith, Cancels, TellsWith, TellsFields, At, StepGrows, AreGrown, gathered, next_asked, handles_after, is_done, is_streamed, statements_of, skips_first}
+use Rattle.my_steps.specs.Grows.{Line, IsRefused, OnConnection, PolledOnce, IsClosed, Begins, BeginsOn, Calls, ConnectShows, Connects, Dials, Holds, Fails, Links, Gathers, GathersOn, Collects, CollectsOn, CollectsAt, PollsOn, PollsCall, ThenTakes, Skips, Takes, TakesOn, StreamsAt, CallsWhere, LetsGoWith, UnstreamsAt, ExecutesAt, ClosesAt, GoesOnWith, GoesOn, CancelsWith, Cancels, TellsWith, TellsFields, At, StepGrows, AreGrown, gathered, next_asked, handles_after, is_done, is_found, statements_of, skips_first}
 use Rattle.my_steps.specs.Handle.{Handle, Absent, Dialing, Joined, at_number, put_at}
 
 -- the calls that a connection kept
@@ -194,9 +194,9 @@ module _ (login : Login) where
   streams_once : (n : ℕ) (o : Outcome) (us : List Use) (h t : Handle) → IsOnce h → StreamsAt login n h o us t → IsOnce t
   streams_once n o us h t = on_once (λ k. TakesOn k.pending login n k) o us h t (λ k x. takes_on k.pending n k x o us t)
 
-  items_once : (b : Bool) (n : ℕ) (o : Outcome) (us : List Use) (h t : Handle) → IsOnce h → ItemsAt b login n h o us t → IsOnce t
-  items_once true n o us h t w r = calls_once n calls.NextRow o us h t refl w r
-  items_once false n o us h t w r = refused_once h o us t w r
+  where_once : (b : Bool) (n : ℕ) (call : Call) (o : Outcome) (us : List Use) (h t : Handle) → is_connect (kind_of call) ≡ false → IsOnce h → CallsWhere b login n call h o us t → IsOnce t
+  where_once true n call o us h t other w r = calls_once n call o us h t other w r
+  where_once false n call o us h t other w r = refused_once h o us t w r
 
   lets_go_with : (q : Option Asked) (k : Kept) (x : Looks) (o : Outcome) (us : List Use) (t : Handle) → connects_once (kept_calls k) ≡ true → LetsGoWith q k x o us t → IsOnce t
   lets_go_with None k x o us t w r = subst IsOnce (sym r.left) w
@@ -268,27 +268,30 @@ module _ (login : Login) where
   at_step : (n : ℕ) (R : Handle → Outcome → List Use → Handle → Type 0) (hs ts : List Handle) (o : Outcome) (us : List Use) → ((h t : Handle) → IsOnce h → R h o us t → IsOnce t) → AreOnce hs → At n R hs o us ts → AreOnce ts
   at_step n R hs ts o us f w r = subst AreOnce (sym r.others) (put_once hs n r.made (f (at_number hs n) r.made (at_once hs n w) r.does) w)
 
-  step_once : (plans : Plans) (there : Bool) (named : Option StatementView) (hs : List Handle) (step : Step) (o : Outcome) (us : List Use) (ts : List Handle) → AreOnce hs → StepGrows login plans there named hs step o us ts → AreOnce ts
-  step_once plans there named hs steps.Conn o us ts w r = subst AreOnce (sym r.others) (push_once hs r.made (dials_once _ _ _ _ o us r.made r.dials) w)
-  step_once plans there named hs (steps.Query n text) o us ts w r = at_step n _ hs ts o us (λ h t. calls_once n (calls.Query text) o us h t refl) w r
-  step_once plans there named hs (steps.Prepare n text) o us ts w r = at_step n _ hs ts o us (λ h t. calls_once n (calls.Prepare text) o us h t refl) w r
-  step_once plans there named hs (steps.Execute n number params) o us ts w r = at_step n _ hs ts o us (λ h t. executes_once named n params o us h t) w r
-  step_once plans there named hs (steps.CloseStatement n number) o us ts w r = at_step n _ hs ts o us (λ h t. closes_once named n o us h t) w r
-  step_once plans there named hs (steps.Next n) o us ts w r = at_step n _ hs ts o us (λ h t. calls_once n calls.NextRow o us h t refl) w r
-  step_once plans there named hs (steps.Collect n) o us ts w r = at_step n _ hs ts o us (λ h t. collects_once n o us h t) w r
-  step_once plans there named hs (steps.Drop n) o us ts w r = at_step n _ hs ts o us (λ h t. calls_once n calls.DropResult o us h t refl) w r
-  step_once plans there named hs (steps.Ping n) o us ts w r = at_step n _ hs ts o us (λ h t. calls_once n calls.Ping o us h t refl) w r
-  step_once plans there named hs (steps.Reset n) o us ts w r = at_step n _ hs ts o us (λ h t. calls_once n calls.Reset o us h t refl) w r
-  step_once plans there named hs (steps.Quit n) o us ts w r = at_step n _ hs ts o us (λ h t. calls_once n calls.Quit o us h t refl) w r
-  step_once plans there named hs (steps.Stream n) o us ts w r = at_step n _ hs ts o us (λ h t. streams_once n o us h t) w r
-  step_once plans there named hs (steps.Item n) o us ts w r = at_step n _ hs ts o us (λ h t. items_once there n o us h t) w r
-  step_once plans there named hs (steps.Unstream n) o us ts w r = at_step n _ hs ts o us (λ h t. unstreams_once there o us h t) w r
-  step_once plans there named hs (steps.Fields n) o us ts w r = at_step n _ hs ts o us (λ h t. tells_once o us h t) w r
-  step_once plans there named hs (steps.Poll n) o us ts w r = at_step n _ hs ts o us (λ h t. goes_on_once plans n o us h t) w r
-  step_once plans there named hs (steps.Cancel n) o us ts w r = at_step n _ hs ts o us (λ h t. cancels_once o us h t) w r
-  step_once plans there named hs (steps.Advance by) o us ts w r = subst AreOnce (sym r.same) w
-  step_once plans there named hs (steps.Random word) o us ts w r = subst AreOnce (sym r.same) w
+  step_once : (plans : Plans) (found : Bool) (named : Option StatementView) (hs : List Handle) (step : Step) (o : Outcome) (us : List Use) (ts : List Handle) → AreOnce hs → StepGrows login plans found named hs step o us ts → AreOnce ts
+  step_once plans found named hs steps.Conn o us ts w r = subst AreOnce (sym r.others) (push_once hs r.made (dials_once _ _ _ _ o us r.made r.dials) w)
+  step_once plans found named hs (steps.Query n text) o us ts w r = at_step n _ hs ts o us (λ h t. calls_once n (calls.Query text) o us h t refl) w r
+  step_once plans found named hs (steps.Prepare n text) o us ts w r = at_step n _ hs ts o us (λ h t. calls_once n (calls.Prepare text) o us h t refl) w r
+  step_once plans found named hs (steps.Execute n number params) o us ts w r = at_step n _ hs ts o us (λ h t. executes_once named n params o us h t) w r
+  step_once plans found named hs (steps.CloseStatement n number) o us ts w r = at_step n _ hs ts o us (λ h t. closes_once named n o us h t) w r
+  step_once plans found named hs (steps.Next n) o us ts w r = at_step n _ hs ts o us (λ h t. calls_once n calls.NextRow o us h t refl) w r
+  step_once plans found named hs (steps.Collect n) o us ts w r = at_step n _ hs ts o us (λ h t. collects_once n o us h t) w r
+  step_once plans found named hs (steps.Drop n) o us ts w r = at_step n _ hs ts o us (λ h t. calls_once n calls.DropResult o us h t refl) w r
+  step_once plans found named hs (steps.Ping n) o us ts w r = at_step n _ hs ts o us (λ h t. calls_once n calls.Ping o us h t refl) w r
+  step_once plans found named hs (steps.Reset n) o us ts w r = at_step n _ hs ts o us (λ h t. calls_once n calls.Reset o us h t refl) w r
+  step_once plans found named hs (steps.Begin n opts) o us ts w r = at_step n _ hs ts o us (λ h t. calls_once n (calls.Begin opts) o us h t refl) w r
+  step_once plans found named hs (steps.Rollback n) o us ts w r = at_step n _ hs ts o us (λ h t. where_once found n calls.Rollback o us h t refl) w r
+  step_once plans found named hs (steps.ForgetTransaction n) o us ts w r = at_step n _ hs ts o us (λ h t. where_once found n calls.ForgetTransaction o us h t refl) w r
+  step_once plans found named hs (steps.Quit n) o us ts w r = at_step n _ hs ts o us (λ h t. calls_once n calls.Quit o us h t refl) w r
+  step_once plans found named hs (steps.Stream n) o us ts w r = at_step n _ hs ts o us (λ h t. streams_once n o us h t) w r
+  step_once plans found named hs (steps.Item n) o us ts w r = at_step n _ hs ts o us (λ h t. where_once found n calls.NextRow o us h t refl) w r
+  step_once plans found named hs (steps.Unstream n) o us ts w r = at_step n _ hs ts o us (λ h t. unstreams_once found o us h t) w r
+  step_once plans found named hs (steps.Fields n) o us ts w r = at_step n _ hs ts o us (λ h t. tells_once o us h t) w r
+  step_once plans found named hs (steps.Poll n) o us ts w r = at_step n _ hs ts o us (λ h t. goes_on_once plans n o us h t) w r
+  step_once plans found named hs (steps.Cancel n) o us ts w r = at_step n _ hs ts o us (λ h t. cancels_once o us h t) w r
+  step_once plans found named hs (steps.Advance by) o us ts w r = subst AreOnce (sym r.same) w
+  step_once plans found named hs (steps.Random word) o us ts w r = subst AreOnce (sym r.same) w
 
   pub grown_once : (plans : Plans) (ls : List Line) → AreGrown login plans ls → AreOnce (handles_after ls)
   grown_once plans [] w = tt
-  grown_once plans (l ∷ ls) w = step_once plans (is_streamed (target l.step) ls) (statement_named (named_statement l.step) (statements_of ls)) (handles_after ls) l.step l.outcome l.uses l.handles (grown_once plans ls w.1) w.0.answer
+  grown_once plans (l ∷ ls) w = step_once plans (is_found (target l.step) l.step ls) (statement_named (named_statement l.step) (statements_of ls)) (handles_after ls) l.step l.outcome l.uses l.handles (grown_once plans ls w.1) w.0.answer

@@ -32,4 +32,6 @@ mod streams;
 #[cfg(test)]
 mod texts;
 #[cfg(test)]
+mod transactions;
+#[cfg(test)]
 mod words;

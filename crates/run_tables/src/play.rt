@@ -166,3 +166,13 @@ pub fn goes(alloc: Global, run: &Run) -> Result<bool, NoMemory> {
     let mut world = MemWorld::new(alloc);
     is_played(alloc, &mut world, run.words, run)
 }
+
+/// Whether a run of this script in a world in memory, all of whose steps are run, first prints this text.
+pub fn prints(alloc: Global, script: &str, text: &str) -> Result<bool, NoMemory> {
+    let words = words_of(alloc, PLAIN.words)?;
+    let mut src = MemSource::new(script.as_bytes().to_vec(alloc)?);
+    let mut out = MemSink::new(alloc, PLAIN.room)?;
+    let mut world = MemWorld::new(alloc);
+    let status = ends_so(alloc, words.as_slice(), &mut src, &mut out, &mut world);
+    Ok(status.code() == 0 && out.taken().starts_with(text.as_bytes()))
+}

@@ -42,7 +42,7 @@ use Rattle.my_client.specs.Kept.{Asked, Kept, nothing_kept, told_by, made_of, as
 use Rattle.my_client.specs.Reads.{calls_kept, facts_kept, tape_kept}
 use Rattle.my_world.specs.World.{Plans}
 use Rattle.my_steps.specs.Dialing.{Course}
-use Rattle.my_steps.specs.Grows.{Begins, BeginsOn, Calls, Connects, ConnectShows, Dials, Holds, Fails, Links, PolledOnce, StepGrows, TellsFields, TellsWith, answer_shown, shown, handles_after}
+use Rattle.my_steps.specs.Grows.{Begins, BeginsOn, Calls, CallsWhere, Connects, ConnectShows, Dials, Holds, Fails, Links, PolledOnce, StepGrows, TellsFields, TellsWith, answer_shown, shown, handles_after}
 use Rattle.my_steps.specs.Handle.{Handle, Joined, at_number, put_at}
 use Rattle.my_run.specs.Headline.{AnswerView, answer_view, answers_of, Headline}
 use Rattle.my_steps.specs.Sums.{quiet}
@@ -234,6 +234,17 @@ head_same x y xs ys e = cc
 tail_same : {A : Type 0} (x y : A) (xs ys : List A) → x ∷ xs ≡ y ∷ ys → xs ≡ ys
 tail_same x y xs ys e = cc
 
+not_refused : (e : Option Told) → is_shown e ≡ true → outcome_of e ≡ NoSuchHandle → ⊥
+not_refused None s same = cc
+not_refused (Some ToldReady) s same = cc
+not_refused (Some (ToldRow row)) s same = cc
+not_refused (Some ToldEnd) s same = cc
+not_refused (Some ToldNone) s same = cc
+not_refused (Some (ToldStatement statement)) s same = cc
+not_refused (Some (ToldFlag flag)) s same = cc
+not_refused (Some (ToldError e)) s same = cc
+not_refused (Some (Dropped closing)) s same = cc
+
 module _ (login : Login) (plans : Plans) where
   at_went : (call : Call) (k : Kept) (x : Looks) (hs : List Handle) (o : Outcome) (us : List Use) (ms : List Handle) → hs ≡ Joined true k x ∷ [] → k.pending ≡ None → (made : Handle) → Calls login 0 call (at_number hs 0) o us made → ms ≡ put_at 0 made hs
       → (h : Handle) × (ms ≡ h ∷ []) × Went k call o (taken_in us) h
@@ -243,22 +254,31 @@ module _ (login : Login) (plans : Plans) where
     on_went k.pending login k call x o us made rest (subst (λ (xs : List Handle). Calls login 0 call (at_number xs 0) o us made) is does),
   )
 
-  -- one step at connection 0
-  step_went : (call : Call) → is_stepped (kind_of call) ≡ true → (k : Kept) (x : Looks) (hs : List Handle) (o : Outcome) (us : List Use) (ms : List Handle) → hs ≡ Joined true k x ∷ [] → k.pending ≡ None → (there : Bool) (statement : Option StatementView) → StepGrows login plans there statement hs (step_of call) o us ms
+  -- where a step finds what it needs
+  found_went : (found : Bool) (call : Call) (k : Kept) (x : Looks) (hs : List Handle) (o : Outcome) (us : List Use) (ms : List Handle) → hs ≡ Joined true k x ∷ [] → k.pending ≡ None → (made : Handle) → CallsWhere found login 0 call (at_number hs 0) o us made → ms ≡ put_at 0 made hs → (o ≡ NoSuchHandle → ⊥)
       → (h : Handle) × (ms ≡ h ∷ []) × Went k call o (taken_in us) h
-  step_went calls.Connect plain k x hs o us ms is rest there statement g = cc
-  step_went (calls.Query text) plain k x hs o us ms is rest there statement g = at_went (calls.Query text) k x hs o us ms is rest g.made g.does g.others
-  step_went (calls.Prepare text) plain k x hs o us ms is rest there statement g = at_went (calls.Prepare text) k x hs o us ms is rest g.made g.does g.others
-  step_went (calls.Execute prepared params) plain k x hs o us ms is rest there statement g = cc
-  step_went (calls.Batch prepared lists) plain k x hs o us ms is rest there statement g = cc
-  step_went (calls.CloseStmt id) plain k x hs o us ms is rest there statement g = cc
-  step_went calls.NextRow plain k x hs o us ms is rest there statement g = at_went calls.NextRow k x hs o us ms is rest g.made g.does g.others
-  step_went calls.DropResult plain k x hs o us ms is rest there statement g = at_went calls.DropResult k x hs o us ms is rest g.made g.does g.others
-  step_went calls.TakeSet plain k x hs o us ms is rest there statement g = cc
-  step_went calls.SkipTaken plain k x hs o us ms is rest there statement g = cc
-  step_went calls.Ping plain k x hs o us ms is rest there statement g = at_went calls.Ping k x hs o us ms is rest g.made g.does g.others
-  step_went calls.Reset plain k x hs o us ms is rest there statement g = at_went calls.Reset k x hs o us ms is rest g.made g.does g.others
-  step_went calls.Quit plain k x hs o us ms is rest there statement g = at_went calls.Quit k x hs o us ms is rest g.made g.does g.others
+  found_went true call k x hs o us ms is rest made does others seen = at_went call k x hs o us ms is rest made does others
+  found_went false call k x hs o us ms is rest made does others seen = absurd (seen does.outcome)
+
+  -- one step at connection 0
+  step_went : (call : Call) → is_stepped (kind_of call) ≡ true → (k : Kept) (x : Looks) (hs : List Handle) (o : Outcome) (us : List Use) (ms : List Handle) → hs ≡ Joined true k x ∷ [] → k.pending ≡ None → (found : Bool) (statement : Option StatementView) → (o ≡ NoSuchHandle → ⊥) → StepGrows login plans found statement hs (step_of call) o us ms
+      → (h : Handle) × (ms ≡ h ∷ []) × Went k call o (taken_in us) h
+  step_went calls.Connect plain k x hs o us ms is rest found statement seen g = cc
+  step_went (calls.Query text) plain k x hs o us ms is rest found statement seen g = at_went (calls.Query text) k x hs o us ms is rest g.made g.does g.others
+  step_went (calls.Prepare text) plain k x hs o us ms is rest found statement seen g = at_went (calls.Prepare text) k x hs o us ms is rest g.made g.does g.others
+  step_went (calls.Execute prepared params) plain k x hs o us ms is rest found statement seen g = cc
+  step_went (calls.Batch prepared lists) plain k x hs o us ms is rest found statement seen g = cc
+  step_went (calls.CloseStmt id) plain k x hs o us ms is rest found statement seen g = cc
+  step_went calls.NextRow plain k x hs o us ms is rest found statement seen g = at_went calls.NextRow k x hs o us ms is rest g.made g.does g.others
+  step_went calls.DropResult plain k x hs o us ms is rest found statement seen g = at_went calls.DropResult k x hs o us ms is rest g.made g.does g.others
+  step_went calls.TakeSet plain k x hs o us ms is rest found statement seen g = cc
+  step_went calls.SkipTaken plain k x hs o us ms is rest found statement seen g = cc
+  step_went calls.Ping plain k x hs o us ms is rest found statement seen g = at_went calls.Ping k x hs o us ms is rest g.made g.does g.others
+  step_went calls.Reset plain k x hs o us ms is rest found statement seen g = at_went calls.Reset k x hs o us ms is rest g.made g.does g.others
+  step_went (calls.Begin opts) plain k x hs o us ms is rest found statement seen g = at_went (calls.Begin opts) k x hs o us ms is rest g.made g.does g.others
+  step_went calls.Rollback plain k x hs o us ms is rest found statement seen g = found_went found calls.Rollback k x hs o us ms is rest g.made g.does g.others seen
+  step_went calls.ForgetTransaction plain k x hs o us ms is rest found statement seen g = found_went found calls.ForgetTransaction k x hs o us ms is rest g.made g.does g.others seen
+  step_went calls.Quit plain k x hs o us ms is rest found statement seen g = at_went calls.Quit k x hs o us ms is rest g.made g.does g.others
 
   through : (ss : List Span) → are_plain ss ≡ true → (k : Kept) (x : Looks) (hs : List Handle) → hs ≡ Joined true k x ∷ [] → (is_last ss ≡ false → k.pending ≡ None) → (vs : List AnswerView) → map (λ b. b.outcome) vs ≡ map (λ s. outcome_of s.ending) ss → map (λ b. taken_in b.uses) vs ≡ map (λ s. length s.taken) ss
       → (ts : List Handle) → Chain login plans hs (map (λ s. step_of s.call) ss) vs ts → Led k ss ts
@@ -272,7 +292,7 @@ module _ (login : Login) (plans : Plans) where
       let later = right_of (is_shown s.ending) _ others in
       let ends = left_of (is_last ss || is_told s.ending) _ later in
       let plain_on = right_of (is_last ss || is_told s.ending) _ later in
-      let g = step_went s.call begins k x hs a.outcome a.uses c.0 is (rest refl) c.1.0 c.1.1 c.1.2 in
+      let g = step_went s.call begins k x hs a.outcome a.uses c.0 is (rest refl) c.1.0 c.1.1 (λ same. not_refused s.ending shows (sym (head_same a.outcome (outcome_of s.ending) _ _ outs) ∙ same)) c.1.2 in
       let w = g.2 in
       let ending : w.ending ≡ s.ending = w.ending_is ∙ ap ending_by (head_same a.outcome (outcome_of s.ending) _ _ outs) ∙ ending_back s.ending shows in
       let told : is_last ss ≡ false → is_told w.ending ≡ true = λ more. ap is_told ending ∙ or_right (is_last ss) (is_told s.ending) more ends in

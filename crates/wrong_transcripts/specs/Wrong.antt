@@ -1,12 +1,14 @@
 -- Transcripts that no run has.
 use Rattle.std.specs.Prelude.{List, [], ◌∷◌, ◌++◌, codes, None, Some, true, false}
-use Rattle.my_reading.specs.declared.call.Call.TheVariants.{Query, NextRow, DropResult, Quit}
-use Rattle.my_reading.specs.declared.error.Error.TheVariants.{Server}
+use Rattle.my_opts_parts.specs.TransactionOptions.{default_tx}
+use Rattle.my_reading.specs.declared.call.Call.TheVariants.{Query, NextRow, DropResult, Begin, Rollback, ForgetTransaction, Quit}
+use Rattle.my_reading.specs.declared.error.Error.TheVariants.{Driver, Server}
+use Rattle.my_reading.specs.declared.error.DriverError.TheVariants.{NestedTransaction}
 use Rattle.my_reading.specs.declared.error.IoKind.TheVariants.{Link}
-use Rattle.my_reading.specs.Errors.{io_error, unexpected_eof, invalid_data}
+use Rattle.my_reading.specs.Errors.{connection_closed, io_error, unexpected_eof, invalid_data}
 use Rattle.my_reading.specs.Told.{ToldReady, ToldRow, ToldEnd, ToldNone, ToldError}
 use Rattle.my_reading.specs.Tape.{Span}
-use Rattle.wrong_tapes.specs.Bytes.{root, connected, selected, asked, asks, returned, call_with, row, one, end, fine, refusal, head, packet, prepared, reset}
+use Rattle.wrong_tapes.specs.Bytes.{root, connected, selected, asked, asks, returned, call_with, row, one, end, fine, refusal, head, packet, prepared, reset, begun, forgotten, full_tx, pinged, reading_tx, rolls_back, sets_access, sets_level, starts, starts_fully}
 use Rattle.wrong_tapes.specs.Right.{error}
 use Rattle.wrong_transcripts.specs.Shown.{NoFields, NoTranscript}
 
@@ -36,6 +38,20 @@ pub record AreWrong : Type 0 where
   -- `reset`: the session was reset, though nothing was sent; and a server that has the command wasn't sent it
   pub silent_reset : NoneShow (reset [] [] true ∷ [])
   pub idle_reset : NoneShow (reset [] [] false ∷ [])
+  -- `begin`, `forget`, `ping`: the transaction wasn't rolled back, or twice with a second `ping`; `begin`, `forget`: it was rolled back at once
+  pub not_undone : NoneShow (begun ∷ forgotten ∷ pinged [] [] ∷ [])
+  pub undone_twice : NoneShow (begun ∷ forgotten ∷ pinged rolls_back (fine 1 2) ∷ pinged rolls_back (fine 1 2) ∷ [])
+  pub undone_early : NoneShow (begun ∷ returned ForgetTransaction rolls_back (fine 1 2) ToldReady ∷ [])
+  -- `begin`, `begin`: both began one; `begin`: it is refused, though there is no other one; `begin`, `begin`, `next`: the refusal closed
+  pub begun_twice : NoneShow (begun ∷ begun ∷ [])
+  pub never_nested : NoneShow (returned (Begin default_tx) [] [] (ToldError (Driver NestedTransaction)) ∷ [])
+  pub closing_refusal : NoneShow (begun ∷ returned (Begin default_tx) [] [] (ToldError (Driver NestedTransaction)) ∷ returned NextRow [] [] (ToldError connection_closed) ∷ [])
+  -- `begin`: its queries were sent in another order; ok before the last response
+  pub late_level : NoneShow (returned (Begin full_tx) (sets_access ++ starts_fully ++ sets_level) (fine 1 2 ++ fine 1 2 ++ fine 1 2) ToldReady ∷ [])
+  pub swapped_texts : NoneShow (returned (Begin full_tx) (sets_access ++ sets_level ++ starts_fully) (fine 1 2 ++ fine 1 2 ++ fine 1 2) ToldReady ∷ [])
+  pub early_begin : NoneShow (returned (Begin reading_tx) (sets_access ++ starts) (fine 1 2) ToldReady ∷ [])
+  -- `begin`, `rollback`: nothing was sent
+  pub silent_rollback : NoneShow (begun ∷ returned Rollback [] [] ToldReady ∷ [])
   -- `query`: another command was sent
   pub other_command : NoneShow (returned (Query (codes "SELECT 1")) (asks (codes "SELECT 2")) head ToldReady ∷ [])
   -- `query`, `query`: the second returned an earlier error, and sent its command

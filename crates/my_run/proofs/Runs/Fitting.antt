@@ -16,7 +16,7 @@ use Rattle.my_link.specs.Spent.{Whole, HasGot, ReadsSpent, IsSpent, FaultsSpent}
 use Rattle.my_link.proofs.Spending.{used_spent}
 use Rattle.my_reading.specs.declared.answer.Answer.TheVariants as answers
 use Rattle.my_reading.specs.declared.call.Call.{Call}
-use Rattle.my_reading.specs.declared.call.Call.TheVariants.{CloseStmt, Execute, NextRow, TakeSet, SkipTaken}
+use Rattle.my_reading.specs.declared.call.Call.TheVariants.{CloseStmt, Execute, NextRow, TakeSet, SkipTaken, Rollback, ForgetTransaction}
 use Rattle.my_reading.specs.Calls.{kind_of}
 use Rattle.my_client.specs.declared.poll.After.{After}
 use Rattle.my_client.specs.declared.poll.After.TheVariants as after
@@ -28,7 +28,7 @@ use Rattle.my_script.specs.Streams.{is_skip}
 use Rattle.my_client.specs.Causes.{IsPolled, PollEnds}
 use Rattle.my_client.specs.Kept.{Asked, Kept, asking, asked_by}
 use Rattle.my_world.specs.World.{Plans, HeldBy, IsFresh}
-use Rattle.my_steps.specs.Grows.{IsRefused, OnConnection, PolledOnce, IsClosed, Begins, BeginsOn, Calls, ConnectShows, Connects, HasPlan, IsNew, Dials, Holds, Fails, Links, Gathers, GathersOn, Collects, CollectsOn, CollectsAt, PollsOn, PollsCall, ThenTakes, Skips, Takes, TakesOn, StreamsAt, ItemsAt, LetsGoWith, UnstreamsAt, ExecutesAt, ClosesAt, GoesOnWith, GoesOn, CancelsWith, Cancels, TellsWith, TellsFields, At, StepGrows, is_done, skips_first}
+use Rattle.my_steps.specs.Grows.{IsRefused, OnConnection, PolledOnce, IsClosed, Begins, BeginsOn, Calls, ConnectShows, Connects, HasPlan, IsNew, Dials, Holds, Fails, Links, Gathers, GathersOn, Collects, CollectsOn, CollectsAt, PollsOn, PollsCall, ThenTakes, Skips, Takes, TakesOn, StreamsAt, CallsWhere, LetsGoWith, UnstreamsAt, ExecutesAt, ClosesAt, GoesOnWith, GoesOn, CancelsWith, Cancels, TellsWith, TellsFields, At, StepGrows, is_done, skips_first}
 use Rattle.my_steps.specs.Handle.{Handle, Absent, Dialing, Joined, at_number, put_at}
 use Rattle.my_run.specs.Headline.{FitsLink, HasWaited, waits}
 
@@ -161,9 +161,9 @@ module _ (plan : Option (List ReadItem)) (items : Option (List DialItem)) where
   streams_fits : (login : Login) (n : ℕ) (o : Outcome) (us : List Use) (h t : Handle) → IsFit plan items h → StreamsAt login n h o us t → IsFit plan items t
   streams_fits login n o us h t = on_fits (λ k. TakesOn k.pending login n k) o us h t (λ k x. takes_on k.pending login n k x o us t)
 
-  items_fits : (b : Bool) (login : Login) (n : ℕ) (o : Outcome) (us : List Use) (h t : Handle) → IsFit plan items h → ItemsAt b login n h o us t → IsFit plan items t
-  items_fits true login n o us h t f r = calls_fits login n NextRow o us h t f r
-  items_fits false login n o us h t f r = kept_fits h o us t f r
+  where_fits : (b : Bool) (login : Login) (n : ℕ) (call : Call) (o : Outcome) (us : List Use) (h t : Handle) → IsFit plan items h → CallsWhere b login n call h o us t → IsFit plan items t
+  where_fits true login n call o us h t f r = calls_fits login n call o us h t f r
+  where_fits false login n call o us h t f r = kept_fits h o us t f r
 
   lets_go_with : (q : Option Asked) (k : Kept) (x : Looks) (o : Outcome) (us : List Use) (t : Handle) → FitsLink plan x k.sent k.taken → LetsGoWith q k x o us t → IsFit plan items t
   lets_go_with None k x o us t f r = subst (IsFit plan items) (sym r.left) f
@@ -254,23 +254,26 @@ AllFit plans hs = (m : ℕ) → IsFit (plans.reads m) (plans.dials m) (at_number
 at_fits : (plans : Plans) (n : ℕ) (R : Handle → Outcome → List Use → Handle → Type 0) (hs ts : List Handle) (o : Outcome) (us : List Use) → ((h t : Handle) → IsFit (plans.reads n) (plans.dials n) h → R h o us t → IsFit (plans.reads n) (plans.dials n) t) → AllFit plans hs → At n R hs o us ts → AllFit plans ts
 at_fits plans n R hs ts o us f w r = subst (AllFit plans) (sym r.others) (put_all (λ m. IsFit (plans.reads m) (plans.dials m)) n r.made hs w (f (at_number hs n) r.made (w n) r.does))
 
-pub step_fits : (login : Login) (plans : Plans) (there : Bool) (named : Option StatementView) (hs : List Handle) (step : Step) (o : Outcome) (us : List Use) (ts : List Handle) → AllFit plans hs → StepGrows login plans there named hs step o us ts → AllFit plans ts
-step_fits login plans there named hs steps.Conn o us ts w r = subst (AllFit plans) (sym r.others) (push_all (λ m. IsFit (plans.reads m) (plans.dials m)) r.made hs w (dials_fits (plans.reads (length hs)) (plans.dials (length hs)) login (plans.writes (length hs)) (plans.dials (length hs)) (length hs) o us r.made (λ left held. waited_first (plans.dials (length hs)) left held) r.dials))
-step_fits login plans there named hs (steps.Query n text) o us ts w r = at_fits plans n _ hs ts o us (λ h t. calls_fits (plans.reads n) (plans.dials n) login n _ o us h t) w r
-step_fits login plans there named hs (steps.Prepare n text) o us ts w r = at_fits plans n _ hs ts o us (λ h t. calls_fits (plans.reads n) (plans.dials n) login n _ o us h t) w r
-step_fits login plans there named hs (steps.Execute n number params) o us ts w r = at_fits plans n _ hs ts o us (λ h t. executes_fits (plans.reads n) (plans.dials n) named login n params o us h t) w r
-step_fits login plans there named hs (steps.CloseStatement n number) o us ts w r = at_fits plans n _ hs ts o us (λ h t. closes_fits (plans.reads n) (plans.dials n) named login n o us h t) w r
-step_fits login plans there named hs (steps.Next n) o us ts w r = at_fits plans n _ hs ts o us (λ h t. calls_fits (plans.reads n) (plans.dials n) login n _ o us h t) w r
-step_fits login plans there named hs (steps.Collect n) o us ts w r = at_fits plans n _ hs ts o us (λ h t. collects_fits (plans.reads n) (plans.dials n) login n o us h t) w r
-step_fits login plans there named hs (steps.Drop n) o us ts w r = at_fits plans n _ hs ts o us (λ h t. calls_fits (plans.reads n) (plans.dials n) login n _ o us h t) w r
-step_fits login plans there named hs (steps.Ping n) o us ts w r = at_fits plans n _ hs ts o us (λ h t. calls_fits (plans.reads n) (plans.dials n) login n _ o us h t) w r
-step_fits login plans there named hs (steps.Reset n) o us ts w r = at_fits plans n _ hs ts o us (λ h t. calls_fits (plans.reads n) (plans.dials n) login n _ o us h t) w r
-step_fits login plans there named hs (steps.Quit n) o us ts w r = at_fits plans n _ hs ts o us (λ h t. calls_fits (plans.reads n) (plans.dials n) login n _ o us h t) w r
-step_fits login plans there named hs (steps.Stream n) o us ts w r = at_fits plans n _ hs ts o us (λ h t. streams_fits (plans.reads n) (plans.dials n) login n o us h t) w r
-step_fits login plans there named hs (steps.Item n) o us ts w r = at_fits plans n _ hs ts o us (λ h t. items_fits (plans.reads n) (plans.dials n) there login n o us h t) w r
-step_fits login plans there named hs (steps.Unstream n) o us ts w r = at_fits plans n _ hs ts o us (λ h t. unstreams_fits (plans.reads n) (plans.dials n) there o us h t) w r
-step_fits login plans there named hs (steps.Fields n) o us ts w r = at_fits plans n _ hs ts o us (λ h t. tells_fits (plans.reads n) (plans.dials n) login o us h t) w r
-step_fits login plans there named hs (steps.Poll n) o us ts w r = at_fits plans n _ hs ts o us (λ h t f g. goes_on_fits (plans.reads n) (plans.dials n) login plans n o us h t refl f g) w r
-step_fits login plans there named hs (steps.Cancel n) o us ts w r = at_fits plans n _ hs ts o us (λ h t. cancels_fits (plans.reads n) (plans.dials n) login o us h t) w r
-step_fits login plans there named hs (steps.Advance by) o us ts w r = subst (AllFit plans) (sym r.same) w
-step_fits login plans there named hs (steps.Random word) o us ts w r = subst (AllFit plans) (sym r.same) w
+pub step_fits : (login : Login) (plans : Plans) (found : Bool) (named : Option StatementView) (hs : List Handle) (step : Step) (o : Outcome) (us : List Use) (ts : List Handle) → AllFit plans hs → StepGrows login plans found named hs step o us ts → AllFit plans ts
+step_fits login plans found named hs steps.Conn o us ts w r = subst (AllFit plans) (sym r.others) (push_all (λ m. IsFit (plans.reads m) (plans.dials m)) r.made hs w (dials_fits (plans.reads (length hs)) (plans.dials (length hs)) login (plans.writes (length hs)) (plans.dials (length hs)) (length hs) o us r.made (λ left held. waited_first (plans.dials (length hs)) left held) r.dials))
+step_fits login plans found named hs (steps.Query n text) o us ts w r = at_fits plans n _ hs ts o us (λ h t. calls_fits (plans.reads n) (plans.dials n) login n _ o us h t) w r
+step_fits login plans found named hs (steps.Prepare n text) o us ts w r = at_fits plans n _ hs ts o us (λ h t. calls_fits (plans.reads n) (plans.dials n) login n _ o us h t) w r
+step_fits login plans found named hs (steps.Execute n number params) o us ts w r = at_fits plans n _ hs ts o us (λ h t. executes_fits (plans.reads n) (plans.dials n) named login n params o us h t) w r
+step_fits login plans found named hs (steps.CloseStatement n number) o us ts w r = at_fits plans n _ hs ts o us (λ h t. closes_fits (plans.reads n) (plans.dials n) named login n o us h t) w r
+step_fits login plans found named hs (steps.Next n) o us ts w r = at_fits plans n _ hs ts o us (λ h t. calls_fits (plans.reads n) (plans.dials n) login n _ o us h t) w r
+step_fits login plans found named hs (steps.Collect n) o us ts w r = at_fits plans n _ hs ts o us (λ h t. collects_fits (plans.reads n) (plans.dials n) login n o us h t) w r
+step_fits login plans found named hs (steps.Drop n) o us ts w r = at_fits plans n _ hs ts o us (λ h t. calls_fits (plans.reads n) (plans.dials n) login n _ o us h t) w r
+step_fits login plans found named hs (steps.Ping n) o us ts w r = at_fits plans n _ hs ts o us (λ h t. calls_fits (plans.reads n) (plans.dials n) login n _ o us h t) w r
+step_fits login plans found named hs (steps.Reset n) o us ts w r = at_fits plans n _ hs ts o us (λ h t. calls_fits (plans.reads n) (plans.dials n) login n _ o us h t) w r
+step_fits login plans found named hs (steps.Begin n opts) o us ts w r = at_fits plans n _ hs ts o us (λ h t. calls_fits (plans.reads n) (plans.dials n) login n _ o us h t) w r
+step_fits login plans found named hs (steps.Rollback n) o us ts w r = at_fits plans n _ hs ts o us (λ h t. where_fits (plans.reads n) (plans.dials n) found login n Rollback o us h t) w r
+step_fits login plans found named hs (steps.ForgetTransaction n) o us ts w r = at_fits plans n _ hs ts o us (λ h t. where_fits (plans.reads n) (plans.dials n) found login n ForgetTransaction o us h t) w r
+step_fits login plans found named hs (steps.Quit n) o us ts w r = at_fits plans n _ hs ts o us (λ h t. calls_fits (plans.reads n) (plans.dials n) login n _ o us h t) w r
+step_fits login plans found named hs (steps.Stream n) o us ts w r = at_fits plans n _ hs ts o us (λ h t. streams_fits (plans.reads n) (plans.dials n) login n o us h t) w r
+step_fits login plans found named hs (steps.Item n) o us ts w r = at_fits plans n _ hs ts o us (λ h t. where_fits (plans.reads n) (plans.dials n) found login n NextRow o us h t) w r
+step_fits login plans found named hs (steps.Unstream n) o us ts w r = at_fits plans n _ hs ts o us (λ h t. unstreams_fits (plans.reads n) (plans.dials n) found o us h t) w r
+step_fits login plans found named hs (steps.Fields n) o us ts w r = at_fits plans n _ hs ts o us (λ h t. tells_fits (plans.reads n) (plans.dials n) login o us h t) w r
+step_fits login plans found named hs (steps.Poll n) o us ts w r = at_fits plans n _ hs ts o us (λ h t f g. goes_on_fits (plans.reads n) (plans.dials n) login plans n o us h t refl f g) w r
+step_fits login plans found named hs (steps.Cancel n) o us ts w r = at_fits plans n _ hs ts o us (λ h t. cancels_fits (plans.reads n) (plans.dials n) login o us h t) w r
+step_fits login plans found named hs (steps.Advance by) o us ts w r = subst (AllFit plans) (sym r.same) w
+step_fits login plans found named hs (steps.Random word) o us ts w r = subst (AllFit plans) (sym r.same) w

@@ -99,6 +99,6 @@ closed_so look login n call c b d s t e o us idle shut seen is st kept link why 
 pub begun_open : (s : Seen) (call : Call) → is_open (begun s call).task ≡ true
 begun_open s call = by_closed s.closed
   where
-    by_closed : (b : Bool) → is_open (if b then Leaving else Begun (kind_of call)) ≡ true
+    by_closed : (b : Bool) → is_open (if b then Leaving (kind_of call) else Begun (kind_of call)) ≡ true
     by_closed true = refl
     by_closed false = refl

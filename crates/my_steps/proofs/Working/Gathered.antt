@@ -1,13 +1,11 @@
 -- A gathering, row by row.
-use Rattle.std.proofs.Common.{ℕ, if◌then◌else◌, ◌≡◌, List, [], ◌∷◌, ◌++◌, length, Option, Some, None, unwrap_or, Bool, true, false, refl, sym, ap, ◌∙◌, subst}
+use Rattle.std.proofs.Common.{ℕ, ◌≡◌, List, [], ◌∷◌, ◌++◌, length, Option, Some, None, unwrap_or, Bool, true, false, refl, sym, ap, ◌∙◌, subst}
 use Rattle.std.proofs.lemmas.List.{append_assoc, append-nil}
 use Rattle.my_value.specs.RowParts.{RowParts}
 use Rattle.my_grammar.specs.declared.login.Login.{Login}
 use Rattle.my_reading.specs.declared.answer.Answer.TheVariants as answers
 use Rattle.my_reading.specs.declared.call.Call.TheVariants.{NextRow}
 use Rattle.my_reading.specs.declared.error.Error.{Error}
-use Rattle.my_reading.specs.declared.call.CallKind.{CallKind}
-use Rattle.my_session.specs.declared.task.Task.TheVariants.{Begun, Leaving}
 use Rattle.my_reading.specs.Calls.{kind_of}
 use Rattle.my_session.specs.Tasks.{is_open}
 use Rattle.my_reading.specs.Errors.{connection_closed}
@@ -38,7 +36,7 @@ use Rattle.my_link.specs.Looks.{Looks}
 use Rattle.my_client.specs.Rests.{Rests, IsAsked}
 use Rattle.my_client.specs.Conn.{kept_of}
 use Rattle.my_client.proofs.Hearing.Beginning.{begins, refuses, closed_kept, is_idle}
-use Rattle.my_steps.proofs.Working.Beginning.{closed_did}
+use Rattle.my_steps.proofs.Working.Beginning.{begun_open, closed_did}
 
 -- nothing was gathered yet
 pub none_gathered : {L : Type 0} (look : L → Looks) (login : Login) (n : ℕ) (a : Asked) (c : TapedConn L) (us : List Use) → us ≡ [] → IsAsked login c.session.seen (kept_of c) a → GatherSoFar look login n a c c us
@@ -139,13 +137,9 @@ collect_closed {L} look login n c b d s t e o us idle shut seen is st kept link 
     (subst (λ (x : Bool). Begins (is_refused x (kind_of NextRow)) login n NextRow k (look c.link) o us (Joined true (kept_of d) (look d.link)) → Collects x login n k (look c.link) o us (Joined true (kept_of d) (look d.link))) (sym closed) (λ x. x)) in
     record { stood = base.stood; does = swap base.does }
 
-task_open : (b : Bool) (k : CallKind) → is_open (if b then Leaving else Begun k) ≡ true
-task_open true k = refl
-task_open false k = refl
-
 -- after a row a call is open
 pub goes_on_open : {L : Type 0} (e f : TapedConn L) (rows : Option (List RowParts)) (p : After) → Goes e f rows p On → is_open f.session.seen.task ≡ true
-goes_on_open e f rows p g = let asks = (next_row e f rows p g).2 in ap (λ (s : Seen). is_open s.task) asks.seen ∙ task_open e.session.seen.closed (kind_of NextRow)
+goes_on_open e f rows p g = let asks = (next_row e f rows p g).2 in ap (λ (s : Seen). is_open s.task) asks.seen ∙ begun_open e.session.seen NextRow
 
 -- the steps of the loop, by what follows each poll
 pub gather_next : {L : Type 0} (look : L → Looks) (login : Login) (n : ℕ) (a : Asked) (c d e f : TapedConn L) (us more : List Use) (met : Met) (p : After) (rows : Option (List RowParts)) → GatherSoFar look login n a c d us → ((login : Login) (a : Asked) → IsAsked login d.session.seen (kept_of d) a → Drives login a e.session.seen (look d.link) (look e.link) (kept_of d) (kept_of e) met p) → ((a : Asked) → (kept_of d).pending ≡ Some a → RowsOf a p rows) → more ≡ us ++ use_of n met ∷ [] → Goes e f rows p On → GatherSoFar look login n a c f more

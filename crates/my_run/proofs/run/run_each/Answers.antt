@@ -9,9 +9,10 @@ use Rattle.my_steps.specs.Ready.{AllJoined}
 use Rattle.my_steps.proofs.Joining.{grown_joined}
 use Rattle.std.specs.Option.{option_copied}
 use Rattle.my_script.specs.Numbered.{named_statement, statement_named, statements_by}
-use Rattle.my_script.specs.Streams.{stream_by, target}
+use Rattle.my_script.specs.Beside.{beside_by}
+use Rattle.my_script.specs.Streams.{target}
 use Rattle.my_run.specs.Headline.{SoFar}
-use Rattle.my_run.proofs.Streaming.{streamed_same}
+use Rattle.my_run.proofs.MadeBeside.{found_same}
 use Rattle.my_run.proofs.Runs.{all_joined, none_yet, step_on, stands_at, count_up}
 use Rattle.my_run.proofs.run.run_each.Goals as goal
 
@@ -26,10 +27,10 @@ loop-i-preserved g c =
     record {
       so_far = λ plans same.
           let u = so.so_far plans same in
-          let there = c.is_there-there.ensures ∙ streamed_same c.loop-i.streams u.0.lines (target c.index-steps-i.result) u.1 in
+          let found = c.is_found-found.ensures ∙ found_same c.loop-i.beside u.0.lines (target c.index-steps-i.result) c.index-steps-i.result u.1 in
           let named = c.statement_for-named.ensures ∙ ap (statement_named (named_statement c.index-steps-i.result)) u.2 in
-          let r = step_on g.N.L.Link.looks (login_of c.args.opts.now) plans (course_of (g.N.Dialer.seen c.args.world.now)) (g.N.Dialer.seen c.loop-i.world) (g.N.Dialer.seen c.run_step.new.world) (take c.loop-i.i c.args.steps.now) _ c.loop-i.slots.items c.run_step.new.slots.items c.loop-i.answers.items c.push.new.self.items c.index-steps-i.result a c.is_there-there.result (option_copied c.statement_for-named.result) u.0 there named (did.steps plans u.0.awaited u.0.stood) did.counts did.chance (count_up c.loop-i.i c.args.steps.now c.loop-i-test.true) grown next in
-          (r.0, λ n. c.in_ok-note.ensures n ∙ ap (λ s. stream_by n s c.index-steps-i.result c.in_ok-did.did.outcome) (u.1 n) ∙ sym (r.1 n), c.in_ok-note-2.ensures.ok ∙ ap (λ s. statements_by s c.index-steps-i.result c.in_ok-did.did.outcome) u.2 ∙ sym r.2);
+          let r = step_on g.N.L.Link.looks (login_of c.args.opts.now) plans (course_of (g.N.Dialer.seen c.args.world.now)) (g.N.Dialer.seen c.loop-i.world) (g.N.Dialer.seen c.run_step.new.world) (take c.loop-i.i c.args.steps.now) _ c.loop-i.slots.items c.run_step.new.slots.items c.loop-i.answers.items c.push.new.self.items c.index-steps-i.result a c.is_found-found.result (option_copied c.statement_for-named.result) u.0 found named (did.steps plans u.0.awaited u.0.stood) did.counts did.chance (count_up c.loop-i.i c.args.steps.now c.loop-i-test.true) grown next in
+          (r.0, λ n. c.in_ok-note.ensures n ∙ ap (λ s. beside_by n s c.index-steps-i.result c.in_ok-did.did.outcome) (u.1 n) ∙ sym (r.1 n), c.in_ok-note-2.ensures.ok ∙ ap (λ s. statements_by s c.index-steps-i.result c.in_ok-did.did.outcome) u.2 ∙ sym r.2);
       takes = c.run_step.ensures.takes ∙ so.takes;
     }
 
@@ -40,7 +41,7 @@ returns g c =
     λ plans same. subst (λ (xs : List Step). SoFar g.N.L.Link.looks (login_of c.args.opts.now) plans (course_of (g.N.Dialer.seen c.args.world.now)) (g.N.Dialer.seen c.loop-i.world) xs c.loop-i.slots.items c.loop-i.answers.items) whole (c.loop-i.invariant.so_far plans same).0
 
 pub loop-i-init : goal.loop-i-init
-loop-i-init g c = record { so_far = λ plans same. let u = none_yet g.N.L.Link.looks (login_of c.args.opts.now) plans (g.N.Dialer.seen c.args.world.now) [] c.args.slots.now.items c.args.answers.now.items same refl c.requires.no_slots c.requires.no_answers in (u.0, λ n. c.new-streams.ensures n ∙ sym (u.1 n), c.new-statements.ensures ∙ sym u.2); takes = refl }
+loop-i-init g c = record { so_far = λ plans same. let u = none_yet g.N.L.Link.looks (login_of c.args.opts.now) plans (g.N.Dialer.seen c.args.world.now) [] c.args.slots.now.items c.args.answers.now.items same refl c.requires.no_slots c.requires.no_answers in (u.0, λ n. c.new-beside.ensures n ∙ sym (u.1 n), c.new-statements.ensures ∙ sym u.2); takes = refl }
 
 pub run_step-requires-clause-ready : goal.run_step-requires-clause-ready
 run_step-requires-clause-ready g c =
