@@ -17,7 +17,7 @@ use Rattle.my_reading.specs.declared.call.Call.{Call}
 use Rattle.my_reading.specs.declared.call.Call.TheVariants as calls
 use Rattle.my_reading.specs.declared.facts.Facts.{Facts}
 use Rattle.my_reading.specs.Calls.{id_in, statement_in, text_in}
-use Rattle.my_reading.specs.Course.{Part, All, Head, Item, Set, Rest, Command, Find, Check, Run, Reply, Keep, Give, Learn, Forget, Offered, Clear, Text, Flag, Step, Goes, Stops, checked, executed, closing_of, first_above, found, learned, offered, unless_cached, unless_long, unless_owed, step_of, step, run, enough, parts_of, with_command, with_front, after_payload, after_kind, after_err, is_greeting, is_rows}
+use Rattle.my_reading.specs.Course.{Part, All, Head, Item, Set, Rest, Command, Find, Check, Run, Reply, Keep, Give, Learn, Forget, Offered, Clear, Text, Flag, Undo, Undone, Refuse, Settle, GiveUp, Step, Goes, Stops, checked, executed, closing_of, first_above, found, learned, offered, unless_cached, undone, unless_long, unless_owed, unless_refused, step_of, step, run, enough, parts_of, with_command, with_front, after_payload, after_kind, after_err, is_greeting, is_rows}
 use Rattle.my_handshake.specs.Version.{version_of}
 use Rattle.my_reading.specs.Commands.{queried}
 use Rattle.my_reading.specs.Executions.{Values, Fitting, Unfitting, values_for}
@@ -28,7 +28,9 @@ use Rattle.my_reading.specs.Rows.{row_of}
 use Rattle.my_reading.specs.Statements.{held_in, is_cached, is_mixed_text, leaving, query_of, with_columns}
 use Rattle.my_reading.specs.Tape.{Span}
 use Rattle.my_reading.specs.Told.{Told, ToldRow}
+use Rattle.my_reading.specs.Transactions.{begin_refusal, is_given_up, rollback_text}
 use Rattle.my_reading.specs.Versions.{can_reset}
+use Rattle.my_reading.specs.declared.error.DriverError.{DriverError}
 use Rattle.std.proofs.Common.{nat_lt, length}
 
 -- the step leaves these bytes sent
@@ -95,6 +97,14 @@ module _ (login : Login) (call : Call) where
   offered_keeps parts p true = refl
   offered_keeps parts p false = refl
 
+  undone_keeps : (parts : List Part) (p : Place) (b : Bool) → Keeps p.sent (undone login call parts p b)
+  undone_keeps parts p true = command_keeps call parts p (Some (queried (terms_of login (exchanges p)) rollback_text))
+  undone_keeps parts p false = refl
+
+  refused_keeps : (parts : List Part) (p : Place) (o : Option DriverError) → Keeps p.sent (unless_refused parts p o)
+  refused_keeps parts p None = refl
+  refused_keeps parts p (Some e) = refl
+
   learned_keeps : (p : Place) (facts : Facts) → (learned call p facts).sent ≡ p.sent
   learned_keeps p facts = by_rows (is_rows (context_of p.talk).spot)
     where
@@ -122,6 +132,11 @@ module _ (login : Login) (call : Call) where
   of_keeps (Clear ∷ parts) p = refl
   of_keeps (Text text ∷ parts) p = command_keeps call parts p (Some (queried (terms_of login (exchanges p)) text))
   of_keeps (Flag flag ∷ parts) p = refl
+  of_keeps (Undo ∷ parts) p = undone_keeps parts p (is_given_up p.status)
+  of_keeps (Undone ∷ parts) p = refl
+  of_keeps (Refuse opts ∷ parts) p = refused_keeps parts p (begin_refusal opts (version_of (facts_at login p).version) p.status)
+  of_keeps (Settle status ∷ parts) p = refl
+  of_keeps (GiveUp ∷ parts) p = refl
 
   step_keeps : (parts : List Part) (p : Place) → Keeps p.sent (step login call parts p)
   unfolding step

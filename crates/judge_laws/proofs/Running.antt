@@ -3,6 +3,7 @@ use Rattle.std.proofs.Common.{◌≡◌, ◌≢◌, ◌⊎◌, ◌≤◌, ◌<�
 use Rattle.std.proofs.lemmas.Bool.Decides.{nat_tests}
 use Rattle.my_statements.specs.Prepared.{StatementView}
 use Rattle.my_grammar.specs.declared.login.Login.{Login}
+use Rattle.my_reading.specs.declared.call.Call.{Call}
 use Rattle.my_reading.specs.declared.call.Call.TheVariants as calls
 use Rattle.my_reading.specs.Endings.{AreCalls}
 use Rattle.my_reading.specs.Reading.{reading}
@@ -21,7 +22,7 @@ use Rattle.my_acts.specs.Acts.{act_ahead, act_here, act_of, act_there, act_with,
 use Rattle.my_client.specs.Kept.{Asked, nothing_kept}
 use Rattle.my_world.specs.World.{Plans}
 use Rattle.my_value.specs.RowParts.{RowParts}
-use Rattle.my_steps.specs.Grows.{At, Dials, DialsNext, IsRefused, Misses, Moves, StepGrows}
+use Rattle.my_steps.specs.Grows.{At, Calls, CallsWhere, Dials, DialsNext, IsRefused, Misses, Moves, StepGrows}
 use Rattle.my_steps.specs.Handle.{Handle, Absent, Dialing, Joined, at_number, put_at}
 use Rattle.run_laws.proofs.Connecting.{AreOnce, at_once}
 use Rattle.my_run_judge.specs.declared.walk.Spot.{Spot}
@@ -31,7 +32,7 @@ use Rattle.judge_laws.proofs.Going.{shown_tape}
 use Rattle.judge_laws.proofs.Tying.{AtWalk}
 use Rattle.judge_laws.proofs.Gathering.{HasTape}
 use Rattle.judge_laws.proofs.Stepping.{LineSo, OpenAs, Spotted, StepSo, Tied, is_there, same_number}
-use Rattle.judge_laws.proofs.Calling.{asks_close, asks_drop, asks_execute, asks_item, asks_next, asks_ping, asks_prepare, asks_query, asks_quit, asks_reset, calls_so, collects_so, tells_so}
+use Rattle.judge_laws.proofs.Calling.{Asks, asks_begin, asks_close, asks_drop, asks_execute, asks_forget, asks_item, asks_next, asks_ping, asks_prepare, asks_query, asks_quit, asks_reset, asks_rollback, calls_so, collects_so, tells_so}
 use Rattle.judge_laws.proofs.Streaming.{lets_go_so, streams_so}
 use Rattle.judge_laws.proofs.Resuming.{cancels_so, dials_so, goes_on_so}
 
@@ -109,14 +110,14 @@ skips_there status.Idle n next closed step o uses e f = f
 skips_there status.Open n next closed step o uses e f = f
 skips_there (status.Gathers first) n next closed step o uses e f = f
 
--- whether a stream is there or none
+-- of both truth values
 either : (f : Bool → Bool) → f true ≡ false → f false ≡ false → (b : Bool) → f b ≡ false
 either f e g true = e
 either f e g false = g
 
--- a step that isn't one of a stream that isn't there, nor of a statement that isn't
+-- a step that isn't one of a stream or a transaction that isn't there, nor of a statement that isn't
 pub record Plain (n : ℕ) (there prepared : Bool) (step : Step) : Type 0 where
-  pub streams : is_missing n there step ≡ false
+  pub beside : is_missing n there step ≡ false
   pub statements : is_unprepared n prepared step ≡ false
 
 abbrev acted : Bool → Bool → Bool → Status → ℕ → ℕ → Bool → Step → Outcome → ℕ → Act
@@ -127,11 +128,11 @@ other_act : (n : ℕ) (there prepared : Bool) (step : Step) → moves_world step
     → act_with there prepared s n next closed step o uses ≡ act_of s n next closed step o uses
 other_act n there prepared step still plain s next closed o uses =
     ap (λ b. acted b (is_missing n there step) (is_unprepared n prepared step) s n next closed step o uses) still
-    ∙ ap (λ b. acted false b (is_unprepared n prepared step) s n next closed step o uses) plain.streams
+    ∙ ap (λ b. acted false b (is_unprepared n prepared step) s n next closed step o uses) plain.beside
     ∙ ap (λ b. acted false false b s n next closed step o uses) plain.statements
 
 always : (n : ℕ) (there prepared : Bool) (step : Step) → is_missing n true step ≡ false → is_missing n false step ≡ false → is_unprepared n true step ≡ false → is_unprepared n false step ≡ false → Plain n there prepared step
-always n there prepared step a b c d = record { streams = either (λ z. is_missing n z step) a b there; statements = either (λ z. is_unprepared n z step) c d prepared }
+always n there prepared step a b c d = record { beside = either (λ z. is_missing n z step) a b there; statements = either (λ z. is_unprepared n z step) c d prepared }
 
 -- a step that names a number moves no world
 names_one : (step : Step) (m : ℕ) → target step ≡ Some m → moves_world step ≡ false
@@ -145,6 +146,9 @@ names_one (steps.Collect n) m e = refl
 names_one (steps.Drop n) m e = refl
 names_one (steps.Ping n) m e = refl
 names_one (steps.Reset n) m e = refl
+names_one (steps.Begin n opts) m e = refl
+names_one (steps.Rollback n) m e = refl
+names_one (steps.ForgetTransaction n) m e = refl
 names_one (steps.Quit n) m e = refl
 names_one (steps.Stream n) m e = refl
 names_one (steps.Item n) m e = refl
@@ -298,7 +302,7 @@ module _ (login : Login) (t : Tape) (all : AreCalls login (reading login t).call
           let less : (n - length hs) - 1 ≡ n - length ts = omega (arith, grown) in
           ahead_line there statement hs ts steps.Conn o us refl plain high.1 higher (ap (λ b. if b then dialed n o (length us) else Skips (status.Ahead ((n - length hs) - 1))) some ∙ ap (λ z. Skips (status.Ahead z)) less)
 
-  -- a step of a stream that isn't there
+  -- a step of a stream or a transaction
   found_there : (f : Bool → Bool) (m : ℕ) → f true ≡ false → f false ≡ (m == n) → (there : Bool) → ((let q : Option ℕ = Some m in q) ≡ Some n → true ≡ there) → f there ≡ false
   found_there f m e g true same = e
   found_there f m e g false same = by_same_number (same_or m n)
@@ -335,13 +339,13 @@ module _ (login : Login) (t : Tape) (all : AreCalls login (reading login t).call
         };
       }
 
-  -- of a stream
-  streamless : (there prepared : Bool) (m : ℕ) (step : Step) → target step ≡ Some m → ((b : Bool) → is_missing n false step ≡ (m == n)) → (target step ≡ Some n → false ≡ there)
-      → m ≡ n → (s : Status) (next : ℕ) (closed : Bool) (o : Outcome) (uses : ℕ) → act_with there prepared s n next closed step o uses ≡ refused s o uses
-  streamless there prepared m step named second same is s next closed o uses =
-      let here : is_missing n there step ≡ true = ap (λ b. is_missing n b step) (sym (same (named ∙ ap Some is))) ∙ second true ∙ ap (λ z. z == n) is ∙ same_number n in
-      ap (λ b. acted b (is_missing n there step) (is_unprepared n prepared step) s n next closed step o uses) (names_one step m named)
-      ∙ ap (λ b. acted false b (is_unprepared n prepared step) s n next closed step o uses) here
+  -- of a stream or a transaction
+  not_found : (here prepared : Bool) (m : ℕ) (step : Step) → target step ≡ Some m → is_missing n false step ≡ (m == n) → (target step ≡ Some n → false ≡ here)
+      → m ≡ n → (s : Status) (next : ℕ) (closed : Bool) (o : Outcome) (uses : ℕ) → act_with here prepared s n next closed step o uses ≡ refused s o uses
+  not_found here prepared m step named second same is s next closed o uses =
+      let missing : is_missing n here step ≡ true = ap (λ b. is_missing n b step) (sym (same (named ∙ ap Some is))) ∙ second ∙ ap (λ z. z == n) is ∙ same_number n in
+      ap (λ b. acted b (is_missing n here step) (is_unprepared n prepared step) s n next closed step o uses) (names_one step m named)
+      ∙ ap (λ b. acted false b (is_unprepared n prepared step) s n next closed step o uses) missing
 
   -- of a statement
   unprepared : (there : Bool) (m : ℕ) (step : Step) → target step ≡ Some m → ((b : Bool) → is_missing n b step ≡ false) → is_unprepared n false step ≡ (m == n)
@@ -367,53 +371,59 @@ module _ (login : Login) (t : Tape) (all : AreCalls login (reading login t).call
     };
   }
 
+  -- a step that begins a call at its number
+  asked_line : (found : Bool) (statement : Option StatementView) (m : ℕ) (step : Step) (call : Call) → Asks m statement step call → Plain n found (is_some statement) step → (hs ts : List Handle) (o : Outcome) (us : List Use)
+      → At m (Calls login m call) hs o us ts → HasTape t (at_number ts n) → RunsSo login t n found statement hs ts step o us
+  asked_line found statement m step call w plain hs ts o us r has = named_line found statement m _ step plain w.named (λ z vs made e. e) hs ts o us
+      (λ made h d e. subst (λ z. StepSo login t z statement (at_number hs m) made step o us) e (calls_so login t all m statement step call w (at_number hs m) made o us h d)) r has
+
+  -- one that needs its stream or its transaction
+  where_found : (here found : Bool) (statement : Option StatementView) (m : ℕ) (step : Step) (call : Call) → Asks m statement step call → is_missing n true step ≡ false → is_missing n false step ≡ (m == n) → ((b : Bool) → is_unprepared n b step ≡ false) → (target step ≡ Some n → found ≡ here)
+      → (hs ts : List Handle) (o : Outcome) (us : List Use) → At m (CallsWhere found login m call) hs o us ts → HasTape t (at_number ts n) → RunsSo login t n here statement hs ts step o us
+  where_found here true statement m step call w one other all same hs ts o us r has =
+      asked_line here statement m step call w (record { beside = found_there (λ b. is_missing n b step) m one other here (λ e. same (w.named ∙ e)); statements = all (is_some statement) }) hs ts o us r has
+  where_found here false statement m step call w one other all same hs ts o us r has = missed_line here statement m step w.named
+      (λ e. record { beside = either (λ b. is_missing n b step) one (other ∙ e) here; statements = all (is_some statement) })
+      (not_found here (is_some statement) m step w.named other same) hs ts o us r has
+
+  -- one that needs the statement that it names, which isn't there
+  unprepared_line : (found : Bool) (m : ℕ) (step : Step) → target step ≡ Some m → ((b : Bool) → is_missing n b step ≡ false) → is_unprepared n false step ≡ (m == n) → (hs ts : List Handle) (o : Outcome) (us : List Use)
+      → At m Misses hs o us ts → HasTape t (at_number ts n) → RunsSo login t n found None hs ts step o us
+  unprepared_line found m step named plain second hs ts o us r has = missed_line found None m step named (λ e. record { beside = plain found; statements = second ∙ e }) (unprepared found m step named plain second) hs ts o us r has
+
   -- each step
-  pub line_so : (there found : Bool) (statement : Option StatementView) (plans : Plans) (hs ts : List Handle) (step : Step) (o : Outcome) (us : List Use) → (target step ≡ Some n → found ≡ there) → AreOnce hs → StepGrows login plans found statement hs step o us ts → HasTape t (at_number ts n)
-      → RunsSo login t n there statement hs ts step o us
-  line_so there found statement plans hs ts steps.Conn o us same once r has = conn_line there statement plans hs ts o us r has
-  line_so there found statement plans hs ts (steps.Query m text) o us same once r has = named_line there statement m _ (steps.Query m text) (always n there (is_some statement) (steps.Query m text) refl refl refl refl) refl (λ z vs made e. e) hs ts o us
-      (λ made h d e. subst (λ z. StepSo login t z statement (at_number hs m) made (steps.Query m text) o us) e (calls_so login t all m statement (steps.Query m text) (calls.Query text) (asks_query m statement text) (at_number hs m) made o us h d)) r has
-  line_so there found statement plans hs ts (steps.Prepare m text) o us same once r has = named_line there statement m _ (steps.Prepare m text) (always n there (is_some statement) (steps.Prepare m text) refl refl refl refl) refl (λ z vs made e. e) hs ts o us
-      (λ made h d e. subst (λ z. StepSo login t z statement (at_number hs m) made (steps.Prepare m text) o us) e (calls_so login t all m statement (steps.Prepare m text) (calls.Prepare text) (asks_prepare m statement text) (at_number hs m) made o us h d)) r has
-  line_so there found (Some prepared) plans hs ts (steps.Execute m number params) o us same once r has = named_line there (Some prepared) m _ (steps.Execute m number params) (record { streams = either (λ b. is_missing n b (steps.Execute m number params)) refl refl there; statements = refl }) refl (λ z vs made e. e) hs ts o us
-      (λ made h d e. subst (λ z. StepSo login t z (Some prepared) (at_number hs m) made (steps.Execute m number params) o us) e (calls_so login t all m (Some prepared) (steps.Execute m number params) (calls.Execute prepared params) (asks_execute m prepared number params) (at_number hs m) made o us h d)) r has
-  line_so there found None plans hs ts (steps.Execute m number params) o us same once r has = missed_line there None m (steps.Execute m number params) refl
-      (λ other. record { streams = either (λ b. is_missing n b (steps.Execute m number params)) refl refl there; statements = other })
-      (unprepared there m (steps.Execute m number params) refl (either (λ b. is_missing n b (steps.Execute m number params)) refl refl) refl) hs ts o us r has
-  line_so there found (Some prepared) plans hs ts (steps.CloseStatement m number) o us same once r has = named_line there (Some prepared) m _ (steps.CloseStatement m number) (record { streams = either (λ b. is_missing n b (steps.CloseStatement m number)) refl refl there; statements = refl }) refl (λ z vs made e. e) hs ts o us
-      (λ made h d e. subst (λ z. StepSo login t z (Some prepared) (at_number hs m) made (steps.CloseStatement m number) o us) e (calls_so login t all m (Some prepared) (steps.CloseStatement m number) (calls.CloseStmt prepared.inner.id) (asks_close m prepared number) (at_number hs m) made o us h d)) r has
-  line_so there found None plans hs ts (steps.CloseStatement m number) o us same once r has = missed_line there None m (steps.CloseStatement m number) refl
-      (λ other. record { streams = either (λ b. is_missing n b (steps.CloseStatement m number)) refl refl there; statements = other })
-      (unprepared there m (steps.CloseStatement m number) refl (either (λ b. is_missing n b (steps.CloseStatement m number)) refl refl) refl) hs ts o us r has
-  line_so there found statement plans hs ts (steps.Next m) o us same once r has = named_line there statement m _ (steps.Next m) (always n there (is_some statement) (steps.Next m) refl refl refl refl) refl (λ z vs made e. e) hs ts o us
-      (λ made h d e. subst (λ z. StepSo login t z statement (at_number hs m) made (steps.Next m) o us) e (calls_so login t all m statement (steps.Next m) calls.NextRow (asks_next m statement) (at_number hs m) made o us h d)) r has
-  line_so there found statement plans hs ts (steps.Collect m) o us same once r has = named_line there statement m _ (steps.Collect m) (always n there (is_some statement) (steps.Collect m) refl refl refl refl) refl (λ z vs made e. e) hs ts o us
+  pub line_so : (here found : Bool) (statement : Option StatementView) (plans : Plans) (hs ts : List Handle) (step : Step) (o : Outcome) (us : List Use) → (target step ≡ Some n → found ≡ here) → AreOnce hs → StepGrows login plans found statement hs step o us ts → HasTape t (at_number ts n)
+      → RunsSo login t n here statement hs ts step o us
+  line_so here found statement plans hs ts steps.Conn o us same once r has = conn_line here statement plans hs ts o us r has
+  line_so here found statement plans hs ts (steps.Query m text) o us same once r has = asked_line here statement m (steps.Query m text) (calls.Query text) (asks_query m statement text) (always n here (is_some statement) (steps.Query m text) refl refl refl refl) hs ts o us r has
+  line_so here found statement plans hs ts (steps.Prepare m text) o us same once r has = asked_line here statement m (steps.Prepare m text) (calls.Prepare text) (asks_prepare m statement text) (always n here (is_some statement) (steps.Prepare m text) refl refl refl refl) hs ts o us r has
+  line_so here found (Some prepared) plans hs ts (steps.Execute m number params) o us same once r has = asked_line here (Some prepared) m (steps.Execute m number params) (calls.Execute prepared params) (asks_execute m prepared number params) (record { beside = either (λ b. is_missing n b (steps.Execute m number params)) refl refl here; statements = refl }) hs ts o us r has
+  line_so here found None plans hs ts (steps.Execute m number params) o us same once r has = unprepared_line here m (steps.Execute m number params) refl (either (λ b. is_missing n b (steps.Execute m number params)) refl refl) refl hs ts o us r has
+  line_so here found (Some prepared) plans hs ts (steps.CloseStatement m number) o us same once r has = asked_line here (Some prepared) m (steps.CloseStatement m number) (calls.CloseStmt prepared.inner.id) (asks_close m prepared number) (record { beside = either (λ b. is_missing n b (steps.CloseStatement m number)) refl refl here; statements = refl }) hs ts o us r has
+  line_so here found None plans hs ts (steps.CloseStatement m number) o us same once r has = unprepared_line here m (steps.CloseStatement m number) refl (either (λ b. is_missing n b (steps.CloseStatement m number)) refl refl) refl hs ts o us r has
+  line_so here found statement plans hs ts (steps.Next m) o us same once r has = asked_line here statement m (steps.Next m) calls.NextRow (asks_next m statement) (always n here (is_some statement) (steps.Next m) refl refl refl refl) hs ts o us r has
+  line_so here found statement plans hs ts (steps.Collect m) o us same once r has = named_line here statement m _ (steps.Collect m) (always n here (is_some statement) (steps.Collect m) refl refl refl refl) refl (λ z vs made e. e) hs ts o us
       (λ made h d e. subst (λ z. StepSo login t z statement (at_number hs m) made (steps.Collect m) o us) e (collects_so login t all m statement (at_number hs m) made o us h d)) r has
-  line_so there found statement plans hs ts (steps.Drop m) o us same once r has = named_line there statement m _ (steps.Drop m) (always n there (is_some statement) (steps.Drop m) refl refl refl refl) refl (λ z vs made e. e) hs ts o us
-      (λ made h d e. subst (λ z. StepSo login t z statement (at_number hs m) made (steps.Drop m) o us) e (calls_so login t all m statement (steps.Drop m) calls.DropResult (asks_drop m statement) (at_number hs m) made o us h d)) r has
-  line_so there found statement plans hs ts (steps.Ping m) o us same once r has = named_line there statement m _ (steps.Ping m) (always n there (is_some statement) (steps.Ping m) refl refl refl refl) refl (λ z vs made e. e) hs ts o us
-      (λ made h d e. subst (λ z. StepSo login t z statement (at_number hs m) made (steps.Ping m) o us) e (calls_so login t all m statement (steps.Ping m) calls.Ping (asks_ping m statement) (at_number hs m) made o us h d)) r has
-  line_so there found statement plans hs ts (steps.Reset m) o us same once r has = named_line there statement m _ (steps.Reset m) (always n there (is_some statement) (steps.Reset m) refl refl refl refl) refl (λ z vs made e. e) hs ts o us
-      (λ made h d e. subst (λ z. StepSo login t z statement (at_number hs m) made (steps.Reset m) o us) e (calls_so login t all m statement (steps.Reset m) calls.Reset (asks_reset m statement) (at_number hs m) made o us h d)) r has
-  line_so there found statement plans hs ts (steps.Quit m) o us same once r has = named_line there statement m _ (steps.Quit m) (always n there (is_some statement) (steps.Quit m) refl refl refl refl) refl (λ z vs made e. e) hs ts o us
-      (λ made h d e. subst (λ z. StepSo login t z statement (at_number hs m) made (steps.Quit m) o us) e (calls_so login t all m statement (steps.Quit m) calls.Quit (asks_quit m statement) (at_number hs m) made o us h d)) r has
-  line_so there found statement plans hs ts (steps.Stream m) o us same once r has = named_line there statement m _ (steps.Stream m) (always n there (is_some statement) (steps.Stream m) refl refl refl refl) refl (λ z vs made e. e) hs ts o us
+  line_so here found statement plans hs ts (steps.Drop m) o us same once r has = asked_line here statement m (steps.Drop m) calls.DropResult (asks_drop m statement) (always n here (is_some statement) (steps.Drop m) refl refl refl refl) hs ts o us r has
+  line_so here found statement plans hs ts (steps.Ping m) o us same once r has = asked_line here statement m (steps.Ping m) calls.Ping (asks_ping m statement) (always n here (is_some statement) (steps.Ping m) refl refl refl refl) hs ts o us r has
+  line_so here found statement plans hs ts (steps.Reset m) o us same once r has = asked_line here statement m (steps.Reset m) calls.Reset (asks_reset m statement) (always n here (is_some statement) (steps.Reset m) refl refl refl refl) hs ts o us r has
+  line_so here found statement plans hs ts (steps.Begin m opts) o us same once r has = asked_line here statement m (steps.Begin m opts) (calls.Begin opts) (asks_begin m statement opts) (always n here (is_some statement) (steps.Begin m opts) refl refl refl refl) hs ts o us r has
+  line_so here found statement plans hs ts (steps.Rollback m) o us same once r has = where_found here found statement m (steps.Rollback m) calls.Rollback (asks_rollback m statement) refl refl (either (λ b. is_unprepared n b (steps.Rollback m)) refl refl) same hs ts o us r has
+  line_so here found statement plans hs ts (steps.ForgetTransaction m) o us same once r has = where_found here found statement m (steps.ForgetTransaction m) calls.ForgetTransaction (asks_forget m statement) refl refl (either (λ b. is_unprepared n b (steps.ForgetTransaction m)) refl refl) same hs ts o us r has
+  line_so here found statement plans hs ts (steps.Quit m) o us same once r has = asked_line here statement m (steps.Quit m) calls.Quit (asks_quit m statement) (always n here (is_some statement) (steps.Quit m) refl refl refl refl) hs ts o us r has
+  line_so here found statement plans hs ts (steps.Stream m) o us same once r has = named_line here statement m _ (steps.Stream m) (always n here (is_some statement) (steps.Stream m) refl refl refl refl) refl (λ z vs made e. e) hs ts o us
       (λ made h d e. subst (λ z. StepSo login t z statement (at_number hs m) made (steps.Stream m) o us) e (streams_so login t all m statement (at_number hs m) made o us h d)) r has
-  line_so there true statement plans hs ts (steps.Item m) o us same once r has = named_line there statement m _ (steps.Item m) (record { streams = found_there (λ b. is_missing n b (steps.Item m)) m refl refl there same; statements = either (λ b. is_unprepared n b (steps.Item m)) refl refl (is_some statement) }) refl (λ z vs made e. e) hs ts o us
-      (λ made h d e. subst (λ z. StepSo login t z statement (at_number hs m) made (steps.Item m) o us) e (calls_so login t all m statement (steps.Item m) calls.NextRow (asks_item m statement) (at_number hs m) made o us h d)) r has
-  line_so there false statement plans hs ts (steps.Item m) o us same once r has = missed_line there statement m (steps.Item m) refl
-      (λ other. record { streams = either (λ b. is_missing n b (steps.Item m)) refl other there; statements = either (λ b. is_unprepared n b (steps.Item m)) refl refl (is_some statement) })
-      (streamless there (is_some statement) m (steps.Item m) refl (λ b. refl) same) hs ts o us r has
-  line_so there true statement plans hs ts (steps.Unstream m) o us same once r has = named_line there statement m _ (steps.Unstream m) (record { streams = found_there (λ b. is_missing n b (steps.Unstream m)) m refl refl there same; statements = either (λ b. is_unprepared n b (steps.Unstream m)) refl refl (is_some statement) }) refl (λ z vs made e. e) hs ts o us
+  line_so here found statement plans hs ts (steps.Item m) o us same once r has = where_found here found statement m (steps.Item m) calls.NextRow (asks_item m statement) refl refl (either (λ b. is_unprepared n b (steps.Item m)) refl refl) same hs ts o us r has
+  line_so here true statement plans hs ts (steps.Unstream m) o us same once r has = named_line here statement m _ (steps.Unstream m) (record { beside = found_there (λ b. is_missing n b (steps.Unstream m)) m refl refl here same; statements = either (λ b. is_unprepared n b (steps.Unstream m)) refl refl (is_some statement) }) refl (λ z vs made e. e) hs ts o us
       (λ made h d e. subst (λ z. StepSo login t z statement (at_number hs m) made (steps.Unstream m) o us) e (lets_go_so login t all m statement (at_number hs m) made o us h d)) r has
-  line_so there false statement plans hs ts (steps.Unstream m) o us same once r has = missed_line there statement m (steps.Unstream m) refl
-      (λ other. record { streams = either (λ b. is_missing n b (steps.Unstream m)) refl other there; statements = either (λ b. is_unprepared n b (steps.Unstream m)) refl refl (is_some statement) })
-      (streamless there (is_some statement) m (steps.Unstream m) refl (λ b. refl) same) hs ts o us r has
-  line_so there found statement plans hs ts (steps.Fields m) o us same once r has = named_line there statement m _ (steps.Fields m) (always n there (is_some statement) (steps.Fields m) refl refl refl refl) refl (λ z vs made e. e) hs ts o us
+  line_so here false statement plans hs ts (steps.Unstream m) o us same once r has = missed_line here statement m (steps.Unstream m) refl
+      (λ other. record { beside = either (λ b. is_missing n b (steps.Unstream m)) refl other here; statements = either (λ b. is_unprepared n b (steps.Unstream m)) refl refl (is_some statement) })
+      (not_found here (is_some statement) m (steps.Unstream m) refl refl same) hs ts o us r has
+  line_so here found statement plans hs ts (steps.Fields m) o us same once r has = named_line here statement m _ (steps.Fields m) (always n here (is_some statement) (steps.Fields m) refl refl refl refl) refl (λ z vs made e. e) hs ts o us
       (λ made h d e. subst (λ z. StepSo login t z statement (at_number hs m) made (steps.Fields m) o us) e (tells_so login t all m statement (at_number hs m) made o us h d)) r has
-  line_so there found statement plans hs ts (steps.Poll m) o us same once r has = named_line there statement m _ (steps.Poll m) (always n there (is_some statement) (steps.Poll m) refl refl refl refl) refl (λ z vs made e. e) hs ts o us
+  line_so here found statement plans hs ts (steps.Poll m) o us same once r has = named_line here statement m _ (steps.Poll m) (always n here (is_some statement) (steps.Poll m) refl refl refl refl) refl (λ z vs made e. e) hs ts o us
       (λ made h d e. subst (λ z. StepSo login t z statement (at_number hs m) made (steps.Poll m) o us) e (goes_on_so login t all m statement plans (at_number hs m) made o us (at_once login hs m once) h d)) r has
-  line_so there found statement plans hs ts (steps.Cancel m) o us same once r has = named_line there statement m _ (steps.Cancel m) (always n there (is_some statement) (steps.Cancel m) refl refl refl refl) refl (λ z vs made e. e) hs ts o us
+  line_so here found statement plans hs ts (steps.Cancel m) o us same once r has = named_line here statement m _ (steps.Cancel m) (always n here (is_some statement) (steps.Cancel m) refl refl refl refl) refl (λ z vs made e. e) hs ts o us
       (λ made h d e. subst (λ z. StepSo login t z statement (at_number hs m) made (steps.Cancel m) o us) e (cancels_so login t all m statement (at_number hs m) made o us (at_once login hs m once) h d)) r has
-  line_so there found statement plans hs ts (steps.Advance by) o us same once r has = moved_line there statement hs ts (steps.Advance by) o us refl r has
-  line_so there found statement plans hs ts (steps.Random word) o us same once r has = moved_line there statement hs ts (steps.Random word) o us refl r has
+  line_so here found statement plans hs ts (steps.Advance by) o us same once r has = moved_line here statement hs ts (steps.Advance by) o us refl r has
+  line_so here found statement plans hs ts (steps.Random word) o us same once r has = moved_line here statement hs ts (steps.Random word) o us refl r has

@@ -7,7 +7,8 @@ use Rattle.my_reading.specs.Endings.{AreCalls, IsCall}
 use Rattle.my_reading.specs.Reading.{reading}
 use Rattle.my_reading.specs.Tape.{Span, Tape, between}
 use Rattle.my_script.specs.declared.step.Step.{Step}
-use Rattle.my_script.specs.Streams.{is_there, target}
+use Rattle.my_script.specs.Beside.{finds}
+use Rattle.my_script.specs.Streams.{target}
 use Rattle.my_script.specs.declared.transcript.StepAnswer.{StepAnswer}
 use Rattle.my_acts.specs.declared.act.Status.{Status}
 use Rattle.my_acts.specs.declared.act.Status.TheVariants as status
@@ -18,7 +19,7 @@ use Rattle.my_client.specs.Reads.{calls_kept, tape_kept}
 use Rattle.my_judge.specs.Reads.{read_of}
 use Rattle.my_judge.specs.Settled.{settled}
 use Rattle.my_world.specs.World.{Plans}
-use Rattle.my_steps.specs.Grows.{AreGrown, Line, StepGrows, handles_after, is_streamed, statements_of, stream_of}
+use Rattle.my_steps.specs.Grows.{AreGrown, Line, StepGrows, beside_of, handles_after, is_found, statements_of}
 use Rattle.my_steps.specs.Handle.{Handle, Absent, Dialing, Joined, at_number}
 use Rattle.my_run.specs.Headline.{AnswerView, answer_view, answers_of, steps_of}
 use Rattle.run_laws.proofs.Connecting.{grown_once}
@@ -35,7 +36,7 @@ use Rattle.judge_laws.proofs.Running.{Placed, RunsLine, RunsSo, line_so}
 
 -- the lines, by what is shown of their answers
 abbrev act_shown : ℕ → Made → Walk → Step → AnswerView → Act
-act_shown n m w step v = act_with (is_there m.stream) (is_some (statement_for m step)) w.spot.status n w.spot.next w.closed step v.outcome (length v.uses)
+act_shown n m w step v = act_with (finds m.beside step) (is_some (statement_for m step)) w.spot.status n w.spot.next w.closed step v.outcome (length v.uses)
 
 abbrev LineShown : Login → ℕ → TapeSeen → ℕ → Made → Walk → Step → AnswerView → Type 0
 LineShown login n t k m w step v = (v.number ≡ k + 1) × ActRight login n t (statement_for m step) w step v.outcome v.uses (act_shown n m w step v)
@@ -57,7 +58,7 @@ shown_lines login n t k m w (step ∷ ss) (b ∷ bs) r = (r.0, shown_lines login
 
 -- what lines made
 abbrev pub made_of : ℕ → List Line → Made
-made_of n ls = record { stream = stream_of n ls; statements = statements_of ls }
+made_of n ls = record { beside = beside_of n ls; statements = statements_of ls }
 
 module _ (login : Login) (plans : Plans) (t : Tape) (all : AreCalls login (reading login t).calls) (n : ℕ) where
   -- after these lines
@@ -77,14 +78,14 @@ module _ (login : Login) (plans : Plans) (t : Tape) (all : AreCalls login (readi
     reaches = λ ss vs r. r;
   }
   ran (l ∷ ls) grown has =
-      let there = is_there (stream_of n ls) in
+      let found = finds (beside_of n ls) l.step in
       let statement = statement_for (made_of n ls) l.step in
-      let grows : StepGrows login plans (is_streamed (target l.step) ls) statement (handles_after ls) l.step l.outcome l.uses l.handles =
+      let grows : StepGrows login plans (is_found (target l.step) l.step ls) statement (handles_after ls) l.step l.outcome l.uses l.handles =
       grown.0.answer in
-      let s : RunsSo login t n there statement (handles_after ls) l.handles l.step l.outcome l.uses =
-      line_so login t all n there (is_streamed (target l.step) ls) statement plans (handles_after ls) l.handles l.step l.outcome l.uses (ap (λ q. is_streamed q ls)) (grown_once login plans ls grown.1) grows has in
+      let s : RunsSo login t n found statement (handles_after ls) l.handles l.step l.outcome l.uses =
+      line_so login t all n found (is_found (target l.step) l.step ls) statement plans (handles_after ls) l.handles l.step l.outcome l.uses (ap (λ q. is_found q l.step ls)) (grown_once login plans ls grown.1) grows has in
       let before : RanSo ls = ran ls grown.1 s.back in
-      let line : RunsLine login t n there statement l.handles l.step l.outcome l.uses before.walk = s.forth before.walk before.placed in
+      let line : RunsLine login t n found statement l.handles l.step l.outcome l.uses before.walk = s.forth before.walk before.placed in
       let view : AnswerView = record { number = l.number; outcome = l.outcome; uses = l.uses } in
       let count : length (l ∷ ls) ≡ length ls + 1 = omega arith in
       record {

@@ -16,3 +16,5 @@ mod scripts;
 mod statements;
 #[cfg(test)]
 mod tables;
+#[cfg(test)]
+mod transactions;

@@ -69,6 +69,20 @@ const PREPARED_AGAIN: &str =
 // An OK is held, and what answers the next command.
 const HELD_OK: &str = "wait 0\npacket 0 1 00000002000000\nturn 0\nwait 0\n";
 
+// A server of version 5.6.4.
+const OLDER_GREETING: &str =
+    "packet 0 0 0a352e362e3400070000006162636465666768008ba22d02001f011500000000000000000000696a6b6c6d6e6f7071727374006d7973716c5f6e61746976655f70617373776f726400\nturn 0\npacket 0 2 00000002000000\nturn 0\n";
+
+// Two commands, or three, each of which an OK answers.
+const TWO_OKS: &str = "packet 0 1 00000002000000\nturn 0\npacket 0 1 00000002000000\nturn 0\n";
+
+const THREE_OKS: &str =
+    "packet 0 1 00000002000000\nturn 0\npacket 0 1 00000002000000\nturn 0\npacket 0 1 00000002000000\nturn 0\n";
+
+// An OK, an ERR, and two OKs.
+const OK_ERR_OKS: &str =
+    "packet 0 1 00000002000000\nturn 0\npacket 0 1 ff280423343230303058\nturn 0\npacket 0 1 00000002000000\nturn 0\npacket 0 1 00000002000000\nturn 0\n";
+
 /// A script: the word of its options, the lines of its links, and its steps.
 #[derive(Clone, Copy)]
 pub struct Script {
@@ -262,6 +276,29 @@ pub fn reset() -> [Script; 3] {
         plain(
             [GREETING, HELD_OK, ""],
             "conn\nreset 0\npoll 0\nreset 0\ncancel 0\nping 0\n",
+        ),
+    ]
+}
+
+/// Transactions: one that is given up, of which a ping tries twice to roll it back; one that is set up whole, another one in it,
+/// and its end; a server that is too old; one that is held and polled, and whose end is cancelled.
+pub fn transactions() -> [Script; 4] {
+    [
+        plain(
+            [GREETING, OK_ERR_OKS, ""],
+            "conn\nbegin 0\nforget 0\nping 0\nping 0\nforget 0\n",
+        ),
+        plain(
+            [GREETING, THREE_OKS, TWO_OKS],
+            "conn\nbegin 0 level=1 ro snapshot\nbegin 0\nrollback 0\nrollback 0\nping 0\n",
+        ),
+        plain(
+            [OLDER_GREETING, TWO_OKS, ""],
+            "conn\nbegin 0 ro\nbegin 0\nforget 0\nquit 0\nforget 0\n",
+        ),
+        plain(
+            [GREETING, HELD_OK, ""],
+            "conn\nbegin 0\nrollback 0\npoll 0\nrollback 0\ncancel 0\nping 0\n",
         ),
     ]
 }

@@ -36,7 +36,8 @@ fn positional(alloc: Global, value: Value) -> Result<Params, NoMemory> {
     Ok(Params::Positional(Listed::from(values)))
 }
 
-fn is_wrong_with(
+/// Whether a line is wrong with this step.
+pub fn is_wrong_with(
     alloc: Global,
     run: &mut Run,
     line: usize,

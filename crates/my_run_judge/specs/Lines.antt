@@ -17,7 +17,8 @@ use Rattle.my_reading.specs.Calls.{kind_of}
 use Rattle.my_reading.specs.Errors.{io_error}
 use Rattle.my_reading.specs.Place.{Place, facts_at, is_taken}
 use Rattle.my_script.specs.declared.step.Step.{Step}
-use Rattle.my_script.specs.Streams.{is_skip, is_there}
+use Rattle.my_script.specs.Beside.{finds}
+use Rattle.my_script.specs.Streams.{is_skip}
 use Rattle.my_script.specs.declared.transcript.Outcome.{Outcome}
 use Rattle.my_script.specs.declared.transcript.Outcome.TheVariants.{Done, Pending, SetEnd, NoSet, Row, Rows, Prepared, Flag, Fields, Connected, Failed, NoSuchHandle}
 use Rattle.my_script.specs.declared.transcript.StepAnswer.{StepAnswer}
@@ -262,7 +263,7 @@ after_act login t w outcome us act =
 
 -- what a line does at connection n, after what the earlier ones made
 abbrev pub act_in : ℕ → Made → Walk → Step → StepAnswer → Act
-act_in n m w step a = act_with (is_there m.stream) (is_some (statement_for m step)) w.spot.status n w.spot.next w.closed step
+act_in n m w step a = act_with (finds m.beside step) (is_some (statement_for m step)) w.spot.status n w.spot.next w.closed step
     a.outcome (length a.uses.items)
 
 abbrev pub IsLine : Login → ℕ → TapeSeen → Made → Walk → Step → StepAnswer → Type 0

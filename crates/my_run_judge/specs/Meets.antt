@@ -54,10 +54,12 @@ abbrev pub IoMet : IoError → Met → Type 0
 IoMet (ios.Io fault) m = KindMet fault.kind m
 IoMet (ios.Codec fault) m = IsInBytes m
 
--- Of the driver's own refusals a poll comes to those of a text to prepare and of parameters. A call that a closed connection refuses isn't
--- polled, and no call of a run takes too many bytes.
+-- Of the driver's own refusals a poll comes to those of a text to prepare, of parameters and of a transaction. A call that a closed connection
+-- refuses isn't polled, and no call of a run takes too many bytes.
 abbrev pub DriverMet : DriverError → Met → Type 0
 DriverMet drivers.MixedParams m = IsInBytes m
+DriverMet drivers.NestedTransaction m = IsInBytes m
+DriverMet drivers.ReadOnlyTransNotSupported m = IsInBytes m
 DriverMet (drivers.Params e) m = IsInBytes m
 DriverMet (drivers.StmtParamsMismatch required supplied) m = IsInBytes m
 DriverMet (drivers.StmtParamsNumberExceedsLimit supplied) m = IsInBytes m

@@ -17,7 +17,7 @@ use my_acts::{Act, Status, act_with};
 use my_frame::NoMemory;
 use my_grammar::Login;
 use my_judge::first_reader;
-use my_script::{Step, StepAnswer, Tape, is_there};
+use my_script::{Step, StepAnswer, Tape};
 use my_statements::Statement;
 use std::alloc::Global;
 
@@ -127,7 +127,7 @@ impl Walker {
         let named = made.statement_for(step);
         let uses = answer.uses.len();
         let act = act_with(
-            is_there(made.stream),
+            made.beside.finds(step),
             named.is_some(),
             spot.status,
             number,

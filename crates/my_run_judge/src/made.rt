@@ -1,19 +1,19 @@
-//! What the lines so far made of a stream at a connection, and of the prepared statements.
+//! What the lines so far made of a stream and a transaction at a connection, and of the prepared statements.
 
 ghost use Rattle.std.specs.Prelude.{◌≡◌, IfOk, OnOk};
 ghost use Rattle.std.specs.Option.{option_copied};
 ghost use Rattle.my_run_judge.specs.Made.{made_by, nothing_made, statement_for};
 
 use my_frame::NoMemory;
-use my_script::{NumberedStatements, Outcome, Step, Stream, named_statement, stream_by};
+use my_script::{Beside, NumberedStatements, Outcome, Step, named_statement};
 use my_statements::Statement;
 use std::alloc::Global;
 
 /// What the lines so far made.
 #[derive(Drop)]
 pub struct Made {
-    /// Of a stream at the connection.
-    pub stream: Stream,
+    /// Of a stream and a transaction at the connection.
+    pub beside: Beside,
     /// Of the prepared statements, of all connections.
     pub statements: NumberedStatements,
 }
@@ -24,7 +24,7 @@ impl Made {
         ensures { result ≡ nothing_made }
     {
         Made {
-            stream: Stream::Without,
+            beside: Beside::new(),
             statements: NumberedStatements::new(alloc),
         }
     }
@@ -49,7 +49,7 @@ impl Made {
     ) -> Result<(), NoMemory>
         ensures { OnOk result (self.new ≡ made_by number self.old step.now outcome.now) }
     {
-        self.stream = stream_by(number, self.stream, step, outcome);
+        self.beside = self.beside.by(number, step, outcome);
         self.statements.note(alloc, step, outcome)
     }
 }

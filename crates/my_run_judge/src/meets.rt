@@ -75,6 +75,8 @@ fn driver_met(error: &DriverError, met: &Met) -> bool
 {
     match error {
         DriverError::MixedParams
+        | DriverError::NestedTransaction
+        | DriverError::ReadOnlyTransNotSupported
         | DriverError::Params(_)
         | DriverError::StmtParamsMismatch { .. }
         | DriverError::StmtParamsNumberExceedsLimit { .. } => is_in_bytes(met),

@@ -22,6 +22,7 @@ use crate::answered::{
     is_statement,
 };
 use my_frame::Blob;
+use my_opts_parts::TxOpts;
 use my_params::Params;
 use my_reading::{Answer, Call, Error};
 use my_script::{Outcome, Step, TapeCall};
@@ -171,6 +172,33 @@ fn is_reset(call: &Call) -> bool
     }
 }
 
+fn is_begin(opts: TxOpts, call: &Call) -> bool
+    ensures { Decides result (call.now ≡ Call.Begin opts) }
+{
+    match call {
+        Call::Begin(other) => *other == opts,
+        _ => false,
+    }
+}
+
+fn is_rollback(call: &Call) -> bool
+    ensures { Decides result (call.now ≡ Call.Rollback) }
+{
+    match call {
+        Call::Rollback => true,
+        _ => false,
+    }
+}
+
+fn is_forget(call: &Call) -> bool
+    ensures { Decides result (call.now ≡ Call.ForgetTransaction) }
+{
+    match call {
+        Call::ForgetTransaction => true,
+        _ => false,
+    }
+}
+
 fn is_quit(call: &Call) -> bool
     ensures { Decides result (call.now ≡ Call.Quit) }
 {
@@ -195,6 +223,9 @@ fn begins(taken: bool, named: Option<&Statement>, step: &Step, call: &Call) -> b
         Step::Drop(_) => is_drop(call),
         Step::Ping(_) => is_ping(call),
         Step::Reset(_) => is_reset(call),
+        Step::Begin(_, opts) => is_begin(*opts, call),
+        Step::Rollback(_) => is_rollback(call),
+        Step::ForgetTransaction(_) => is_forget(call),
         Step::Quit(_) => is_quit(call),
         Step::Unstream(_)
         | Step::Fields(_)

@@ -5,6 +5,8 @@ use Rattle.std.proofs.lemmas.List.{append_assoc, append-nil}
 use Rattle.my_params.specs.declared.params.Params.{Params}
 use Rattle.my_statements.specs.Prepared.{StatementView}
 use Rattle.my_grammar.specs.declared.login.Login.{Login}
+use Rattle.my_reading.specs.declared.call.Call.{Call}
+use Rattle.my_reading.specs.declared.call.Call.TheVariants as calls
 use Rattle.my_link.specs.Link.{Told}
 use Rattle.my_link.specs.declared.dialer.DialItem.{DialItem}
 use Rattle.my_link.specs.declared.dialer.DialItem.TheVariants as items
@@ -18,7 +20,7 @@ use Rattle.my_script.specs.declared.transcript.Use.{Use}
 use Rattle.my_world.specs.declared.line.WorldLine.{WorldLine}
 use Rattle.my_world.specs.Plan.{all_given, dials_of}
 use Rattle.my_world.specs.World.{Plans, HeldBy, FailedBy, GivenBy}
-use Rattle.my_steps.specs.Grows.{At, AreGrown, Dials, Holds, Fails, Links, ClosesAt, ExecutesAt, GoesOn, ItemsAt, Line, StepGrows, UnstreamsAt, handles_after}
+use Rattle.my_steps.specs.Grows.{At, AreGrown, CallsWhere, Dials, Holds, Fails, Links, ClosesAt, ExecutesAt, GoesOn, Line, StepGrows, UnstreamsAt, handles_after}
 use Rattle.my_steps.specs.Handle.{Handle, Dialing, at_number}
 use Rattle.my_run.specs.Headline.{AnswerView, answer_view, answers_of, steps_of}
 use Rattle.my_run_judge.specs.Transcripts.{dialed_by}
@@ -125,6 +127,9 @@ module _ (login : Login) (plans : Plans) (lines : List WorldLine) (told : ArePla
       by_step (steps.Drop m) g e = (tt, stays e)
       by_step (steps.Ping m) g e = (tt, stays e)
       by_step (steps.Reset m) g e = (tt, stays e)
+      by_step (steps.Begin m opts) g e = (tt, stays e)
+      by_step (steps.Rollback m) g e = (tt, stays e)
+      by_step (steps.ForgetTransaction m) g e = (tt, stays e)
       by_step (steps.Quit m) g e = (tt, stays e)
       by_step (steps.Stream m) g e = (tt, stays e)
       by_step (steps.Item m) g e = (tt, stays e)
@@ -178,9 +183,9 @@ module _ (login : Login) (plans : Plans) (lines : List WorldLine) (told : ArePla
             let under = s.0 in
             (omega (arith, count, under), ap (λ (xs : List Handle). at_number xs n) r.others ∙ put_there m n r.made hs other ∙ s.1)
 
-    items_held : (there : Bool) (m : ℕ) (made : Handle) → ItemsAt there login m (Dialing (Some left)) o us made → made ≡ Dialing (Some left)
-    items_held true m made r = r.same
-    items_held false m made r = r.same
+    calls_held : (there : Bool) (m : ℕ) (call : Call) (made : Handle) → CallsWhere there login m call (Dialing (Some left)) o us made → made ≡ Dialing (Some left)
+    calls_held true m call made r = r.same
+    calls_held false m call made r = r.same
 
     unstreams_held : (there : Bool) (made : Handle) → UnstreamsAt there (Dialing (Some left)) o us made → made ≡ Dialing (Some left)
     unstreams_held true made r = r.same
@@ -211,9 +216,12 @@ module _ (login : Login) (plans : Plans) (lines : List WorldLine) (told : ArePla
     held_so there statement (steps.Drop m) r = (tt, refused m _ (λ made d. d.same) r)
     held_so there statement (steps.Ping m) r = (tt, refused m _ (λ made d. d.same) r)
     held_so there statement (steps.Reset m) r = (tt, refused m _ (λ made d. d.same) r)
+    held_so there statement (steps.Begin m opts) r = (tt, refused m _ (λ made d. d.same) r)
+    held_so there statement (steps.Rollback m) r = (tt, refused m _ (calls_held there m calls.Rollback) r)
+    held_so there statement (steps.ForgetTransaction m) r = (tt, refused m _ (calls_held there m calls.ForgetTransaction) r)
     held_so there statement (steps.Quit m) r = (tt, refused m _ (λ made d. d.same) r)
     held_so there statement (steps.Stream m) r = (tt, refused m _ (λ made d. d.same) r)
-    held_so there statement (steps.Item m) r = (tt, refused m _ (items_held there m) r)
+    held_so there statement (steps.Item m) r = (tt, refused m _ (calls_held there m calls.NextRow) r)
     held_so there statement (steps.Unstream m) r = (tt, refused m _ (unstreams_held there) r)
     held_so there statement (steps.Fields m) r = (tt, refused m _ (λ made d. d.same) r)
     held_so there statement (steps.Poll m) r = polled m r

@@ -28,7 +28,7 @@ use Rattle.my_plan_judge.specs.Left.{AreKept, IsKept, after_met, after_use, afte
 use Rattle.my_plan_judge.specs.Lines.{LinesKept}
 use Rattle.my_plan_judge.specs.Planned.{before_end}
 use Rattle.plan_laws.proofs.Spending.{left_at, left_is}
-use Rattle.plan_laws.proofs.Stepping.{Dials, DialsTo, Goes, HasFailed, HasLinked, HeldTo, IsHeld, IsLeft, Stays, WalksTo, calls_go, cancels_go, closes_go, collects_go, dials_go, executes_go, goes_on_go, items_go, streams_go, tells_go, unstreams_go}
+use Rattle.plan_laws.proofs.Stepping.{Dials, DialsTo, Goes, HasFailed, HasLinked, HeldTo, IsHeld, IsLeft, Stays, WalksTo, calls_go, calls_where_go, cancels_go, closes_go, collects_go, dials_go, executes_go, goes_on_go, streams_go, tells_go, unstreams_go}
 use Rattle.plan_laws.proofs.Walking.{NoneAt, StandsIn, WalkKept, none_kept, walk_kept, walks_elsewhere, walks_longer}
 
 -- the lines, by what is shown of their answers
@@ -226,9 +226,12 @@ module _ (login : Login) (plans : Plans) (reads_of : ℕ → List ReadItem) (wri
     line_so there statement hs ts (steps.Drop m) o us r = named m _ hs o us ts (λ h t. calls_go m (reads_of m) (writes_of m) login calls.DropResult o us h t) r
     line_so there statement hs ts (steps.Ping m) o us r = named m _ hs o us ts (λ h t. calls_go m (reads_of m) (writes_of m) login calls.Ping o us h t) r
     line_so there statement hs ts (steps.Reset m) o us r = named m _ hs o us ts (λ h t. calls_go m (reads_of m) (writes_of m) login calls.Reset o us h t) r
+    line_so there statement hs ts (steps.Begin m opts) o us r = named m _ hs o us ts (λ h t. calls_go m (reads_of m) (writes_of m) login (calls.Begin opts) o us h t) r
+    line_so there statement hs ts (steps.Rollback m) o us r = named m _ hs o us ts (λ h t. calls_where_go m (reads_of m) (writes_of m) there login calls.Rollback o us h t) r
+    line_so there statement hs ts (steps.ForgetTransaction m) o us r = named m _ hs o us ts (λ h t. calls_where_go m (reads_of m) (writes_of m) there login calls.ForgetTransaction o us h t) r
     line_so there statement hs ts (steps.Quit m) o us r = named m _ hs o us ts (λ h t. calls_go m (reads_of m) (writes_of m) login calls.Quit o us h t) r
     line_so there statement hs ts (steps.Stream m) o us r = named m _ hs o us ts (λ h t. streams_go m (reads_of m) (writes_of m) login o us h t) r
-    line_so there statement hs ts (steps.Item m) o us r = named m _ hs o us ts (λ h t. items_go m (reads_of m) (writes_of m) there login o us h t) r
+    line_so there statement hs ts (steps.Item m) o us r = named m _ hs o us ts (λ h t. calls_where_go m (reads_of m) (writes_of m) there login calls.NextRow o us h t) r
     line_so there statement hs ts (steps.Unstream m) o us r = named m _ hs o us ts (λ h t. unstreams_go m (reads_of m) (writes_of m) there o us h t) r
     line_so there statement hs ts (steps.Fields m) o us r = named m _ hs o us ts (λ h t. tells_go m (reads_of m) (writes_of m) login o us h t) r
     line_so there statement hs ts (steps.Poll m) o us r = named m _ hs o us ts (λ h t. goes_on_go m (reads_of m) (writes_of m) login plans (reads_are m) (writes_are m) o us h t) r

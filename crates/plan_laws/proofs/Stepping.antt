@@ -11,7 +11,7 @@ use Rattle.my_link.specs.declared.link.WriteItem.{WriteItem}
 use Rattle.my_link.specs.Looks.{Looks}
 use Rattle.my_reading.specs.declared.answer.Answer.TheVariants as answers
 use Rattle.my_reading.specs.declared.call.Call.{Call}
-use Rattle.my_reading.specs.declared.call.Call.TheVariants.{Execute, CloseStmt, NextRow, TakeSet, SkipTaken}
+use Rattle.my_reading.specs.declared.call.Call.TheVariants.{Execute, CloseStmt, TakeSet, SkipTaken}
 use Rattle.my_reading.specs.Calls.{kind_of}
 use Rattle.my_client.specs.declared.poll.After.{After}
 use Rattle.my_client.specs.declared.poll.After.TheVariants as after
@@ -20,7 +20,7 @@ use Rattle.my_script.specs.declared.transcript.Use.{Use}
 use Rattle.my_script.specs.Streams.{is_skip}
 use Rattle.my_world.specs.World.{Plans}
 use Rattle.my_client.specs.Kept.{Asked, Kept, asking, asked_by, first_asked, first_kept}
-use Rattle.my_steps.specs.Grows.{IsRefused, OnConnection, PolledOnce, IsClosed, Begins, BeginsOn, Calls, ConnectShows, Connects, HasPlan, Gathers, GathersOn, Collects, CollectsOn, CollectsAt, PollsOn, PollsCall, ThenTakes, Skips, Takes, TakesOn, StreamsAt, ItemsAt, LetsGoWith, UnstreamsAt, ExecutesAt, ClosesAt, GoesOnWith, GoesOn, CancelsWith, Cancels, TellsWith, TellsFields, is_done, skips_first}
+use Rattle.my_steps.specs.Grows.{IsRefused, OnConnection, PolledOnce, IsClosed, Begins, BeginsOn, Calls, ConnectShows, Connects, HasPlan, Gathers, GathersOn, Collects, CollectsOn, CollectsAt, PollsOn, PollsCall, ThenTakes, Skips, Takes, TakesOn, StreamsAt, CallsWhere, LetsGoWith, UnstreamsAt, ExecutesAt, ClosesAt, GoesOnWith, GoesOn, CancelsWith, Cancels, TellsWith, TellsFields, is_done, skips_first}
 use Rattle.my_steps.specs.Grows as grows
 use Rattle.my_steps.specs.Handle.{Handle, Absent, Dialing, Joined}
 use Rattle.my_steps.specs.Sums.{failed_use, held_use, quiet}
@@ -171,9 +171,9 @@ module _ (n : ℕ) (is : List ReadItem) (ws : List WriteItem) where
   pub streams_go : (login : Login) (o : Outcome) (us : List Use) (h t : Handle) → StreamsAt login n h o us t → Goes n is ws h us t
   streams_go login o us h t = on (λ k. TakesOn k.pending login n k) o us h t (λ k x. takes_on k.pending login k x o us t)
 
-  pub items_go : (b : Bool) (login : Login) (o : Outcome) (us : List Use) (h t : Handle) → ItemsAt b login n h o us t → Goes n is ws h us t
-  items_go true login o us h t r = calls_go login NextRow o us h t r
-  items_go false login o us h t r = refused h o us t r
+  pub calls_where_go : (b : Bool) (login : Login) (call : Call) (o : Outcome) (us : List Use) (h t : Handle) → CallsWhere b login n call h o us t → Goes n is ws h us t
+  calls_where_go true login call o us h t r = calls_go login call o us h t r
+  calls_where_go false login call o us h t r = refused h o us t r
 
   pub executes_go : (q : Option StatementView) (login : Login) (params : Params) (o : Outcome) (us : List Use) (h t : Handle) → ExecutesAt q login n params h o us t → Goes n is ws h us t
   executes_go (Some prepared) login params o us h t r = calls_go login (Execute prepared params) o us h t r

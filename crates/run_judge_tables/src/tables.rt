@@ -1,6 +1,7 @@
 //! Connections whose dial fails, isn't ready, or gives a link that doesn't answer, and steps that move the world.
 
 use crate::lines::{Lines, Meets, dial_fault};
+use my_opts_parts::TxOpts;
 use my_params::Params;
 use my_run_judge::Found;
 use my_script::{Outcome, Step};
@@ -120,5 +121,26 @@ fn a_statement_is_not_there(rt: HostRuntime) -> Result<(), Fail> {
     assert_eq!(rt; lines.found(alloc, true)?, Found::Right);
     lines.line(alloc, Step::CloseStatement(0, 0), Outcome::Done, &[])?;
     assert_eq!(rt; lines.found(alloc, true)?, Found::Wrong(3));
+    Ok(())
+}
+
+#[test]
+fn a_transaction_is_not_there(rt: HostRuntime) -> Result<(), Fail> {
+    let alloc = rt.alloc();
+    let mut lines = Lines::new(alloc);
+    let handshake = &[Meets::Nothing, Meets::Hold];
+    let begin = Step::Begin(0, TxOpts::new());
+    lines.line(alloc, Step::Conn, Outcome::Pending, handshake)?;
+    lines.line(alloc, begin, Outcome::NoSuchHandle, &[])?;
+    lines.line(alloc, Step::Rollback(0), Outcome::NoSuchHandle, &[])?;
+    lines.line(
+        alloc,
+        Step::ForgetTransaction(0),
+        Outcome::NoSuchHandle,
+        &[],
+    )?;
+    assert_eq!(rt; lines.found(alloc, true)?, Found::Right);
+    lines.line(alloc, Step::ForgetTransaction(0), Outcome::Done, &[])?;
+    assert_eq!(rt; lines.found(alloc, true)?, Found::Wrong(4));
     Ok(())
 }
