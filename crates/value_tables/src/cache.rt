@@ -1,10 +1,10 @@
 //! The cache of statements, beside a plain list.
 
+use crate::made::is_right;
 use my_frame::NoMemory;
 use my_statements::{SetColumns, StmtCache, StmtInner};
 use std::alloc::Global;
 use std::sync::Arc;
-use std::test::Fail;
 
 /// How many numbers there are; the text of each is its byte.
 const NUMBERS: u8 = 8;
@@ -132,25 +132,46 @@ fn are_alike(alloc: Global, most: usize) -> Result<bool, NoMemory> {
     Ok(true)
 }
 
+// Calls by their words: a put of a statement, with the number of the one that has to go, `-` for none, or a look-up of one that is there.
+fn goes_by(alloc: Global, cache: &mut StmtCache, words: &[u8]) -> Result<bool, NoMemory> {
+    for word in words.chunks(2) {
+        let right = match word {
+            [id, b'f'] => cache.by_query(&[*id]).is_some(),
+            [id, b'-'] => put(alloc, cache, *id)?.is_none(),
+            [id, last] => put(alloc, cache, *id)? == Some(u32::from(*last)),
+            _ => false,
+        };
+        if !right {
+            return Ok(false);
+        }
+    }
+    Ok(true)
+}
+
+fn goes(alloc: Global, most: usize, words: &[u8]) -> Result<bool, NoMemory> {
+    let mut cache = StmtCache::new(alloc, most)?;
+    let right = goes_by(alloc, &mut cache, words);
+    drop(cache);
+    right
+}
+
 #[test]
-fn as_a_list(rt: HostRuntime) -> Result<(), Fail> {
-    assert!(rt; are_alike(rt.alloc(), 0)?);
-    assert!(rt; are_alike(rt.alloc(), 1)?);
-    assert!(rt; are_alike(rt.alloc(), 3)?);
-    assert!(rt; are_alike(rt.alloc(), 5)?);
-    Ok(())
+fn as_a_list(rt: HostRuntime) {
+    let alloc = rt.alloc();
+    assert!(rt;
+        is_right(are_alike(alloc, 0))
+            && is_right(are_alike(alloc, 1))
+            && is_right(are_alike(alloc, 3))
+            && is_right(are_alike(alloc, 5))
+    );
 }
 
 // The one that was put first goes, and one that was looked for stays.
 #[test]
-fn the_one_not_used_goes(rt: HostRuntime) -> Result<(), Fail> {
-    let mut cache = StmtCache::new(rt.alloc(), 1)?;
-    assert_eq!(rt; put(rt.alloc(), &mut cache, 1)?, None);
-    assert_eq!(rt; put(rt.alloc(), &mut cache, 2)?, Some(1));
-    let mut cache = StmtCache::new(rt.alloc(), 2)?;
-    assert_eq!(rt; put(rt.alloc(), &mut cache, 1)?, None);
-    assert_eq!(rt; put(rt.alloc(), &mut cache, 2)?, None);
-    assert!(rt; cache.by_query(&[1]).is_some());
-    assert_eq!(rt; put(rt.alloc(), &mut cache, 3)?, Some(2));
-    Ok(())
+fn the_one_not_used_goes(rt: HostRuntime) {
+    let alloc = rt.alloc();
+    assert!(rt;
+        is_right(goes(alloc, 1, b"\x01-\x02\x01"))
+            && is_right(goes(alloc, 2, b"\x01-\x02-\x01f\x03\x02"))
+    );
 }

@@ -1,13 +1,12 @@
 //! What values and rows convert to, and what is given back where they don't.
 
-use crate::made::{bytes, columns};
+use crate::made::{bytes, columns, is_right};
 use my_frame::{NoMemory, ReadError};
 use my_value::{
     FromRow, FromRowError, FromValue, FromValueError, Row, Value, from_row, from_value,
     read_text_row,
 };
 use std::alloc::Global;
-use std::test::Fail;
 
 // Whether a text converts.
 fn converts<T: FromValue + Drop>(alloc: Global, text: &[u8]) -> bool {
@@ -74,20 +73,22 @@ fn is_refused_text<T: FromValue + Drop>(alloc: Global, text: &[u8]) -> Result<bo
     is_refused::<T>(alloc, &bytes(alloc, text)?)
 }
 
-#[test]
-fn values(rt: HostRuntime) -> Result<(), Fail> {
-    let alloc = rt.alloc();
+fn are_decimals(alloc: Global) -> bool {
     for (text, fits) in DECIMALS {
-        assert!(rt; converts::<u8>(alloc, text) == *fits);
+        if converts::<u8>(alloc, text) != *fits {
+            return false;
+        }
     }
-    assert!(rt;
-        are_limits(alloc)
-            && are_plain(alloc)
-            && is_refused_text::<u8>(alloc, b"256")?
-            && is_refused::<i64>(alloc, &Value::FloatBits(0))?
-            && is_refused_text::<String>(alloc, b"\xff")?
-    );
-    Ok(())
+    true
+}
+
+fn are_converted(alloc: Global) -> bool {
+    are_decimals(alloc)
+        && are_limits(alloc)
+        && are_plain(alloc)
+        && is_right(is_refused_text::<u8>(alloc, b"256"))
+        && is_right(is_refused::<i64>(alloc, &Value::FloatBits(0)))
+        && is_right(is_refused_text::<String>(alloc, b"\xff"))
 }
 
 // The row of these cells.
@@ -116,19 +117,17 @@ fn is_pair(alloc: Global, row: &Row) -> Result<bool, NoMemory> {
 }
 
 // What a row of the cells 1 and 2 converts to, and doesn't.
-fn is_two(alloc: Global, row: &Row) -> Result<bool, NoMemory> {
-    Ok(
-        is_pair(alloc, row)?
-            && is_itself(alloc, row)?
-            && is_given_back::<(u8,)>(alloc, row)?
-            && is_given_back::<(u8, Option<bool>)>(alloc, row)?
-            && is_given_back::<(u8, u8, u8)>(alloc, row)?
-            && is_given_back::<(u8, u8, u8, u8)>(alloc, row)?,
-    )
+fn is_two(alloc: Global, row: &Row) -> bool {
+    is_right(is_pair(alloc, row))
+        && is_right(is_itself(alloc, row))
+        && is_right(is_given_back::<(u8,)>(alloc, row))
+        && is_right(is_given_back::<(u8, Option<bool>)>(alloc, row))
+        && is_right(is_given_back::<(u8, u8, u8)>(alloc, row))
+        && is_right(is_given_back::<(u8, u8, u8, u8)>(alloc, row))
 }
 
-fn tuples_are_well(alloc: Global) -> Result<bool, ReadError> {
-    Ok(is_two(alloc, &row(alloc, 2, b"\x01\x31\x01\x32")?)?)
+fn tuples_are_well(alloc: Global) -> bool {
+    matches!(&row(alloc, 2, b"\x01\x31\x01\x32"), Ok(row) if is_two(alloc, row))
 }
 
 fn is_read<T: FromRow + Drop>(
@@ -140,29 +139,31 @@ fn is_read<T: FromRow + Drop>(
 }
 
 // Whether a row of one cell converts, and one of two cells doesn't.
-fn only_one<T: FromRow + Drop>(alloc: Global) -> Result<bool, ReadError> {
-    Ok(is_read::<T>(alloc, 1, b"\x01\x31")? && !is_read::<T>(alloc, 2, b"\x01\x31\x01\x32")?)
+fn only_one<T: FromRow + Drop>(alloc: Global) -> bool {
+    matches!(&is_read::<T>(alloc, 1, b"\x01\x31"), Ok(true))
+        && matches!(&is_read::<T>(alloc, 2, b"\x01\x31\x01\x32"), Ok(false))
+}
+
+fn rows_are_converted(alloc: Global) -> bool {
+    tuples_are_well(alloc)
+        && only_one::<(u8,)>(alloc)
+        && only_one::<u8>(alloc)
+        && only_one::<u16>(alloc)
+        && only_one::<u32>(alloc)
+        && only_one::<u64>(alloc)
+        && only_one::<i8>(alloc)
+        && only_one::<i16>(alloc)
+        && only_one::<i32>(alloc)
+        && only_one::<i64>(alloc)
+        && only_one::<bool>(alloc)
+        && only_one::<String>(alloc)
+        && only_one::<Vec<u8>>(alloc)
+        && only_one::<Value>(alloc)
+        && only_one::<Option<u8>>(alloc)
 }
 
 #[test]
-fn rows(rt: HostRuntime) -> Result<(), Fail> {
+fn values_and_rows(rt: HostRuntime) {
     let alloc = rt.alloc();
-    assert!(rt;
-        tuples_are_well(alloc)?
-            && only_one::<(u8,)>(alloc)?
-            && only_one::<u8>(alloc)?
-            && only_one::<u16>(alloc)?
-            && only_one::<u32>(alloc)?
-            && only_one::<u64>(alloc)?
-            && only_one::<i8>(alloc)?
-            && only_one::<i16>(alloc)?
-            && only_one::<i32>(alloc)?
-            && only_one::<i64>(alloc)?
-            && only_one::<bool>(alloc)?
-            && only_one::<String>(alloc)?
-            && only_one::<Vec<u8>>(alloc)?
-            && only_one::<Value>(alloc)?
-            && only_one::<Option<u8>>(alloc)?
-    );
-    Ok(())
+    assert!(rt; are_converted(alloc) && rows_are_converted(alloc));
 }

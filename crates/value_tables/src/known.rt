@@ -1,10 +1,9 @@
 //! The columns that are known of statements.
 
-use crate::made::columns;
+use crate::made::{columns, is_right};
 use my_frame::NoMemory;
 use my_statements::{KnownColumns, SetColumns};
 use std::alloc::Global;
-use std::test::Fail;
 
 fn put(alloc: Global, known: &mut KnownColumns, id: u32, count: usize) -> Result<(), NoMemory> {
     known.put(id, SetColumns::from_columns(columns(alloc, count, 3, 0)?))
@@ -19,13 +18,12 @@ fn has(known: &KnownColumns, id: u32, count: usize) -> bool {
 }
 
 // Columns in place of others.
-fn are_replaced(alloc: Global) -> Result<bool, NoMemory> {
-    let mut known = KnownColumns::new(alloc)?;
+fn are_replaced(alloc: Global, known: &mut KnownColumns) -> Result<bool, NoMemory> {
     let none = known.get(1).is_none();
-    put(alloc, &mut known, 1, 0)?;
-    put(alloc, &mut known, 2, 1)?;
-    put(alloc, &mut known, 1, 2)?;
-    Ok(none && has(&known, 1, 2) && has(&known, 2, 1) && known.get(3).is_none())
+    put(alloc, known, 1, 0)?;
+    put(alloc, known, 2, 1)?;
+    put(alloc, known, 1, 2)?;
+    Ok(none && has(known, 1, 2) && has(known, 2, 1) && known.get(3).is_none())
 }
 
 // Puts the columns of the statements from 0 to 65,535.
@@ -37,18 +35,25 @@ fn put_many(known: &mut KnownColumns, columns: &SetColumns) -> Result<(), NoMemo
 }
 
 // With the 65,536th the first goes. The second is put again, so that the third goes next.
-fn first_goes(alloc: Global) -> Result<bool, NoMemory> {
+fn first_goes(alloc: Global, known: &mut KnownColumns) -> Result<bool, NoMemory> {
+    put_many(known, &SetColumns::new(alloc)?)?;
+    let first = known.get(0).is_none() && has(known, 1, 0) && has(known, 65_535, 0);
+    put(alloc, known, 1, 1)?;
+    put(alloc, known, 65_536, 1)?;
+    Ok(first && has(known, 1, 1) && known.get(2).is_none() && has(known, 65_536, 1))
+}
+
+fn are_known(alloc: Global, many: bool) -> Result<bool, NoMemory> {
     let mut known = KnownColumns::new(alloc)?;
-    put_many(&mut known, &SetColumns::new(alloc)?)?;
-    let first = known.get(0).is_none() && has(&known, 1, 0) && has(&known, 65_535, 0);
-    put(alloc, &mut known, 1, 1)?;
-    put(alloc, &mut known, 65_536, 1)?;
-    Ok(first && has(&known, 1, 1) && known.get(2).is_none() && has(&known, 65_536, 1))
+    if many {
+        first_goes(alloc, &mut known)
+    } else {
+        are_replaced(alloc, &mut known)
+    }
 }
 
 #[test]
-fn columns_are_known(rt: HostRuntime) -> Result<(), Fail> {
+fn columns_are_known(rt: HostRuntime) {
     let alloc = rt.alloc();
-    assert!(rt; are_replaced(alloc)? && first_goes(alloc)?);
-    Ok(())
+    assert!(rt; is_right(are_known(alloc, false)) && is_right(are_known(alloc, true)));
 }

@@ -40,3 +40,8 @@ pub fn columns(
 pub fn bytes(alloc: Global, text: &[u8]) -> Result<Value, NoMemory> {
     Ok(Value::Bytes(Blob::from_slice(alloc, text)?))
 }
+
+/// Whether what was tried is right; out of memory it isn't.
+pub fn is_right<E: Drop>(tried: Result<bool, E>) -> bool {
+    matches!(&tried, Ok(true))
+}

@@ -1,10 +1,10 @@
 //! Many names with many pairs, which aren't compared each with each.
 
+use crate::made::is_right;
 use my_frame::{Blob, Listed, NoMemory};
 use my_params::{Params, ParamsError, into_values};
 use my_value::Value;
 use std::alloc::Global;
-use std::test::Fail;
 
 const COUNT: u32 = 3_000;
 
@@ -65,8 +65,7 @@ fn is_missing(alloc: Global) -> Result<bool, NoMemory> {
 
 // Of two pairs with one name the second counts, and the name that has none is named.
 #[test]
-fn many_names_are_filled(rt: HostRuntime) -> Result<(), Fail> {
+fn many_names_are_filled(rt: HostRuntime) {
     let alloc = rt.alloc();
-    assert!(rt; are_filled(alloc)? && is_missing(alloc)?);
-    Ok(())
+    assert!(rt; is_right(are_filled(alloc)) && is_right(is_missing(alloc)));
 }

@@ -1,9 +1,9 @@
 //! Names of parameters in texts.
 
+use crate::made::is_right;
 use my_frame::{Blob, NoMemory};
 use my_params::{ParseFault, ParsedNamedParams};
 use std::alloc::Global;
-use std::test::Fail;
 
 /// Texts, what is prepared of each, and its names with a comma after each; nothing is prepared of a mixed text.
 const TEXTS: &[(&[u8], &[u8], &[u8])] = &[
@@ -76,10 +76,9 @@ fn is_parsed(alloc: Global, text: &[u8], query: &[u8], names: &[u8]) -> Result<b
 }
 
 #[test]
-fn names(rt: HostRuntime) -> Result<(), Fail> {
+fn names(rt: HostRuntime) {
     let alloc = rt.alloc();
     for (text, query, names) in TEXTS {
-        assert!(rt; is_parsed(alloc, text, query, names)?);
+        assert!(rt; is_right(is_parsed(alloc, text, query, names)));
     }
-    Ok(())
 }

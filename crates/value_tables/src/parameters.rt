@@ -1,13 +1,12 @@
 //! Parameters, and the payloads that carry them.
 
-use crate::made::bytes;
+use crate::made::{bytes, is_right};
 use my_command::statement::{ParameterType, put_bulk_head};
 use my_frame::{Blob, Listed, NoMemory};
 use my_params::bulk::{bulk_list_len, join_types, put_bulk_list, types_agree, types_of};
 use my_params::{Params, ParamsError, execute_body, into_values, parameter_of, values_for};
 use my_value::Value;
 use std::alloc::{AllocError, Global};
-use std::test::Fail;
 
 // The names foo, bar and foo.
 fn three_names(alloc: Global) -> Result<Vec<Blob>, NoMemory> {
@@ -79,16 +78,21 @@ fn are_kept(alloc: Global, params: Params, names: &[Blob]) -> bool {
     }
 }
 
-fn each_is_kept(alloc: Global, names: &[Blob]) -> Result<bool, NoMemory> {
-    Ok(
-        are_kept(alloc, three_pairs(alloc)?, names)
-            && are_kept(alloc, three_pairs(alloc)?, &[])
-            && are_kept(alloc, Params::Empty, names)
-            && are_kept(alloc, Params::Empty, &[])
-            && are_kept(alloc, placed(alloc, Value::Int(1))?, names)
-            && are_kept(alloc, placed(alloc, Value::Int(1))?, &[])
-            && are_kept(alloc, placed(alloc, Value::FloatBits(1))?, &[]),
-    )
+fn is_kept(alloc: Global, params: Result<Params, NoMemory>, names: &[Blob]) -> bool {
+    match params {
+        Ok(params) => are_kept(alloc, params, names),
+        Err(NoMemory) => false,
+    }
+}
+
+fn each_is_kept(alloc: Global, names: &[Blob]) -> bool {
+    is_kept(alloc, three_pairs(alloc), names)
+        && is_kept(alloc, three_pairs(alloc), &[])
+        && is_kept(alloc, Ok(Params::Empty), names)
+        && is_kept(alloc, Ok(Params::Empty), &[])
+        && is_kept(alloc, placed(alloc, Value::Int(1)), names)
+        && is_kept(alloc, placed(alloc, Value::Int(1)), &[])
+        && is_kept(alloc, placed(alloc, Value::FloatBits(1)), &[])
 }
 
 fn fills(alloc: Global, names: &[Blob]) -> Result<bool, NoMemory> {
@@ -119,19 +123,17 @@ fn is_other_kind(alloc: Global, value: Value, names: &[Blob]) -> Result<bool, No
     Ok(matches!(&into_values(alloc, values, names), Err(ParamsError::Kind)))
 }
 
-fn are_well(alloc: Global, names: &[Blob]) -> Result<bool, NoMemory> {
-    Ok(
-        fills(alloc, names)?
-            && each_is_kept(alloc, names)?
-            && lacks_foo(alloc, names)
-            && is_other_kind(alloc, Value::Int(1), names)?
-            && is_other_kind(alloc, Value::FloatBits(1), &[])?
-            && into_values(alloc, Params::Empty, &[]).is_ok(),
-    )
+fn are_well(alloc: Global, names: &[Blob]) -> bool {
+    is_right(fills(alloc, names))
+        && each_is_kept(alloc, names)
+        && lacks_foo(alloc, names)
+        && is_right(is_other_kind(alloc, Value::Int(1), names))
+        && is_right(is_other_kind(alloc, Value::FloatBits(1), &[]))
+        && into_values(alloc, Params::Empty, &[]).is_ok()
 }
 
-fn names_are_filled(alloc: Global) -> Result<bool, NoMemory> {
-    are_well(alloc, three_names(alloc)?.as_slice())
+fn names_are_filled(alloc: Global) -> bool {
+    matches!(&three_names(alloc), Ok(names) if are_well(alloc, names.as_slice()))
 }
 
 fn is_as_long(alloc: Global, values: &[Value], len: usize, long: bool) -> Result<bool, NoMemory> {
@@ -149,7 +151,7 @@ fn is_sent_long(alloc: Global, count: usize, len: usize, long: bool) -> Result<b
     is_as_long(alloc, values.as_slice(), len, long)
 }
 
-// Nine values: each kind, with two bytes of the bitmap.
+// Nine values, with two bytes of the bitmap, and two more: all kinds but texts.
 fn nth(place: u8) -> Value {
     match place {
         1 => Value::Int(-1),
@@ -159,6 +161,8 @@ fn nth(place: u8) -> Value {
         5 => Value::Date(0, 0, 0, 0, 0, 1, 0),
         6 => Value::Time(true, 0, 0, 0, 0, 0),
         7 => Value::Time(false, 0, 0, 0, 0, 1),
+        9 => Value::FloatBits(2),
+        10 => Value::DoubleBits(3),
         _ => Value::NULL,
     }
 }
@@ -202,25 +206,18 @@ fn agrees(alloc: Global, first: &[Value], other: &[Value]) -> Result<bool, NoMem
     Ok(types_agree(types.as_slice(), other))
 }
 
-fn lists_are_well(
-    alloc: Global,
-    first: &[Value],
-    second: &[Value],
-    other: &[Value],
-) -> Result<bool, NoMemory> {
-    Ok(
-        are_lists(alloc, first, second)?
-            && agrees(alloc, first, second)?
-            && !agrees(alloc, first, other)?
-            && !agrees(alloc, first, &[])?,
-    )
+fn lists_are_well(alloc: Global, first: &[Value], second: &[Value], other: &[Value]) -> bool {
+    is_right(are_lists(alloc, first, second))
+        && matches!(agrees(alloc, first, second), Ok(true))
+        && matches!(agrees(alloc, first, other), Ok(false))
+        && matches!(agrees(alloc, first, &[]), Ok(false))
 }
 
 fn lists_are_sent(alloc: Global) -> Result<bool, NoMemory> {
     let first = one(alloc, Value::Int(1))?;
     let second = one(alloc, Value::NULL)?;
     let other = one(alloc, Value::UInt(2))?;
-    lists_are_well(alloc, first.as_slice(), second.as_slice(), other.as_slice())
+    Ok(lists_are_well(alloc, first.as_slice(), second.as_slice(), other.as_slice()))
 }
 
 fn is_copied(alloc: Global, value: &Value) -> Result<bool, NoMemory> {
@@ -230,16 +227,12 @@ fn is_copied(alloc: Global, value: &Value) -> Result<bool, NoMemory> {
 
 // Each kind of value.
 fn values_are_copied(alloc: Global) -> Result<bool, NoMemory> {
-    Ok(
-        is_copied(alloc, &bytes(alloc, b"ab")?)?
-            && is_copied(alloc, &Value::NULL)?
-            && is_copied(alloc, &Value::Int(-1))?
-            && is_copied(alloc, &Value::UInt(1))?
-            && is_copied(alloc, &Value::FloatBits(2))?
-            && is_copied(alloc, &Value::DoubleBits(3))?
-            && is_copied(alloc, &Value::Date(1, 2, 3, 4, 5, 6, 7))?
-            && is_copied(alloc, &Value::Time(true, 1, 2, 3, 4, 5))?,
-    )
+    for place in 0..11 {
+        if !is_copied(alloc, &nth(place))? {
+            return Ok(false);
+        }
+    }
+    is_copied(alloc, &bytes(alloc, b"ab")?)
 }
 
 fn are_copied(alloc: Global, params: &Params) -> Result<bool, NoMemory> {
@@ -274,22 +267,22 @@ fn text_is_parameter(alloc: Global) -> Result<bool, NoMemory> {
     Ok(is_whole && is_parameter(alloc, &text, true, Some(b""))?)
 }
 
+fn are_right(alloc: Global) -> bool {
+    names_are_filled(alloc)
+        && is_right(is_sent_long(alloc, 16_777_197, 16_777_215, false))
+        && is_right(is_sent_long(alloc, 16_777_198, 14, true))
+        && is_right(nine_are_sent(alloc))
+        && is_right(are_sent(alloc, 2, &[], b"\x17\x02\0\0\0\0\x01\0\0\0"))
+        && is_right(lists_are_sent(alloc))
+        && is_right(values_are_copied(alloc))
+        && is_right(pairs_are_copied(alloc))
+        && is_right(text_is_parameter(alloc))
+        && is_right(is_parameter(alloc, &Value::NULL, true, None))
+}
+
 // Names are filled, each kind of value is sent and copied, and long texts are sent ahead: a body of one chunk and its last
 // byte, and one byte more. Bytes that were sent ahead are empty parameters, and NULL is none.
 #[test]
-fn parameters_are_sent(rt: HostRuntime) -> Result<(), Fail> {
-    let alloc = rt.alloc();
-    assert!(rt;
-        names_are_filled(alloc)?
-            && is_sent_long(alloc, 16_777_197, 16_777_215, false)?
-            && is_sent_long(alloc, 16_777_198, 14, true)?
-            && nine_are_sent(alloc)?
-            && are_sent(alloc, 2, &[], b"\x17\x02\0\0\0\0\x01\0\0\0")?
-            && lists_are_sent(alloc)?
-            && values_are_copied(alloc)?
-            && pairs_are_copied(alloc)?
-            && text_is_parameter(alloc)?
-            && is_parameter(alloc, &Value::NULL, true, None)?
-    );
-    Ok(())
+fn parameters_are_sent(rt: HostRuntime) {
+    assert!(rt; are_right(rt.alloc()));
 }

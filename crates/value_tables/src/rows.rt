@@ -1,10 +1,9 @@
 //! Rows of both protocols, cell by cell.
 
-use crate::made::columns;
+use crate::made::{columns, is_right};
 use my_frame::{NoMemory, ReadError};
 use my_value::{Columns, Row, Value, is_binary_row, is_text_row, read_binary_row, read_text_row};
 use std::alloc::{AllocError, Global};
-use std::test::Fail;
 
 /// What a cell is read as.
 #[derive(Clone, Copy)]
@@ -289,19 +288,41 @@ fn row_is_changed(alloc: Global) -> Result<bool, ReadError> {
     Ok(is_changed(alloc, &mut row, &whole)?)
 }
 
+fn are_cells(alloc: Global) -> bool {
+    for (column_type, flags, cell, want) in CELLS {
+        if !is_right(is_cell(alloc, *column_type, *flags, cell, *want)) {
+            return false;
+        }
+    }
+    true
+}
+
+fn are_of_seven(alloc: Global) -> bool {
+    for (payload, wants) in NULLS {
+        if !is_right(is_of_seven(alloc, payload, wants)) {
+            return false;
+        }
+    }
+    true
+}
+
+fn are_of_two(alloc: Global) -> bool {
+    for (payload, wants) in TEXTS {
+        if !is_right(is_of_two(alloc, payload, wants)) {
+            return false;
+        }
+    }
+    true
+}
+
 // A cell that was taken is NULL afterwards, in a copy too; rows compare by cells and columns.
 #[test]
-fn rows(rt: HostRuntime) -> Result<(), Fail> {
+fn rows(rt: HostRuntime) {
     let alloc = rt.alloc();
-    for (column_type, flags, cell, want) in CELLS {
-        assert!(rt; is_cell(alloc, *column_type, *flags, cell, *want)?);
-    }
-    for (payload, wants) in NULLS {
-        assert!(rt; is_of_seven(alloc, payload, wants)?);
-    }
-    for (payload, wants) in TEXTS {
-        assert!(rt; is_of_two(alloc, payload, wants)?);
-    }
-    assert!(rt; row_is_changed(alloc)?);
-    Ok(())
+    assert!(rt;
+        are_cells(alloc)
+            && are_of_seven(alloc)
+            && are_of_two(alloc)
+            && is_right(row_is_changed(alloc))
+    );
 }

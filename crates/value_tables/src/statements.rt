@@ -1,11 +1,10 @@
 //! Prepared statements as their callers hold them.
 
-use crate::made::columns;
+use crate::made::{columns, is_right};
 use my_frame::{Blob, Listed, NoMemory};
 use my_statements::{SetColumns, Statement, StmtInner};
 use std::alloc::Global;
 use std::sync::Arc;
-use std::test::Fail;
 
 // A statement with a parameter of this type and this name.
 fn statement(
@@ -43,26 +42,34 @@ fn is_copied(alloc: Global, one: &Statement) -> Result<bool, NoMemory> {
     Ok(is_told(&copy) && copy == *one)
 }
 
-fn is_other(one: &Statement, other: Statement) -> bool {
-    other == other && *one != other
+fn is_like(alloc: Global, one: &Statement) -> Result<bool, NoMemory> {
+    Ok(statement(alloc, 1, 2, 3, b"foo")? == *one)
+}
+
+fn is_other(
+    alloc: Global,
+    one: &Statement,
+    id: u32,
+    num_columns: u16,
+    column_type: u8,
+    name: &[u8],
+) -> Result<bool, NoMemory> {
+    let other = statement(alloc, id, num_columns, column_type, name)?;
+    Ok(other == other && *one != other)
 }
 
 // Another like it is equal; others are not: in their numbers, a parameter's column or its name.
-fn are_compared(alloc: Global, one: &Statement) -> Result<bool, NoMemory> {
-    let same = statement(alloc, 1, 2, 3, b"foo")?;
-    Ok(
-        same == *one
-            && is_other(one, statement(alloc, 2, 2, 3, b"foo")?)
-            && is_other(one, statement(alloc, 1, 1, 3, b"foo")?)
-            && is_other(one, statement(alloc, 1, 2, 4, b"foo")?)
-            && is_other(one, statement(alloc, 1, 2, 3, b"fo")?),
-    )
+fn are_compared(alloc: Global, one: &Statement) -> bool {
+    is_right(is_copied(alloc, one))
+        && is_right(is_like(alloc, one))
+        && is_right(is_other(alloc, one, 2, 2, 3, b"foo"))
+        && is_right(is_other(alloc, one, 1, 1, 3, b"foo"))
+        && is_right(is_other(alloc, one, 1, 2, 4, b"foo"))
+        && is_right(is_other(alloc, one, 1, 2, 3, b"fo"))
 }
 
 #[test]
-fn statements_are_compared(rt: HostRuntime) -> Result<(), Fail> {
+fn statements_are_compared(rt: HostRuntime) {
     let alloc = rt.alloc();
-    let one = statement(alloc, 1, 2, 3, b"foo")?;
-    assert!(rt; is_copied(alloc, &one)? && are_compared(alloc, &one)?);
-    Ok(())
+    assert!(rt; matches!(&statement(alloc, 1, 2, 3, b"foo"), Ok(one) if are_compared(alloc, one)));
 }
