@@ -13,9 +13,11 @@ use Rattle.my_grammar.specs.Response.{response}
 use Rattle.my_grammar.specs.Talk.{Talk, commands_in, context_of, limit_of, turns, number_of}
 use Rattle.my_reading.specs.declared.call.Call.{Call}
 use Rattle.my_reading.specs.declared.error.DriverError.{DriverError}
+use Rattle.my_reading.specs.declared.transaction.Trial.{Trial}
+use Rattle.my_reading.specs.declared.transaction.Trial.TheVariants as trials
 use Rattle.my_reading.specs.declared.call.Call.TheVariants.{Prepare}
 use Rattle.my_reading.specs.Calls.{statement_in, text_in}
-use Rattle.my_reading.specs.Course.{Part, All, Head, Item, Set, Rest, Command, Find, Check, Run, Reply, Keep, Give, Learn, Forget, Offered, Clear, Text, Flag, Undo, Undone, Refuse, Settle, GiveUp, Stop, Step, Goes, Stops, step, step_of, unless_owed, with_front, reads, after_payload, after_kind, after_err, unless_cached, unless_long_response, with_command, first_above, found, checked, executed, closing_of, learned, offered, undone, unless_refused, is_greeting, is_rows, parts_of, run, halt, enough}
+use Rattle.my_reading.specs.Course.{Part, All, Head, Item, Set, Rest, Command, Find, Check, Run, Reply, Keep, Give, Learn, Forget, Offered, Clear, Text, Flag, Undo, Undone, Refuse, Settle, GiveUp, Try, Back, Stop, Step, Goes, Stops, step, step_of, unless_owed, with_front, reads, after_payload, after_kind, after_err, unless_cached, unless_long_response, with_command, first_above, found, checked, executed, closing_of, learned, offered, undone, unless_refused, refused_at, returned, is_greeting, is_rows, parts_of, run, halt, enough}
 use Rattle.my_handshake.specs.Version.{version_of}
 use Rattle.my_reading.specs.Commands.{queried}
 use Rattle.my_reading.specs.Executions.{Values, Fitting, Unfitting, values_for}
@@ -27,6 +29,8 @@ use Rattle.my_reply.specs.declared.replies.PrepareOk.{PrepareOk}
 use Rattle.my_reply.specs.Replies.{prepare_ok_at}
 use Rattle.my_statements.specs.Cache.{Held}
 use Rattle.my_reading.specs.Rows.{row_of}
+use Rattle.my_reading.specs.Errors.{server_error}
+use Rattle.my_reading.specs.declared.error.ServerError.{ServerError}
 use Rattle.my_reading.specs.Told.{Told, ToldRow}
 use Rattle.my_reading.specs.Transactions.{begin_refusal, is_given_up, rollback_text}
 use Rattle.my_reading.specs.Versions.{can_reset}
@@ -37,7 +41,7 @@ weight false = 0
 weight true = 1
 
 size : List Part → Place → ℕ
-size parts p = suc (length p.unread + 2 * length parts + weight p.end_left)
+size parts p = suc (4 * length p.unread + 2 * length parts + weight p.end_left)
 
 size_of : Step → ℕ
 size_of (Goes parts p) = size parts p
@@ -51,7 +55,11 @@ either false x y n f g = g refl
 module _ (part : Part) (parts : List Part) (p : Place) (t : Talk) (rest : List ℕ) where
   -- after a payload: the bytes that follow it, and all parts
   abbrev left : ℕ
-  left = suc (length rest + 2 * suc (length parts))
+  left = suc (4 * length rest + 2 * suc (length parts))
+
+  -- after an ERR, in whose place two parts may come
+  abbrev redone : ℕ
+  redone = suc (4 * length rest + 4)
 
   abbrev new : Place
   new = with_talk p t rest
@@ -81,6 +89,8 @@ module _ (part : Part) (parts : List Part) (p : Place) (t : Talk) (rest : List �
       by_part (Refuse opts) k = omega arith
       by_part (Settle status) k = omega arith
       by_part GiveUp k = omega arith
+      by_part Try k = omega arith
+      by_part Back k = omega arith
       by_part Head (kinds.Good status) = omega arith
       by_part Head (kinds.Greets n) = omega arith
       by_part Head kinds.Failed = omega arith
@@ -118,10 +128,16 @@ module _ (part : Part) (parts : List Part) (p : Place) (t : Talk) (rest : List �
       by_part Set kinds.Field = omega arith
       by_part Set kinds.Bad = omega arith
 
-  err_size : (login : Login) (x : Option ErrPacket) → size_of (after_err login p new x) ≤ left
+  refused_size : (x : Trial) (e : ServerError) → size_of (refused_at x new e) ≤ redone
+  unfolding size_of size weight
+  refused_size trials.Off e = omega arith
+  refused_size trials.On e = omega arith
+  refused_size (trials.Refused first) e = omega arith
+
+  err_size : (login : Login) (x : Option ErrPacket) → size_of (after_err login p new x) ≤ redone
   unfolding size_of
   err_size login None = omega arith
-  err_size login (Some e) = omega arith
+  err_size login (Some e) = refused_size p.trial (server_error e)
 
   long_size : (login : Login) (payload : List ℕ) (b : Bool) → nat_lt (limit_of p.talk) (length (response login payload)) ≡ b
       → size_of (unless_long_response login p payload (Goes (part ∷ parts) new)) ≤ left
@@ -138,27 +154,27 @@ module _ (part : Part) (parts : List Part) (p : Place) (t : Talk) (rest : List �
       by_id true e = rw e (omega arith)
       by_id false e = rw e (omega arith)
 
-  payload_size : (login : Login) (payload : List ℕ) (k : Kind) → size_of (after_payload login part parts p new payload k) ≤ left
+  payload_size : (login : Login) (payload : List ℕ) (k : Kind) → size_of (after_payload login part parts p new payload k) ≤ left + 2
   unfolding size_of
   payload_size login payload kinds.Bad = omega arith
-  payload_size login payload kinds.Failed = err_size login (err_at (is_greeting (context_of p.talk).spot) payload)
-  payload_size login payload (kinds.Greets n) = long_size login payload (nat_lt (limit_of p.talk) (length (response login payload))) refl
-  payload_size login payload (kinds.Good status) = kind_size (ToldRow (row_of (context_of p.talk).rows (facts_at login p).columns payload)) (kinds.Good status)
-  payload_size login payload (kinds.Count n) = kind_size (ToldRow (row_of (context_of p.talk).rows (facts_at login p).columns payload)) (kinds.Count n)
-  payload_size login payload kinds.Column = kind_size (ToldRow (row_of (context_of p.talk).rows (facts_at login p).columns payload)) kinds.Column
-  payload_size login payload kinds.ColumnsDone = kind_size (ToldRow (row_of (context_of p.talk).rows (facts_at login p).columns payload)) kinds.ColumnsDone
-  payload_size login payload kinds.Row = kind_size (ToldRow (row_of (context_of p.talk).rows (facts_at login p).columns payload)) kinds.Row
-  payload_size login payload (kinds.End status) = kind_size (ToldRow (row_of (context_of p.talk).rows (facts_at login p).columns payload)) (kinds.End status)
-  payload_size login payload (kinds.Prepared params columns) = cached_size login (prepare_ok_at payload)
-  payload_size login payload kinds.Parameter = kind_size (ToldRow (row_of (context_of p.talk).rows (facts_at login p).columns payload)) kinds.Parameter
-  payload_size login payload kinds.Field = kind_size (ToldRow (row_of (context_of p.talk).rows (facts_at login p).columns payload)) kinds.Field
+  payload_size login payload kinds.Failed = let here = err_size login (err_at (is_greeting (context_of p.talk).spot) payload) in omega (arith, here)
+  payload_size login payload (kinds.Greets n) = let here = long_size login payload (nat_lt (limit_of p.talk) (length (response login payload))) refl in omega (arith, here)
+  payload_size login payload (kinds.Good status) = let here = kind_size (ToldRow (row_of (context_of p.talk).rows (facts_at login p).columns payload)) (kinds.Good status) in omega (arith, here)
+  payload_size login payload (kinds.Count n) = let here = kind_size (ToldRow (row_of (context_of p.talk).rows (facts_at login p).columns payload)) (kinds.Count n) in omega (arith, here)
+  payload_size login payload kinds.Column = let here = kind_size (ToldRow (row_of (context_of p.talk).rows (facts_at login p).columns payload)) kinds.Column in omega (arith, here)
+  payload_size login payload kinds.ColumnsDone = let here = kind_size (ToldRow (row_of (context_of p.talk).rows (facts_at login p).columns payload)) kinds.ColumnsDone in omega (arith, here)
+  payload_size login payload kinds.Row = let here = kind_size (ToldRow (row_of (context_of p.talk).rows (facts_at login p).columns payload)) kinds.Row in omega (arith, here)
+  payload_size login payload (kinds.End status) = let here = kind_size (ToldRow (row_of (context_of p.talk).rows (facts_at login p).columns payload)) (kinds.End status) in omega (arith, here)
+  payload_size login payload (kinds.Prepared params columns) = let here = cached_size login (prepare_ok_at payload) in omega (arith, here)
+  payload_size login payload kinds.Parameter = let here = kind_size (ToldRow (row_of (context_of p.talk).rows (facts_at login p).columns payload)) kinds.Parameter in omega (arith, here)
+  payload_size login payload kinds.Field = let here = kind_size (ToldRow (row_of (context_of p.talk).rows (facts_at login p).columns payload)) kinds.Field in omega (arith, here)
 
 -- a payload that is read is not empty of bytes
-reads_size : (login : Login) (part : Part) (parts : List Part) (p : Place) → size_of (reads login part parts p) < suc (length p.unread + 2 * suc (length parts))
+reads_size : (login : Login) (part : Part) (parts : List Part) (p : Place) → size_of (reads login part parts p) < suc (4 * length p.unread + 2 * suc (length parts))
 unfolding size_of
 reads_size login part parts p = by_front (front_of p.talk p.unread) refl
   where
-    by_front : (x : Front) → front_of p.talk p.unread ≡ x → size_of (with_front login part parts p x) < suc (length p.unread + 2 * suc (length parts))
+    by_front : (x : Front) → front_of p.talk p.unread ≡ x → size_of (with_front login part parts p x) < suc (4 * length p.unread + 2 * suc (length parts))
     by_front Waiting e = omega arith
     by_front (Broken fault) e = omega arith
     by_front (Whole payload rest next) e =
@@ -197,10 +213,16 @@ unfolding size_of size weight
 undone_size login call parts p true = command_size call parts p (Some (queried (terms_of login (exchanges p)) rollback_text))
 undone_size login call parts p false = omega arith
 
-refused_size : (parts : List Part) (p : Place) (x : Option DriverError) → size_of (unless_refused parts p x) ≤ size parts p
+unbegun_size : (parts : List Part) (p : Place) (x : Option DriverError) → size_of (unless_refused parts p x) ≤ size parts p
 unfolding size_of size weight
-refused_size parts p None = omega arith
-refused_size parts p (Some e) = omega arith
+unbegun_size parts p None = omega arith
+unbegun_size parts p (Some e) = omega arith
+
+returned_size : (p : Place) (x : Trial) → size_of (returned p x) ≤ 0
+unfolding size_of
+returned_size p trials.Off = omega arith
+returned_size p trials.On = omega arith
+returned_size p (trials.Refused first) = omega arith
 
 quiet_size : (parts : List Part) (p : Place) → p.end_left ≡ true → size parts (without_end p) < size parts p
 unfolding size weight
@@ -251,9 +273,14 @@ part_size login call (Text text ∷ parts) p = let here = command_size call part
 part_size login call (Flag flag ∷ parts) p = omega arith
 part_size login call (Undo ∷ parts) p = let here = undone_size login call parts p (is_given_up p.status) in omega (arith, here)
 part_size login call (Undone ∷ parts) p = omega arith
-part_size login call (Refuse opts ∷ parts) p = let here = refused_size parts p (begin_refusal opts (version_of (facts_at login p).version) p.status) in omega (arith, here)
+part_size login call (Refuse opts ∷ parts) p = let here = unbegun_size parts p (begin_refusal opts (version_of (facts_at login p).version) p.status) in omega (arith, here)
 part_size login call (Settle status ∷ parts) p = omega arith
 part_size login call (GiveUp ∷ parts) p = omega arith
+part_size login call (Try ∷ parts) p = omega arith
+part_size login call (Back ∷ parts) p =
+    let here = reads_size login Back parts p in
+    let there = returned_size p p.trial in
+    either (is_over p.talk) _ _ _ (λ _. omega (arith, there)) (λ _. omega (arith, here))
 
 some_size : (parts : List Part) (p : Place) → 0 < size parts p
 unfolding size
@@ -285,6 +312,6 @@ pub leads_to_course : LeadsToCourse
 unfolding size weight
 leads_to_course login call p rest r q s l e = leads_to_run (enough login call p) login call (parts_of login call) rest p r q s (by_end p.end_left) l e
   where
-    by_end : (u : Bool) → suc (length p.unread + 2 * length (parts_of login call) + weight u) ≤ enough login call p
+    by_end : (u : Bool) → suc (4 * length p.unread + 2 * length (parts_of login call) + weight u) ≤ enough login call p
     by_end true = omega arith
     by_end false = omega arith

@@ -14,9 +14,11 @@ use Rattle.my_grammar.specs.Response.{response}
 use Rattle.my_grammar.specs.Talk.{Talk, commands_in, context_of, limit_of, turns, number_of}
 use Rattle.my_reading.specs.declared.call.Call.{Call}
 use Rattle.my_reading.specs.declared.error.DriverError.{DriverError}
+use Rattle.my_reading.specs.declared.transaction.Trial.{Trial}
+use Rattle.my_reading.specs.declared.transaction.Trial.TheVariants as trials
 use Rattle.my_reading.specs.declared.call.Call.TheVariants.{Prepare}
 use Rattle.my_reading.specs.Calls.{statement_in, text_in}
-use Rattle.my_reading.specs.Course.{Part, All, Head, Item, Set, Rest, Command, Find, Check, Run, Reply, Keep, Give, Learn, Forget, Offered, Clear, Text, Flag, Undo, Undone, Refuse, Settle, GiveUp, Step, Goes, Stops, return, step, step_of, unless_owed, with_front, reads, after_payload, after_kind, after_err, unless_cached, unless_long_response, with_command, first_above, found, checked, executed, closing_of, learned, offered, undone, unless_refused, is_greeting, is_rows}
+use Rattle.my_reading.specs.Course.{Part, All, Head, Item, Set, Rest, Command, Find, Check, Run, Reply, Keep, Give, Learn, Forget, Offered, Clear, Text, Flag, Undo, Undone, Refuse, Settle, GiveUp, Try, Back, Step, Goes, Stops, return, step, step_of, unless_owed, with_front, reads, after_payload, after_kind, after_err, unless_cached, unless_long_response, with_command, first_above, found, checked, executed, closing_of, learned, offered, undone, unless_refused, refused_at, returned, is_greeting, is_rows}
 use Rattle.my_handshake.specs.Version.{version_of}
 use Rattle.my_reading.specs.Commands.{queried}
 use Rattle.my_reading.specs.Executions.{Values, Fitting, Unfitting, values_for}
@@ -28,6 +30,7 @@ use Rattle.my_reply.specs.declared.replies.PrepareOk.{PrepareOk}
 use Rattle.my_reply.specs.Replies.{prepare_ok_at}
 use Rattle.my_statements.specs.Cache.{Held}
 use Rattle.my_reading.specs.Rows.{row_of}
+use Rattle.my_reading.specs.Errors.{server_error}
 use Rattle.my_reading.specs.Told.{Told, ToldRow}
 use Rattle.my_reading.specs.Transactions.{begin_refusal, is_given_up, rollback_text}
 use Rattle.my_reading.specs.Versions.{can_reset}
@@ -83,6 +86,8 @@ module _ (login : Login) (sent taken : List ℕ) where
   kind_more (Refuse opts) parts k new row = refl
   kind_more (Settle status) parts k new row = refl
   kind_more GiveUp parts k new row = refl
+  kind_more Try parts k new row = refl
+  kind_more Back parts k new row = refl
   kind_more Head parts (kinds.Good status) new row = refl
   kind_more Head parts (kinds.Greets n) new row = refl
   kind_more Head parts kinds.Failed new row = refl
@@ -128,7 +133,12 @@ module _ (login : Login) (sent taken : List ℕ) where
         → after_err login (more p) (more new) x ≡ lift sent taken (after_err login p new x)
     unfolding lift
     err_more new None = refl
-    err_more new (Some e) = refl
+    err_more new (Some e) = by_trial p.trial
+      where
+        by_trial : (x : Trial) → refused_at x (more new) (server_error e) ≡ lift sent taken (refused_at x new (server_error e))
+        by_trial trials.Off = refl
+        by_trial trials.On = refl
+        by_trial (trials.Refused first) = refl
 
     long_more : (new : Place) (payload : List ℕ) (b : Bool)
         → nat_lt (limit_of p.talk) (length (response login payload)) ≡ b
@@ -239,6 +249,11 @@ module _ (login : Login) (sent taken : List ℕ) where
     no_stop : (r : Place) (t : Told) {x : Step} → return r t ≡ Goes rest q → x ≡ Goes rest (more q)
     no_stop r t f = cc
 
+    returned_more : (x : Trial) {y : Step} → returned p x ≡ Goes rest q → y ≡ Goes rest (more q)
+    returned_more trials.Off f = cc
+    returned_more trials.On f = cc
+    returned_more (trials.Refused first) f = cc
+
     part_more : (parts : List Part) → step_of login call parts p ≡ Goes rest q → step_of login call parts (more p) ≡ Goes rest (more q)
     unfolding lift
     part_more [] e = cc
@@ -282,6 +297,9 @@ module _ (login : Login) (sent taken : List ℕ) where
         refused_more parts p (begin_refusal opts (version_of (facts_at login p).version) p.status) ∙ ap (lift sent taken) e
     part_more (Settle status ∷ parts) e = ap (lift sent taken) e
     part_more (GiveUp ∷ parts) e = ap (lift sent taken) e
+    part_more (Try ∷ parts) e = ap (lift sent taken) e
+    part_more (Back ∷ parts) e =
+        either_more (is_over p.talk) _ _ _ _ (λ f. returned_more p.trial f) (reads_more Back parts p rest q) e
 
 pub step_stays : StepStays
 unfolding step

@@ -7,7 +7,7 @@ use Rattle.my_statements.specs.Prepared.{StatementView}
 use Rattle.my_reading.specs.declared.call.Call.{Call}
 use Rattle.my_reading.specs.declared.call.Call.TheVariants as calls
 use Rattle.my_reading.specs.declared.call.CallKind.{CallKind}
-use Rattle.my_reading.specs.declared.call.CallKind.TheVariants.{Connect, Query, Prepare, Execute, Batch, CloseStmt, NextRow, DropResult, TakeSet, SkipTaken, Ping, Reset, Begin, Rollback, ForgetTransaction, Quit}
+use Rattle.my_reading.specs.declared.call.CallKind.TheVariants.{Connect, Query, Prepare, Execute, Batch, CloseStmt, NextRow, DropResult, TakeSet, SkipTaken, Ping, Reset, Begin, Commit, Rollback, ForgetTransaction, Quit}
 
 abbrev pub kind_of : Call → CallKind
 kind_of calls.Connect = Connect
@@ -23,6 +23,7 @@ kind_of calls.SkipTaken = SkipTaken
 kind_of calls.Ping = Ping
 kind_of calls.Reset = Reset
 kind_of (calls.Begin opts) = Begin
+kind_of calls.Commit = Commit
 kind_of calls.Rollback = Rollback
 kind_of calls.ForgetTransaction = ForgetTransaction
 kind_of calls.Quit = Quit
@@ -77,6 +78,7 @@ call_of SkipTaken call = calls.SkipTaken
 call_of Ping call = calls.Ping
 call_of Reset call = calls.Reset
 call_of Begin call = calls.Begin (opts_in call)
+call_of Commit call = calls.Commit
 call_of Rollback call = calls.Rollback
 call_of ForgetTransaction call = calls.ForgetTransaction
 call_of Quit call = calls.Quit
@@ -91,6 +93,7 @@ asks CloseStmt = true
 asks Ping = true
 asks Reset = true
 asks Begin = true
+asks Commit = true
 asks Rollback = true
 asks Quit = true
 asks _ = false

@@ -12,7 +12,7 @@ use Rattle.my_grammar.specs.Talk.{Talk, Start, Queried, Preparing, Asked, Silent
 use Rattle.my_params.specs.LongData.{ahead_of}
 use Rattle.my_params.specs.Parameters.{body_of}
 use Rattle.my_reading.specs.declared.call.Call.{Call}
-use Rattle.my_reading.specs.declared.call.Call.TheVariants.{Connect, Query, Prepare, Execute, Batch, CloseStmt, NextRow, DropResult, TakeSet, SkipTaken, Ping, Reset, Begin, Rollback, ForgetTransaction, Quit}
+use Rattle.my_reading.specs.declared.call.Call.TheVariants.{Connect, Query, Prepare, Execute, Batch, CloseStmt, NextRow, DropResult, TakeSet, SkipTaken, Ping, Reset, Begin, Commit, Rollback, ForgetTransaction, Quit}
 use Rattle.my_reading.specs.Executions.{Values, Fitting, Unfitting, values_for}
 use Rattle.my_reading.specs.Statements.{Statements, known_in, query_of}
 
@@ -87,6 +87,7 @@ opening login terms st SkipTaken n = None
 opening login terms st Ping n = command_of terms st Ping
 opening login terms st Reset n = command_of terms st Reset
 opening login terms st (Begin opts) n = None
+opening login terms st Commit n = None
 opening login terms st Rollback n = None
 opening login terms st ForgetTransaction n = None
 opening login terms st Quit n = command_of terms st Quit

@@ -27,6 +27,9 @@ use Rattle.my_reading.specs.declared.error.DriverError.{DriverError}
 use Rattle.my_reading.specs.declared.error.Error.{Error}
 use Rattle.my_reading.specs.declared.error.Error.TheVariants.{Driver, Server}
 use Rattle.my_reading.specs.declared.facts.Facts.{Facts}
+use Rattle.my_reading.specs.declared.error.ServerError.{ServerError}
+use Rattle.my_reading.specs.declared.transaction.Trial.{Trial}
+use Rattle.my_reading.specs.declared.transaction.Trial.TheVariants as trials
 use Rattle.my_reading.specs.declared.transaction.TxStatus.{TxStatus}
 use Rattle.my_reading.specs.declared.transaction.TxStatus.TheVariants as txs
 use Rattle.my_reading.specs.Calls.{id_in, statement_in, text_in}
@@ -34,12 +37,12 @@ use Rattle.my_reading.specs.Commands.{arranging_texts, closing, execution, queri
 use Rattle.my_reading.specs.Errors.{codec_error, invalid_data, mixed_params, server_error}
 use Rattle.my_reading.specs.Executions.{Values, Fitting, Unfitting, values_for}
 use Rattle.my_reading.specs.Facts.{prepared_by}
-use Rattle.my_reading.specs.Place.{Place, exchanges, facts_at, owed, terms_of, without_end, with_end, with_statements, with_status, with_taken, with_talk, with_exchange, next_exchange}
+use Rattle.my_reading.specs.Place.{Place, exchanges, facts_at, owed, terms_of, without_end, with_end, with_statements, with_status, with_trial, with_taken, with_talk, with_exchange, next_exchange}
 use Rattle.my_reading.specs.Statements.{cleared, held_in, is_cached, is_mixed_text, leaving, names_of, query_of, statement_with, with_columns, with_fetched, with_prepared, without_statement}
 pub use Rattle.my_reading.specs.Place.{is_rows}
 use Rattle.my_reading.specs.Rows.{row_of}
 use Rattle.my_reading.specs.Told.{Told, ToldReady, ToldRow, ToldEnd, ToldNone, ToldStatement, ToldFlag, ToldError}
-use Rattle.my_reading.specs.Transactions.{begin_refusal, begin_texts, given_up, is_given_up, rollback_text, rolled_back}
+use Rattle.my_reading.specs.Transactions.{begin_refusal, begin_texts, commit_text, given_up, is_given_up, rollback_text, rolled_back}
 use Rattle.my_reading.specs.Versions.{can_reset}
 
 -- A part of a call: the rest of the newest exchange is read; it is read to the head of its first set, or to its next row or end; a stream
@@ -48,7 +51,8 @@ use Rattle.my_reading.specs.Versions.{can_reset}
 -- with parameters; the reply to a statement to prepare is read; its statement is kept, and the one that has to go for it is closed; it is
 -- returned; the columns of an execution's rows are learned; or a statement isn't kept any more. Of a reset: the server has the command, or
 -- nothing is sent and `false` is returned; no statement is kept any more; a query of the client's own is sent; or a flag is returned. Of
--- transactions: one that was given up is rolled back, and then there is none; one is refused; it stands so from now on; or it is given up.
+-- transactions: one that was given up is rolled back, and then there is none; one is refused; it stands so from now on; it is given up; it
+-- is to be committed; or it was rolled back since it couldn't be committed.
 pub data Part : Type 0 where
   All : Part
   Head : Part
@@ -73,6 +77,8 @@ pub data Part : Type 0 where
   Refuse : (opts : TxView) → Part
   Settle : (status : TxStatus) → Part
   GiveUp : Part
+  Try : Part
+  Back : Part
 
 -- each query that sets a connection up is sent, and its response read whole
 abbrev pub parts_of_texts : List (List ℕ) → List Part
@@ -113,6 +119,7 @@ parts_of login calls.SkipTaken = Rest ∷ []
 parts_of login calls.Ping = clean (Command ∷ All ∷ [])
 parts_of login calls.Reset = Offered ∷ clean (Command ∷ All ∷ Clear ∷ parts_of_queries (setup_texts login) (Flag true ∷ []))
 parts_of login (calls.Begin opts) = clean (Refuse opts ∷ parts_of_queries (begin_texts opts) (Settle txs.InTransaction ∷ []))
+parts_of login calls.Commit = Try ∷ clean (Text commit_text ∷ All ∷ Settle txs.None ∷ [])
 parts_of login calls.Rollback = Settle txs.RequiresRollback ∷ clean []
 parts_of login calls.ForgetTransaction = GiveUp ∷ []
 parts_of login calls.Quit = clean (Command ∷ [])
@@ -151,10 +158,15 @@ after_kind Item parts kinds.Row new row = return new row
 after_kind Set parts (kinds.Good status) new row = return (with_taken (with_end new)) ToldReady
 after_kind part parts k new row = Goes (part ∷ parts) new
 
--- an ERR ends the call
+-- An ERR ends the call. While a transaction is being committed it is rolled back first, and the first ERR is what the call returns.
+abbrev pub refused_at : Trial → Place → ServerError → Step
+refused_at trials.Off new e = failure new (Server e)
+refused_at trials.On new e = Goes (Undo ∷ Back ∷ []) (with_trial (trials.Refused e) (with_status txs.RequiresRollback new))
+refused_at (trials.Refused first) new e = failure (with_trial trials.Off new) (Server first)
+
 abbrev pub after_err : Login → Place → Place → Option ErrPacket → Step
 after_err login p new None = unfit login p
-after_err login p new (Some e) = failure new (Server (server_error e))
+after_err login p new (Some e) = refused_at p.trial new (server_error e)
 
 -- a statement that is prepared may not have the id of one that is still cached
 abbrev pub unless_cached : Login → Place → Option PrepareOk → Step → Step
@@ -259,6 +271,11 @@ abbrev pub unless_refused : List Part → Place → Option DriverError → Step
 unless_refused parts p None = Goes parts p
 unless_refused parts p (Some e) = failure p (Driver e)
 
+-- the transaction was rolled back since it couldn't be committed
+abbrev pub returned : Place → Trial → Step
+returned p (trials.Refused first) = failure (with_trial trials.Off (with_status (rolled_back p.status) p)) (Server first)
+returned p t = return p ToldReady
+
 -- what the first part comes to where nothing is owed; without a part the call is done
 abbrev pub step_of : Login → Call → List Part → Place → Step
 step_of login call [] p = return p ToldReady
@@ -295,8 +312,10 @@ step_of login call (Flag flag ∷ parts) p = return p (ToldFlag flag)
 step_of login call (Undo ∷ parts) p = undone login call parts p (is_given_up p.status)
 step_of login call (Undone ∷ parts) p = Goes parts (with_status (rolled_back p.status) p)
 step_of login call (Refuse opts ∷ parts) p = unless_refused parts p (begin_refusal opts (version_of (facts_at login p).version) p.status)
-step_of login call (Settle status ∷ parts) p = Goes parts (with_status status p)
+step_of login call (Settle status ∷ parts) p = Goes parts (with_trial trials.Off (with_status status p))
 step_of login call (GiveUp ∷ parts) p = Goes parts (with_status (given_up p.status) p)
+step_of login call (Try ∷ parts) p = Goes parts (with_trial trials.On p)
+step_of login call (Back ∷ parts) p = if is_over p.talk then returned p p.trial else reads login Back parts p
 
 -- while bytes are owed nothing else is done
 abbrev pub unless_owed : List ℕ → Place → Step → Step
@@ -320,9 +339,9 @@ run most login call (Stops p s) = halt p s
 run zero login call (Goes parts p) = halt p Awaits
 run (suc most) login call (Goes parts p) = run most login call (step login call parts p)
 
--- More steps than a call can take: each reads a payload, passes over an end, or ends a part.
+-- More steps than a call can take: each reads a payload, in whose place two parts may come, passes over an end, or ends a part.
 abbrev pub enough : Login → Call → Place → ℕ
-enough login call p = suc (suc (length p.unread + 2 * length (parts_of login call)))
+enough login call p = suc (suc (4 * length p.unread + 2 * length (parts_of login call)))
 
 -- What a call comes to from the place at which it began, with the bytes that were received since.
 abbrev pub course : Login → Call → Place → Halt

@@ -28,6 +28,9 @@ is_given_up txs.None = false
 is_given_up txs.InTransaction = false
 is_given_up txs.RequiresRollback = true
 
+abbrev pub commit_text : List ℕ
+commit_text = codes "COMMIT"
+
 abbrev pub rollback_text : List ℕ
 rollback_text = codes "ROLLBACK"
 

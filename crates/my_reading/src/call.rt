@@ -36,6 +36,8 @@ pub enum Call {
     Reset,
     /// A transaction begins.
     Begin(TxOpts),
+    /// The transaction is committed. Where the server refuses, it is rolled back, and the first refusal is the answer.
+    Commit,
     /// The transaction is rolled back.
     Rollback,
     /// The transaction is given up, and rolled back before the next command. Nothing is sent.
@@ -59,6 +61,7 @@ pub enum CallKind {
     Ping,
     Reset,
     Begin,
+    Commit,
     Rollback,
     ForgetTransaction,
     Quit,
@@ -85,6 +88,7 @@ impl Call {
             Call::Ping => CallKind::Ping,
             Call::Reset => CallKind::Reset,
             Call::Begin(_) => CallKind::Begin,
+            Call::Commit => CallKind::Commit,
             Call::Rollback => CallKind::Rollback,
             Call::ForgetTransaction => CallKind::ForgetTransaction,
             Call::Quit => CallKind::Quit,
@@ -113,6 +117,7 @@ impl Call {
             Call::Ping => Ok(Call::Ping),
             Call::Reset => Ok(Call::Reset),
             Call::Begin(opts) => Ok(Call::Begin(*opts)),
+            Call::Commit => Ok(Call::Commit),
             Call::Rollback => Ok(Call::Rollback),
             Call::ForgetTransaction => Ok(Call::ForgetTransaction),
             Call::Quit => Ok(Call::Quit),

@@ -26,5 +26,5 @@ pub use my_statements::SetColumns;
 pub use row::read_row;
 pub use settings::{Settings, Stage};
 pub use statements::Statements;
-pub use transaction::{TxStatus, begin_refusal, begin_text, rollback_text};
+pub use transaction::{Trial, TxStatus, begin_refusal, begin_text, commit_text, rollback_text};
 pub use version::{can_reset, can_set_access};

@@ -5,6 +5,7 @@ ghost use Rattle.my_reading.specs.Transactions.{
   access_texts,
   begin_refusal,
   begin_texts,
+  commit_text,
   given_up,
   is_given_up,
   level_texts,
@@ -13,7 +14,7 @@ ghost use Rattle.my_reading.specs.Transactions.{
   start_text,
 };
 
-use crate::error::DriverError;
+use crate::error::{DriverError, ServerError};
 use crate::version::can_set_access;
 use my_handshake::ServerVersion;
 use my_opts_parts::{IsolationLevel, TxOpts};
@@ -59,6 +60,24 @@ impl TxStatus {
             TxStatus::RequiresRollback => true,
         }
     }
+}
+
+/// Whether a transaction is being committed: an ERR then has it rolled back first, and is the answer.
+#[derive(Debug, Drop, PartialEq, Eq)]
+pub enum Trial {
+    /// None is.
+    Off,
+    /// One is.
+    On,
+    /// It couldn't be committed, for this reason, and is rolled back.
+    Refused(ServerError),
+}
+
+/// The query that commits a transaction.
+pub fn commit_text() -> &'static [u8]
+    ensures { result.now ≡ commit_text }
+{
+    b"COMMIT"
 }
 
 /// The query that rolls a transaction back.
