@@ -7,6 +7,8 @@ mod batches;
 #[cfg(test)]
 mod changes;
 #[cfg(test)]
+mod commits;
+#[cfg(test)]
 mod logins;
 #[cfg(test)]
 mod resets;

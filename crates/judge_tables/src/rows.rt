@@ -123,6 +123,7 @@ pub enum Said<'a> {
     Ping,
     Reset,
     Begin(Tx),
+    Commit,
     Rollback,
     Forget,
     Quit,
@@ -141,8 +142,9 @@ pub enum Told<'a> {
     SetEnd,
     NoSet,
     Flag(bool),
-    /// ERR 1064 42000 X.
+    /// ERR 1064 42000 X, and ERR 1213 40001 Y.
     Server,
+    Second,
     Closed,
     /// A transaction isn't begun, since there is one, or the server is too old.
     Nested,

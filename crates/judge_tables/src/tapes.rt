@@ -101,17 +101,18 @@ fn call_of(alloc: Global, said: Said) -> Result<Call, NoMemory> {
         Said::Ping => Call::Ping,
         Said::Reset => Call::Reset,
         Said::Begin(tx) => Call::Begin(opts_of(tx)),
+        Said::Commit => Call::Commit,
         Said::Rollback => Call::Rollback,
         Said::Forget => Call::ForgetTransaction,
         Said::Quit => Call::Quit,
     })
 }
 
-fn server_error(alloc: Global) -> Result<Error, NoMemory> {
+fn server_error(alloc: Global, code: u16, state: &str, message: &str) -> Result<Error, NoMemory> {
     Ok(Error::Server(ServerError {
-        code: 1064,
-        state: Text::from_str(alloc, "42000")?,
-        message: Text::from_str(alloc, "X")?,
+        code,
+        state: Text::from_str(alloc, state)?,
+        message: Text::from_str(alloc, message)?,
     }))
 }
 
@@ -135,7 +136,8 @@ fn ending_of(alloc: Global, told: Told) -> Result<Option<Ending>, NoMemory> {
         Told::Flag(flag) => Some(Ending::Answered(Answer::Flag(flag))),
         Told::SetEnd => Some(Ending::Answered(Answer::SetEnd)),
         Told::NoSet => Some(Ending::Answered(Answer::NoSet)),
-        Told::Server => Some(Ending::Failed(server_error(alloc)?)),
+        Told::Server => Some(Ending::Failed(server_error(alloc, 1064, "42000", "X")?)),
+        Told::Second => Some(Ending::Failed(server_error(alloc, 1213, "40001", "Y")?)),
         Told::Closed => refused(DriverError::ConnectionClosed),
         Told::Nested => refused(DriverError::NestedTransaction),
         Told::TooOld => refused(DriverError::ReadOnlyTransNotSupported),

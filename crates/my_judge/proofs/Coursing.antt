@@ -12,10 +12,10 @@ use Rattle.my_judge.specs.declared.step.Step.TheVariants as steps
 use Rattle.my_judge.specs.declared.step.Stop.{Stop as CodeStop}
 use Rattle.my_judge.specs.declared.step.Stop.TheVariants as stops
 use Rattle.my_judge.specs.Courses.{HaltIs, CourseIs}
-use Rattle.my_judge.specs.Parts.{part_of}
+use Rattle.my_judge.specs.Parts.{part_of, reverting_parts}
 use Rattle.my_judge.specs.Stands.{IsAt, Comes, steps as code_step}
 use Rattle.my_judge.proofs.Following.{Follows, steps_follow}
-use Rattle.my_judge.proofs.Suiting.{Suit, parts_suit}
+use Rattle.my_judge.proofs.Suiting.{Suit, parts_suit, reverting_suits}
 
 -- the call is where these parts are left, and `most` steps at most
 pub record IsOn (login : Login) (call : Call) (most : ℕ) (left : List CodePart) (now : Stand) (h : Halt) : Type 0 where
@@ -27,7 +27,7 @@ pub record InCourse (login : Login) (call : Call) (old : Stand) (most : ℕ) (le
   pub on : (p : Place) → IsAt login p old → IsOn login call most left now (course login call p)
   pub suit : Suit call (map part_of left)
 
-pub begins : (login : Login) (call : Call) (s : Stand) (left : List CodePart) (most : ℕ) → map part_of left ≡ parts_of login call → most ≡ 2 + length s.unread + 2 * length left → InCourse login call s most left s
+pub begins : (login : Login) (call : Call) (s : Stand) (left : List CodePart) (most : ℕ) → map part_of left ≡ parts_of login call → most ≡ 2 + 4 * length s.unread + 2 * length left → InCourse login call s most left s
 begins login call s left most is count = record {
   on = λ p at. record {
     place = p;
@@ -79,6 +79,13 @@ module _ (login : Login) (call : Call) (old now new : Stand) (most more : ℕ) (
     where
       by_step : (p : Place) (x : Step) → course login call p ≡ run more login call x → Follows login left new steps.Passes x → IsOn login call more (drop 1 left) new (course login call p)
       by_step p (Goes parts q) e f = record { place = q; at = f.1; goes = e ∙ ap (λ ps. run more login call (Goes ps q)) f.0 }
+      by_step p (Stops q s) e f = absurd f
+
+  pub reverts : (back : List CodePart) → map part_of back ≡ reverting_parts → Comes (code_step login call left now) steps.Reverts new → InCourse login call old more back new
+  reverts back is comes = record { suit = subst (Suit call) (sym is) (reverting_suits call); on = λ p at. by_step p (step login call (map part_of left) (on.on p at).place) (here p at) (told login call left (on.on p at).place now new steps.Reverts on.suit (on.on p at).at comes) }
+    where
+      by_step : (p : Place) (x : Step) → course login call p ≡ run more login call x → Follows login left new steps.Reverts x → IsOn login call more back new (course login call p)
+      by_step p (Goes parts q) e f = record { place = q; at = f.1; goes = e ∙ ap (λ ps. run more login call (Goes ps q)) (f.0 ∙ sym is) }
       by_step p (Stops q s) e f = absurd f
 
   pub halts : (stop : CodeStop) → Comes (code_step login call left now) (steps.Stops stop) new → CourseIs login call old stop new

@@ -132,6 +132,7 @@ closes_so kinds.SkipTaken p spot e = ap (closes_at kinds.SkipTaken) e
 closes_so kinds.Ping p spot e = refl
 closes_so kinds.Reset p spot e = refl
 closes_so kinds.Begin p spot e = refl
+closes_so kinds.Commit p spot e = refl
 closes_so kinds.Rollback p spot e = refl
 closes_so kinds.ForgetTransaction p spot e = refl
 closes_so kinds.Quit p spot e = refl

@@ -1,6 +1,7 @@
 -- A step of the program is the reading's step.
-use Rattle.std.proofs.Common.{◌≡◌, ℕ, zero, suc, ◌<◌, ◌≤◌, List, [], ◌∷◌, ◌++◌, length, drop, map, nat_lt, slice_get, Option, Some, None, Bool, true, false, ◌||◌, cond, refl, sym, ap, ◌∙◌, subst, arith}
+use Rattle.std.proofs.Common.{◌≡◌, ℕ, zero, suc, ◌<◌, ◌≤◌, List, [], ◌∷◌, ◌++◌, length, drop, map, min, nat_lt, slice_get, Option, Some, None, Bool, true, false, ◌&&◌, ◌||◌, cond, refl, sym, ap, ◌∙◌, subst, arith}
 use Rattle.std.proofs.lemmas.Bool.Decides.{nat_tests}
+use Rattle.std.proofs.lemmas.Option.{slice_get_past, slice_get_within}
 use Rattle.my_command.specs.declared.client.ClientPacket.TheVariants as packets
 use Rattle.my_command.specs.Client.Packet.{client_bytes as packet_bytes}
 use Rattle.my_frame.specs.declared.fault.CodecFault.TheVariants.{TooLarge}
@@ -37,18 +38,22 @@ use Rattle.my_grammar.specs.Talk.{Talk, Asked, Preparing, Queried, Silent, comma
 use Rattle.my_reading.specs.declared.call.Call.{Call}
 use Rattle.my_reading.specs.declared.call.Call.TheVariants as calls
 use Rattle.my_reading.specs.declared.error.DriverError.{DriverError}
+use Rattle.my_reading.specs.declared.error.ServerError.{ServerError}
+use Rattle.my_reading.specs.declared.transaction.Trial.{Trial}
+use Rattle.my_reading.specs.declared.transaction.Trial.TheVariants as trials
+use Rattle.my_reading.specs.declared.transaction.TxStatus.TheVariants as txs
 use Rattle.my_reading.specs.Calls.{id_in, is_connect, kind_of as call_kind, statement_in, text_in}
 use Rattle.my_reading.specs.Commands.{arranging, arranging_texts, closing, connecting, execution, queried}
 use Rattle.my_reading.specs.Executions.{Values, Fitting, Unfitting, values_for}
 use Rattle.my_reading.specs.Facts.{prepared_by}
 use Rattle.my_reading.specs.Statements.{Statements, cleared, held_in, is_cached, is_mixed_text, known_in, leaving, names_of, query_of, statement_with, with_columns, with_fetched, with_prepared, without_statement}
-use Rattle.my_reading.specs.Course.{Step, Goes, Stops, step, step_of, unless_owed, reads, with_front, after_payload, after_kind, after_err, checked, closing_of, executed as executed_by, first_above, found, looked_for, offered, undone, unless_cached, unless_long, unless_refused, with_command, failure, is_greeting, is_rows}
-use Rattle.my_reading.specs.Errors.{codec_error}
+use Rattle.my_reading.specs.Course.{Step, Goes, Stops, step, step_of, unless_owed, reads, with_front, after_payload, after_kind, after_err, checked, closing_of, executed as executed_by, first_above, found, looked_for, offered, refused_at, returned, undone, unless_cached, unless_long, unless_refused, with_command, failure, is_greeting, is_rows}
+use Rattle.my_reading.specs.Errors.{codec_error, server_error}
 use Rattle.my_reading.proofs.Described.{kind_known}
-use Rattle.my_reading.specs.Place.{Place, exchanges, facts_at, facts_of, client_side, connects_in, terms_of, owed, next_exchange, with_end, with_statements, with_taken, with_talk, with_exchange}
+use Rattle.my_reading.specs.Place.{Place, exchanges, facts_at, facts_of, client_side, connects_in, terms_of, owed, next_exchange, with_end, with_statements, with_status, with_taken, with_talk, with_exchange}
 use Rattle.my_reading.specs.Rows.{row_of}
 use Rattle.my_reading.specs.Told.{ToldRow}
-use Rattle.my_reading.specs.Transactions.{begin_refusal, given_up, is_given_up, rollback_text, rolled_back}
+use Rattle.my_reading.specs.Transactions.{begin_refusal, commit_text, given_up, is_given_up, rollback_text, rolled_back}
 use Rattle.my_reading.specs.Versions.{can_reset}
 use Rattle.my_judge.specs.declared.part.Part.{Part as CodePart}
 use Rattle.my_judge.specs.declared.part.Part.TheVariants as parts
@@ -56,11 +61,11 @@ use Rattle.my_judge.specs.declared.stand.Stand.{Stand}
 use Rattle.my_judge.specs.declared.step.Step.{Step as CodeStep}
 use Rattle.my_judge.specs.declared.step.Step.TheVariants as steps
 use Rattle.my_judge.specs.declared.step.Stop.TheVariants as code_stops
-use Rattle.my_judge.specs.Parts.{part_of, start_at}
-use Rattle.my_judge.specs.Stands.{IsAt, Turn, stand_of, heard, asked, asks, turn, with_end as with_left, with_taken as with_mark, after_kind as code_kind, after_err as code_err, after_greeting as code_greeting, after_payload as code_payload, after_prepared as code_prepared, with_front as code_front, with_known, reads as code_reads, arranges, begins, checks, checks_for, closes_one, commands, executed, executed_in, executes, executes_one, finds, finds_so, offers, queries, refuses, undoes, unless_above, steps as code_step}
+use Rattle.my_judge.specs.Parts.{part_of, reverting_parts, start_at}
+use Rattle.my_judge.specs.Stands.{IsArranged, IsAt, Turn, stand_of, arranged_after, heard, asked, asks, turn, with_end as with_left, with_status as with_standing, with_taken as with_mark, refused_at as code_refused, returned as code_returned, after_kind as code_kind, after_err as code_err, after_greeting as code_greeting, after_payload as code_payload, after_prepared as code_prepared, with_front as code_front, with_known, reads as code_reads, arranges, begins, checks, checks_for, closes_one, commands, executed, executed_in, executes, executes_one, finds, finds_so, offers, queries, refuses, undoes, unless_above, steps as code_step}
 use Rattle.my_judge.specs.Tapes.{stop_of}
 use Rattle.my_judge.proofs.Suiting.{Suit}
-use Rattle.my_judge.proofs.Places.{limit_is, at_here, at_end, at_known, at_no_end, at_status, at_taken, at_end_taken, at_heard}
+use Rattle.my_judge.proofs.Places.{limit_is, at_here, at_end, at_known, at_no_end, at_status, at_taken, at_trial, at_end_taken, at_heard}
 
 -- a step of a call of which these parts are left
 abbrev pub Follows : Login → List CodePart → Stand → CodeStep → Step → Type 0
@@ -68,6 +73,8 @@ Follows login left new steps.Stays (Goes more q) = (more ≡ map part_of left) �
 Follows login left new steps.Stays (Stops q s) = ⊥
 Follows login left new steps.Passes (Goes more q) = (more ≡ map part_of (drop 1 left)) × IsAt login q new
 Follows login left new steps.Passes (Stops q s) = ⊥
+Follows login left new steps.Reverts (Goes more q) = (more ≡ reverting_parts) × IsAt login q new
+Follows login left new steps.Reverts (Stops q s) = ⊥
 Follows login left new (steps.Stops stop) (Goes more q) = ⊥
 Follows login left new (steps.Stops stop) (Stops q s) = (s ≡ stop_of stop) × IsAt login q new
 
@@ -90,7 +97,26 @@ none_left (suc n) [] h = refl
 none_left zero (b ∷ bytes) h = absurd (omega arith)
 none_left (suc n) (b ∷ bytes) h = none_left n bytes (omega arith)
 
-module _ (login : Login) (part : CodePart) (more : List CodePart) (new : Place) (row : RowParts) (n : ℕ) (arranged : connects_in (exchanges new) ≡ suc n) (fits : Fits new.talk) (same : login_in login new.talk ≡ login) where
+-- one query more was begun, where there is one
+capped : (k len n : ℕ) → n ≡ min k len → cond (nat_lt n len) (suc n) n ≡ min (suc k) len
+capped k len n e = by_less (nat_lt n len) refl
+  where
+    by_less : (b : Bool) → nat_lt n len ≡ b → cond b (suc n) n ≡ min (suc k) len
+    by_less true f = grind (arith, nat_tests)
+    by_less false f = grind (arith, nat_tests)
+
+-- the queries are known up to their number
+known_up_to : (texts : List (List ℕ)) (k n : ℕ) → n ≡ min k (length texts) → slice_get texts n ≡ slice_get texts k
+known_up_to texts k n e = by_less (nat_lt k (length texts)) refl
+  where
+    by_less : (b : Bool) → nat_lt k (length texts) ≡ b → slice_get texts n ≡ slice_get texts k
+    by_less true f = let same : n ≡ k = grind (arith, nat_tests) in ap (slice_get texts) same
+    by_less false f =
+        let past : length texts ≤ n = grind (arith, nat_tests) in
+        let beyond : length texts ≤ k = grind (arith, nat_tests) in
+        slice_get_past texts n past ∙ sym (slice_get_past texts k beyond)
+
+module _ (login : Login) (part : CodePart) (more : List CodePart) (new : Place) (row : RowParts) (n : ℕ) (arranged : IsArranged login new n) (fits : Fits new.talk) (same : login_in login new.talk ≡ login) where
   kind_follows : (s : Stand) → s ≡ stand_of login new n → (k : Kind) → TurnIs login (part ∷ more) (code_kind part k row s) (after_kind (part_of part) (map part_of more) k new (ToldRow row))
   kind_follows s is k = by_part part k
     where
@@ -127,6 +153,9 @@ module _ (login : Login) (part : CodePart) (more : List CodePart) (new : Place) 
       by_part (parts.Refuse opts) k = (refl, at)
       by_part (parts.Settle status) k = (refl, at)
       by_part parts.GiveUp k = (refl, at)
+      by_part parts.Try k = (refl, at)
+      by_part parts.Commit k = (refl, at)
+      by_part parts.Back k = (refl, at)
 
 -- commands are sent, unless one of them is above the limit
 unless_follows : (login : Login) (part : CodePart) (more : List CodePart) (q r : Place) (old new : Stand) → IsAt login q old → IsAt login r new → (x : Option ℕ)
@@ -138,7 +167,7 @@ unless_follows login part more q r old new a b (Some len) = (refl, a)
 unfetched : (query : List ℕ) (st : Statements) → held_in st query ≡ None → with_fetched query st ≡ st
 unfetched query st e = ap (λ (o : Option Held). let x : Statements = record { cache = cached (option_map_or (λ h. h ∷ without (has_query query) st.cache.list) o st.cache.list) st.cache.capacity; known = st.known } in x) e
 
-module _ (login : Login) (p : Place) (n : ℕ) (arranged : connects_in (exchanges p) ≡ suc n) (fits : Fits p.talk) (same : login_in login p.talk ≡ login) where
+module _ (login : Login) (p : Place) (n : ℕ) (arranged : IsArranged login p n) (fits : Fits p.talk) (same : login_in login p.talk ≡ login) where
   abbrev s : Stand
   s = stand_of login p n
 
@@ -159,10 +188,15 @@ module _ (login : Login) (p : Place) (n : ℕ) (arranged : connects_in (exchange
     heard_at : (k : Kind) → kind_of p.talk payload ≡ k → is_bad k ≡ false → IsAt login (new k) (heard login k payload rest s)
     heard_at k e good = subst (λ x. IsAt login (new x) (heard login x payload rest s)) e (at_heard login p n arranged fits same payload rest next front (ap is_bad e ∙ good))
 
+    refused_follows : (x : Trial) (e : ServerError) (new : Place) (t : Stand) → IsAt login new t → TurnIs login (part ∷ more) (code_refused x e t) (refused_at x new e)
+    refused_follows trials.Off e new t at = (refl, at)
+    refused_follows trials.On e new t at = (refl, at_trial login (with_status txs.RequiresRollback new) (with_standing txs.RequiresRollback t) (trials.Refused e) (at_status login new t txs.RequiresRollback at))
+    refused_follows (trials.Refused first) e new t at = (refl, at_trial login new t trials.Off at)
+
     err_follows : kind_of p.talk payload ≡ kinds.Failed → (x : Option ErrPacket)
         → TurnIs login (part ∷ more) (code_err x s (heard login kinds.Failed payload rest s)) (after_err login p (new kinds.Failed) x)
     err_follows e None = (refl, here)
-    err_follows e (Some packet) = (refl, heard_at kinds.Failed e refl)
+    err_follows e (Some packet) = refused_follows p.trial (server_error packet) (new kinds.Failed) (heard login kinds.Failed payload rest s) (heard_at kinds.Failed e refl)
 
     greeting_follows : (k : Kind) → kind_of p.talk payload ≡ k → is_bad k ≡ false → (limit : ℕ) → (context_of p.talk).terms.limit ≡ limit
         → TurnIs login (part ∷ more) (code_greeting (length (response login payload)) s (heard login k payload rest s))
@@ -206,19 +240,41 @@ module _ (login : Login) (p : Place) (n : ℕ) (arranged : connects_in (exchange
           (sym (kind_known p.talk (facts_of login p.older) payload fits)) (payload_follows part more payload rest next e (kind_of p.talk payload) refl)
 
   -- an exchange of a call that doesn't connect
-  asked_at : (call : Call) (talk : Talk) (t : Stand) (m : ℕ) → t ≡ stand_of login (with_exchange p call talk) m → t.arranged ≡ m → connects_in (exchanges (with_exchange p call talk)) ≡ suc m → Fits talk → login_in login talk ≡ login
+  asked_at : (call : Call) (talk : Talk) (t : Stand) (m : ℕ) → t ≡ stand_of login (with_exchange p call talk) m → t.arranged ≡ m → IsArranged login (with_exchange p call talk) m → Fits talk → login_in login talk ≡ login
       → IsAt login (with_exchange p call talk) t
-  asked_at call talk t m is count connects f l = record { stand_is = is ∙ ap (stand_of login (with_exchange p call talk)) (sym count); arranged_is = connects ∙ ap suc (sym count); fits = f; login_is = l }
+  asked_at call talk t m is count connects f l = record { stand_is = is ∙ ap (stand_of login (with_exchange p call talk)) (sym count); arranged_is = subst (λ k. IsArranged login (with_exchange p call talk) k) (sym count) connects; fits = f; login_is = l }
 
   abbrev terms : Terms
   terms = terms_of login (exchanges p)
 
-  arranges_follow : (more : List CodePart) (x : Option (List ℕ)) → TurnIs login (parts.Command ∷ more) (arranges x s) (with_command calls.Connect (map part_of more) p (arranging terms x))
-  arranges_follow more None = (refl, here)
-  arranges_follow more (Some text) =
+  -- an exchange more of a call that doesn't connect, and of any call
+  arranged_same : (call : Call) (talk : Talk) → is_connect (call_kind call) ≡ false → IsArranged login (with_exchange p call talk) n
+  arranged_same call talk other = (arranged.0, ap (λ b. cond b (suc (connects_in (exchanges p))) (connects_in (exchanges p))) other ∙ arranged.1, arranged.2)
+
+  arranged_more : (call : Call) (talk : Talk) → IsArranged login (with_exchange p call talk) (arranged_after call s)
+  arranged_more call talk = by_kind (is_connect (call_kind call)) refl
+    where
+      by_kind : (b : Bool) → is_connect (call_kind call) ≡ b → IsArranged login (with_exchange p call talk) (arranged_after call s)
+      by_kind true e = (
+        suc arranged.0,
+        ap (λ b. cond b (suc (connects_in (exchanges p))) (connects_in (exchanges p))) e ∙ ap suc arranged.1,
+        ap (λ b. cond (b && nat_lt n (length (arranging_texts login))) (suc n) n) e ∙ capped arranged.0 (length (arranging_texts login)) n arranged.2,
+      )
+      by_kind false e = (
+        arranged.0,
+        ap (λ b. cond b (suc (connects_in (exchanges p))) (connects_in (exchanges p))) e ∙ arranged.1,
+        ap (λ b. cond (b && nat_lt n (length (arranging_texts login))) (suc n) n) e ∙ arranged.2,
+      )
+
+  arranges_follow : (more : List CodePart) (x : Option (List ℕ)) → slice_get (arranging_texts login) n ≡ x
+      → TurnIs login (parts.Command ∷ more) (arranges x s) (with_command calls.Connect (map part_of more) p (arranging terms x))
+  arranges_follow more None e = (refl, here)
+  arranges_follow more (Some text) e =
+      let within : n < length (arranging_texts login) = slice_get_within (arranging_texts login) n text e in
+      let one_more : suc n ≡ min (suc arranged.0) (length (arranging_texts login)) = grind (arith, arranged.2, within) in
       let talk : Talk = queried terms text in
       unless_follows login parts.Command more p (with_exchange p calls.Connect talk) s (asked spots.Head (packet_bytes (packets.Query text)) (suc n) s) here
-      (asked_at calls.Connect talk _ (suc n) refl refl (ap suc arranged) (record { kinds = tt; within = tt }) refl) (first_above (limit_of talk) (commands_in talk))
+      (asked_at calls.Connect talk _ (suc n) refl refl (suc arranged.0, ap suc arranged.1, one_more) (record { kinds = tt; within = tt }) refl) (first_above (limit_of talk) (commands_in talk))
 
   -- the exchange of an execution, by a call that doesn't connect
   executed_at : (call : Call) → is_connect (call_kind call) ≡ false → (ahead : List (List ℕ)) (command : List ℕ) (known : List Column)
@@ -226,9 +282,9 @@ module _ (login : Login) (p : Place) (n : ℕ) (arranged : connects_in (exchange
   executed_at call other ahead command known =
       let base : Stand = executed ahead command s in
       record {
-        stand_is = ap (λ (bytes : List ℕ). let x : Stand = record { context = base.context; number = base.number; facts = base.facts; texts = base.texts; arranged = base.arranged; end_left = base.end_left; taken = base.taken; statements = base.statements; status = base.status; unread = base.unread; said = bytes; sent = base.sent } in x)
+        stand_is = ap (λ (bytes : List ℕ). let x : Stand = record { context = base.context; number = base.number; facts = base.facts; texts = base.texts; arranged = base.arranged; end_left = base.end_left; taken = base.taken; statements = base.statements; status = base.status; trial = base.trial; unread = base.unread; said = bytes; sent = base.sent } in x)
             (append_assoc (client_side (exchanges p)) (commands_bytes ahead) (chunks command 0) ∙ ap (λ bs. client_side (exchanges p) ++ bs) (sym (ahead_then ahead command)));
-        arranged_is = ap (λ b. cond b (suc (connects_in (exchanges p))) (connects_in (exchanges p))) other ∙ arranged;
+        arranged_is = arranged_same call (Queried terms command (NoSets (ByStatement ahead known))) other;
         fits = record { kinds = tt; within = tt };
         login_is = refl;
       }
@@ -241,13 +297,13 @@ module _ (login : Login) (p : Place) (n : ℕ) (arranged : connects_in (exchange
       unless_follows login part more p (with_exchange p call talk) s (executed (ahead_of id values) (body_of id values) s) here
       (executed_at call other (ahead_of id values) (body_of id values) (known_in p.statements id)) (first_above (limit_of talk) (commands_in talk))
 
-  -- a query of the client's own, by a call that doesn't connect
-  queries_follow : (call : Call) → is_connect (call_kind call) ≡ false → (part : CodePart) (more : List CodePart) (text : List ℕ)
-      → TurnIs login (part ∷ more) (queries text s) (with_command call (map part_of more) p (Some (queried terms text)))
-  queries_follow call other part more text =
+  -- a query
+  queries_follow : (call : Call) (part : CodePart) (more : List CodePart) (text : List ℕ)
+      → TurnIs login (part ∷ more) (queries call text s) (with_command call (map part_of more) p (Some (queried terms text)))
+  queries_follow call part more text =
       let talk : Talk = queried terms text in
-      unless_follows login part more p (with_exchange p call talk) s (asked spots.Head (packet_bytes (packets.Query text)) n s) here
-      (asked_at call talk _ n refl refl (ap (λ b. cond b (suc (connects_in (exchanges p))) (connects_in (exchanges p))) other ∙ arranged) (record { kinds = tt; within = tt }) refl)
+      unless_follows login part more p (with_exchange p call talk) s (asked spots.Head (packet_bytes (packets.Query text)) (arranged_after call s) s) here
+      (asked_at call talk _ (arranged_after call s) refl refl (arranged_more call talk) (record { kinds = tt; within = tt }) refl)
       (first_above (limit_of talk) (commands_in talk))
 
   -- a command that an OK or an ERR answers, by a call that doesn't connect
@@ -256,13 +312,14 @@ module _ (login : Login) (p : Place) (n : ℕ) (arranged : connects_in (exchange
   simple_follows call other part more command =
       let talk : Talk = Asked terms command in
       unless_follows login part more p (with_exchange p call talk) s (asked spots.Single command n s) here
-      (asked_at call talk _ n refl refl (ap (λ b. cond b (suc (connects_in (exchanges p))) (connects_in (exchanges p))) other ∙ arranged) (record { kinds = tt; within = tt }) refl)
+      (asked_at call talk _ n refl refl (arranged_same call talk other) (record { kinds = tt; within = tt }) refl)
       (first_above (limit_of talk) (commands_in talk))
 
   commands_follow : (call : Call) (more : List CodePart) → TurnIs login (parts.Command ∷ more) (commands call s) (with_command call (map part_of more) p (next_exchange login call p))
-  commands_follow calls.Connect more = subst (λ k. TurnIs login (parts.Command ∷ more) (commands calls.Connect s) (with_command calls.Connect (map part_of more) p (connecting login terms k))) (sym arranged)
-      (arranges_follow more (slice_get (arranging_texts login) n))
-  commands_follow (calls.Query text) more = queries_follow (calls.Query text) refl parts.Command more text
+  commands_follow calls.Connect more = subst (λ k. TurnIs login (parts.Command ∷ more) (commands calls.Connect s) (with_command calls.Connect (map part_of more) p (connecting login terms k))) (sym arranged.1)
+      (subst (λ o. TurnIs login (parts.Command ∷ more) (commands calls.Connect s) (with_command calls.Connect (map part_of more) p (arranging terms o)))
+      (known_up_to (arranging_texts login) arranged.0 n arranged.2) (arranges_follow more (slice_get (arranging_texts login) n) refl))
+  commands_follow (calls.Query text) more = queries_follow (calls.Query text) parts.Command more text
   commands_follow (calls.Prepare text) more =
       let talk : Talk = Preparing terms (packet_bytes (packets.Prepare (query_of text))) Unanswered in
       unless_follows login parts.Command more p (with_exchange p (calls.Prepare text) talk) s (asked spots.Prepare (packet_bytes (packets.Prepare (query_of text))) n s) here
@@ -279,6 +336,7 @@ module _ (login : Login) (p : Place) (n : ℕ) (arranged : connects_in (exchange
   commands_follow calls.SkipTaken more = (refl, here)
   commands_follow calls.Ping more = simple_follows calls.Ping refl parts.Command more (packet_bytes packets.Ping)
   commands_follow (calls.Begin opts) more = (refl, here)
+  commands_follow calls.Commit more = (refl, here)
   commands_follow calls.Rollback more = (refl, here)
   commands_follow calls.ForgetTransaction more = (refl, here)
   commands_follow calls.Reset more = simple_follows calls.Reset refl parts.Command more (packet_bytes packets.ResetConnection)
@@ -321,6 +379,7 @@ module _ (login : Login) (p : Place) (n : ℕ) (arranged : connects_in (exchange
   runs_follow part params calls.Ping more e = cc
   runs_follow part params calls.Reset more e = cc
   runs_follow part params (calls.Begin opts) more e = cc
+  runs_follow part params calls.Commit more e = cc
   runs_follow part params calls.Rollback more e = cc
   runs_follow part params calls.ForgetTransaction more e = cc
   runs_follow part params calls.Quit more e = cc
@@ -338,9 +397,15 @@ module _ (login : Login) (p : Place) (n : ℕ) (arranged : connects_in (exchange
   offers_follow part more true = (refl, here)
   offers_follow part more false = (refl, here)
 
-  undoes_follow : (call : Call) → is_connect (call_kind call) ≡ false → (more : List CodePart) (b : Bool) → TurnIs login (parts.Undo ∷ more) (undoes b s) (undone login call (map part_of more) p b)
-  undoes_follow call other more true = queries_follow call other parts.Undo more rollback_text
-  undoes_follow call other more false = (refl, here)
+  undoes_follow : (call : Call) (more : List CodePart) (b : Bool) → TurnIs login (parts.Undo ∷ more) (undoes call b s) (undone login call (map part_of more) p b)
+  undoes_follow call more true = queries_follow call parts.Undo more rollback_text
+  undoes_follow call more false = (refl, here)
+
+  returned_follows : (left : List CodePart) (x : Trial) → TurnIs login left (code_returned x s) (returned p x)
+  returned_follows left trials.Off = (refl, here)
+  returned_follows left trials.On = (refl, here)
+  returned_follows left (trials.Refused first) =
+      (refl, at_trial login (with_status (rolled_back p.status) p) (with_standing (rolled_back p.status) s) trials.Off (at_status login p s (rolled_back p.status) here))
 
   refuses_follow : (part : CodePart) (more : List CodePart) (x : Option DriverError) → TurnIs login (part ∷ more) (refuses x s) (unless_refused (map part_of more) p x)
   refuses_follow part more None = (refl, here)
@@ -376,14 +441,17 @@ module _ (login : Login) (p : Place) (n : ℕ) (arranged : connects_in (exchange
   begins_follow call (parts.Forget ∷ more) w = (refl, at_known login p n arranged fits same (without_statement (id_in call) p.statements))
   begins_follow call (parts.Offered ∷ more) w = offers_follow parts.Offered more (can_reset (version_of (facts_at login p).version))
   begins_follow call (parts.Clear ∷ more) w = (refl, at_known login p n arranged fits same (cleared p.statements))
-  begins_follow call (parts.Text text ∷ more) w = queries_follow call w.0 (parts.Text text) more text.now
-  begins_follow call (parts.Start opts place ∷ more) w = queries_follow call w.0 (parts.Start opts place) more (start_at opts.now place)
+  begins_follow call (parts.Text text ∷ more) w = queries_follow call (parts.Text text) more text.now
+  begins_follow call (parts.Start opts place ∷ more) w = queries_follow call (parts.Start opts place) more (start_at opts.now place)
   begins_follow call (parts.Flag flag ∷ more) w = (refl, here)
-  begins_follow call (parts.Undo ∷ more) w = undoes_follow call w.0 more (is_given_up p.status)
-  begins_follow call (parts.Undone ∷ more) w = (refl, at_status login p n arranged fits same (rolled_back p.status))
+  begins_follow call (parts.Undo ∷ more) w = undoes_follow call more (is_given_up p.status)
+  begins_follow call (parts.Undone ∷ more) w = (refl, at_status login p s (rolled_back p.status) here)
   begins_follow call (parts.Refuse opts ∷ more) w = refuses_follow (parts.Refuse opts) more (begin_refusal opts.now (version_of (facts_at login p).version) p.status)
-  begins_follow call (parts.Settle status ∷ more) w = (refl, at_status login p n arranged fits same status)
-  begins_follow call (parts.GiveUp ∷ more) w = (refl, at_status login p n arranged fits same (given_up p.status))
+  begins_follow call (parts.Settle status ∷ more) w = (refl, at_trial login (with_status status p) (with_standing status s) trials.Off (at_status login p s status here))
+  begins_follow call (parts.GiveUp ∷ more) w = (refl, at_status login p s (given_up p.status) here)
+  begins_follow call (parts.Try ∷ more) w = (refl, at_trial login p s trials.On here)
+  begins_follow call (parts.Commit ∷ more) w = queries_follow call parts.Commit more commit_text
+  begins_follow call (parts.Back ∷ more) w = either login (parts.Back ∷ more) (is_over p.talk) _ _ _ _ (λ _. returned_follows (parts.Back ∷ more) p.trial) (λ _. reads_follow parts.Back more)
 
   -- while bytes are owed the call waits
   owing : (left : List CodePart) (x : Step) (bytes : List ℕ) (b : ℕ) (more : List ℕ) → bytes ≡ b ∷ more → TurnIs login left (turn (steps.Stops code_stops.Owes) s) (unless_owed bytes p x)

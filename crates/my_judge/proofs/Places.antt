@@ -1,5 +1,5 @@
 -- The places that steps lead to, and what is known of them.
-use Rattle.std.proofs.Common.{◌≡◌, ℕ, suc, ◌≤◌, List, ◌∷◌, ◌++◌, length, Bool, true, false, ◌&&◌, refl, sym, ap, ◌∙◌, arith}
+use Rattle.std.proofs.Common.{◌≡◌, ℕ, ◌≤◌, List, ◌∷◌, ◌++◌, length, Bool, true, false, ◌&&◌, refl, sym, ap, ◌∙◌, arith}
 use Rattle.std.proofs.lemmas.List.{append_assoc}
 use Rattle.my_frame.specs.Front.{Whole}
 use Rattle.my_grammar.proofs.Cutting.Fronts.{takes_whole}
@@ -12,12 +12,13 @@ use Rattle.my_grammar.specs.Growth.{grow, replies, said, Grows, Reads}
 use Rattle.my_grammar.specs.Talk.{Talk, Start, Unwelcome, Greeted, Settled, Asked, Replied, Queried, Preparing, Silent, Server, turns, number_of, client_bytes, context_of, limit_of, Fits, login_in}
 use Rattle.my_reading.specs.Commands.{arranging_texts}
 use Rattle.my_reading.specs.declared.facts.Facts.{Facts}
+use Rattle.my_reading.specs.declared.transaction.Trial.{Trial}
 use Rattle.my_reading.specs.declared.transaction.TxStatus.{TxStatus}
 use Rattle.my_reading.specs.Facts.{facts_by}
-use Rattle.my_reading.specs.Place.{Place, exchanges, facts_at, facts_of, client_side, connects_in, with_bytes, with_end, without_end, with_statements, with_status, with_taken, with_talk, is_rows}
+use Rattle.my_reading.specs.Place.{Place, exchanges, facts_at, facts_of, client_side, with_bytes, with_end, without_end, with_statements, with_status, with_taken, with_talk, with_trial, is_rows}
 use Rattle.my_reading.specs.Statements.{Statements}
 use Rattle.my_judge.specs.declared.stand.Stand.{Stand}
-use Rattle.my_judge.specs.Stands.{IsAt, stand_of, heard, with_bytes as with_more, with_end as with_left, with_known, with_status as with_standing, with_taken as with_mark}
+use Rattle.my_judge.specs.Stands.{IsArranged, IsAt, stand_of, heard, with_bytes as with_more, with_end as with_left, with_known, with_status as with_standing, with_taken as with_mark, with_trial as with_trying}
 
 pub limit_is : (t : Talk) → (context_of t).terms.limit ≡ limit_of t
 limit_is (Start login) = refl
@@ -33,15 +34,15 @@ limit_is (Silent terms c) = refl
 -- a stand whose fields are these
 same_stand : (login : Login) (p : Place) (n : ℕ) (c : Context) (m : ℕ) (f : Facts) (bytes : List ℕ) (mark : Bool)
     → c ≡ context_of p.talk → m ≡ number_of (turns p.talk) → f ≡ facts_at login p → bytes ≡ client_side (exchanges p) → mark ≡ p.taken
-    → (let s : Stand = record { context = c; number = m; facts = f; texts = arranging_texts login; arranged = n; end_left = p.end_left; taken = mark; statements = p.statements; status = p.status; unread = p.unread; said = bytes; sent = p.sent } in s) ≡ stand_of login p n
+    → (let s : Stand = record { context = c; number = m; facts = f; texts = arranging_texts login; arranged = n; end_left = p.end_left; taken = mark; statements = p.statements; status = p.status; trial = p.trial; unread = p.unread; said = bytes; sent = p.sent } in s) ≡ stand_of login p n
 same_stand login p n c m f bytes mark ec em ef eb ek =
-    ap (λ (x : Context). let s : Stand = record { context = x; number = m; facts = f; texts = arranging_texts login; arranged = n; end_left = p.end_left; taken = mark; statements = p.statements; status = p.status; unread = p.unread; said = bytes; sent = p.sent } in s) ec
-    ∙ ap (λ (x : ℕ). let s : Stand = record { context = context_of p.talk; number = x; facts = f; texts = arranging_texts login; arranged = n; end_left = p.end_left; taken = mark; statements = p.statements; status = p.status; unread = p.unread; said = bytes; sent = p.sent } in s) em
-    ∙ ap (λ (x : Facts). let s : Stand = record { context = context_of p.talk; number = number_of (turns p.talk); facts = x; texts = arranging_texts login; arranged = n; end_left = p.end_left; taken = mark; statements = p.statements; status = p.status; unread = p.unread; said = bytes; sent = p.sent } in s) ef
-    ∙ ap (λ (x : List ℕ). let s : Stand = record { context = context_of p.talk; number = number_of (turns p.talk); facts = facts_at login p; texts = arranging_texts login; arranged = n; end_left = p.end_left; taken = mark; statements = p.statements; status = p.status; unread = p.unread; said = x; sent = p.sent } in s) eb
-    ∙ ap (λ (x : Bool). let s : Stand = record { context = context_of p.talk; number = number_of (turns p.talk); facts = facts_at login p; texts = arranging_texts login; arranged = n; end_left = p.end_left; taken = x; statements = p.statements; status = p.status; unread = p.unread; said = client_side (exchanges p); sent = p.sent } in s) ek
+    ap (λ (x : Context). let s : Stand = record { context = x; number = m; facts = f; texts = arranging_texts login; arranged = n; end_left = p.end_left; taken = mark; statements = p.statements; status = p.status; trial = p.trial; unread = p.unread; said = bytes; sent = p.sent } in s) ec
+    ∙ ap (λ (x : ℕ). let s : Stand = record { context = context_of p.talk; number = x; facts = f; texts = arranging_texts login; arranged = n; end_left = p.end_left; taken = mark; statements = p.statements; status = p.status; trial = p.trial; unread = p.unread; said = bytes; sent = p.sent } in s) em
+    ∙ ap (λ (x : Facts). let s : Stand = record { context = context_of p.talk; number = number_of (turns p.talk); facts = x; texts = arranging_texts login; arranged = n; end_left = p.end_left; taken = mark; statements = p.statements; status = p.status; trial = p.trial; unread = p.unread; said = bytes; sent = p.sent } in s) ef
+    ∙ ap (λ (x : List ℕ). let s : Stand = record { context = context_of p.talk; number = number_of (turns p.talk); facts = facts_at login p; texts = arranging_texts login; arranged = n; end_left = p.end_left; taken = mark; statements = p.statements; status = p.status; trial = p.trial; unread = p.unread; said = x; sent = p.sent } in s) eb
+    ∙ ap (λ (x : Bool). let s : Stand = record { context = context_of p.talk; number = number_of (turns p.talk); facts = facts_at login p; texts = arranging_texts login; arranged = n; end_left = p.end_left; taken = x; statements = p.statements; status = p.status; trial = p.trial; unread = p.unread; said = client_side (exchanges p); sent = p.sent } in s) ek
 
-module _ (login : Login) (p : Place) (n : ℕ) (arranged : connects_in (exchanges p) ≡ suc n) (fits : Fits p.talk) (same : login_in login p.talk ≡ login) where
+module _ (login : Login) (p : Place) (n : ℕ) (arranged : IsArranged login p n) (fits : Fits p.talk) (same : login_in login p.talk ≡ login) where
   pub at_here : IsAt login p (stand_of login p n)
   at_here = record { stand_is = refl; arranged_is = arranged; fits = fits; login_is = same }
 
@@ -59,9 +60,6 @@ module _ (login : Login) (p : Place) (n : ℕ) (arranged : connects_in (exchange
 
   pub at_known : (st : Statements) → IsAt login (with_statements st p) (with_known st (stand_of login p n))
   at_known st = record { stand_is = refl; arranged_is = arranged; fits = fits; login_is = same }
-
-  pub at_status : (status : TxStatus) → IsAt login (with_status status p) (with_standing status (stand_of login p n))
-  at_status status = record { stand_is = refl; arranged_is = arranged; fits = fits; login_is = same }
 
   -- a payload that fits is read
   pub at_heard : (payload rest : List ℕ) (next : ℕ) → front_of p.talk p.unread ≡ Whole payload rest next → is_bad (kind_of p.talk payload) ≡ false
@@ -85,6 +83,13 @@ module _ (login : Login) (p : Place) (n : ℕ) (arranged : connects_in (exchange
         fits = g.fits;
         login_is = g.login_is login ∙ same;
       }
+
+-- a transaction stands so, or is being committed
+pub at_status : (login : Login) (p : Place) (s : Stand) (status : TxStatus) → IsAt login p s → IsAt login (with_status status p) (with_standing status s)
+at_status login p s status at = record { stand_is = ap (with_standing status) at.stand_is; arranged_is = at.arranged_is; fits = at.fits; login_is = at.login_is }
+
+pub at_trial : (login : Login) (p : Place) (s : Stand) (trial : Trial) → IsAt login p s → IsAt login (with_trial trial p) (with_trying trial s)
+at_trial login p s trial at = record { stand_is = ap (with_trying trial) at.stand_is; arranged_is = at.arranged_is; fits = at.fits; login_is = at.login_is }
 
 -- bytes are sent and received
 pub at_bytes : (login : Login) (p : Place) (s : Stand) (sent taken : List ℕ) → IsAt login p s → IsAt login (with_bytes sent taken p) (with_more sent taken s)

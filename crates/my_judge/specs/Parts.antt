@@ -2,8 +2,8 @@
 use Rattle.std.specs.Prelude.{ℕ, List, [], ◌∷◌, get_or, reverse, true}
 use Rattle.my_opts_parts.specs.TransactionOptions.{TxView}
 use Rattle.my_reading.specs.declared.transaction.TxStatus.TheVariants as txs
-use Rattle.my_reading.specs.Course.{Part, All, Head, Item, Set, Rest, Command, Find, Check, Run, Reply, Keep, Give, Learn, Forget, Offered, Clear, Text, Flag, Undo, Undone, Refuse, Settle, GiveUp, clean, parts_of_queries, parts_of_texts}
-use Rattle.my_reading.specs.Transactions.{begin_texts}
+use Rattle.my_reading.specs.Course.{Part, All, Head, Item, Set, Rest, Command, Find, Check, Run, Reply, Keep, Give, Learn, Forget, Offered, Clear, Text, Flag, Undo, Undone, Refuse, Settle, GiveUp, Try, Back, clean, parts_of_queries, parts_of_texts}
+use Rattle.my_reading.specs.Transactions.{begin_texts, commit_text}
 use Rattle.my_judge.specs.declared.part.Part.{Part as CodePart}
 use Rattle.my_judge.specs.declared.part.Part.TheVariants as parts
 
@@ -36,6 +36,9 @@ part_of parts.Undone = Undone
 part_of (parts.Refuse opts) = Refuse opts.now
 part_of (parts.Settle status) = Settle status
 part_of parts.GiveUp = GiveUp
+part_of parts.Try = Try
+part_of parts.Commit = Text commit_text
+part_of parts.Back = Back
 
 -- connecting, with these queries that set the connection up
 abbrev pub connecting_parts : List (List ℕ) → List Part
@@ -48,3 +51,7 @@ reset_parts setup = Offered ∷ clean (Command ∷ All ∷ Clear ∷ parts_of_qu
 -- the beginning of a transaction
 abbrev pub begin_parts : TxView → List Part
 begin_parts opts = clean (Refuse opts ∷ parts_of_queries (begin_texts opts) (Settle txs.InTransaction ∷ []))
+
+-- a transaction is rolled back that couldn't be committed
+abbrev pub reverting_parts : List Part
+reverting_parts = Undo ∷ Back ∷ []

@@ -1,5 +1,5 @@
 -- What the program knows where the reading stands, and what a step of a call does there.
-use Rattle.std.specs.Prelude.{◌≡◌, ℕ, suc, nat_lt, List, [], ◌∷◌, ◌++◌, length, slice_get, Option, Some, None, Bool, true, false, ◌&&◌, ◌||◌, if◌then◌else◌}
+use Rattle.std.specs.Prelude.{◌≡◌, ℕ, suc, nat_lt, List, [], ◌∷◌, ◌++◌, length, min, slice_get, Option, Some, None, Bool, true, false, ◌&&◌, ◌||◌, if◌then◌else◌}
 use Rattle.my_command.specs.declared.client.ClientPacket.TheVariants as packets
 use Rattle.my_command.specs.Client.Packet.{client_bytes as packet_bytes}
 use Rattle.my_frame.specs.declared.fault.CodecFault.TheVariants.{TooLarge}
@@ -34,9 +34,13 @@ use Rattle.my_reading.specs.declared.call.Call.TheVariants as calls
 use Rattle.my_reading.specs.declared.error.DriverError.{DriverError}
 use Rattle.my_reading.specs.declared.error.Error.{Error}
 use Rattle.my_reading.specs.declared.error.Error.TheVariants as errors
+use Rattle.my_reading.specs.declared.error.ServerError.{ServerError}
+use Rattle.my_reading.specs.declared.transaction.Trial.{Trial}
+use Rattle.my_reading.specs.declared.transaction.Trial.TheVariants as trials
 use Rattle.my_reading.specs.declared.transaction.TxStatus.{TxStatus}
+use Rattle.my_reading.specs.declared.transaction.TxStatus.TheVariants as txs
 use Rattle.my_reading.specs.Commands.{arranging_texts}
-use Rattle.my_reading.specs.Calls.{id_in, text_in}
+use Rattle.my_reading.specs.Calls.{id_in, is_connect, kind_of, text_in}
 use Rattle.my_reading.specs.Course.{first_above, is_greeting, is_rows}
 use Rattle.my_reading.specs.Executions.{Values, Fitting, Unfitting, values_for}
 use Rattle.my_reading.specs.Statements.{Statements, cleared, held_in, is_cached, is_mixed_text, leaving, names_of, query_of, statement_with, with_columns, with_fetched, with_prepared, without_statement}
@@ -44,14 +48,14 @@ use Rattle.my_reading.specs.Errors.{codec_error, invalid_data, mixed_params, ser
 use Rattle.my_reading.specs.Facts.{facts_after, prepared_by}
 use Rattle.my_reading.specs.Place.{Place, exchanges, facts_at, client_side, connects_in}
 use Rattle.my_reading.specs.Rows.{row_of}
-use Rattle.my_reading.specs.Transactions.{begin_refusal, given_up, is_given_up, rollback_text, rolled_back}
+use Rattle.my_reading.specs.Transactions.{begin_refusal, commit_text, given_up, is_given_up, rollback_text, rolled_back}
 use Rattle.my_reading.specs.Versions.{can_reset}
 use Rattle.my_judge.specs.declared.part.Part.{Part}
 use Rattle.my_judge.specs.declared.part.Part.TheVariants as parts
 use Rattle.my_judge.specs.declared.stand.Stand.{Stand}
 use Rattle.my_judge.specs.declared.step.Step.{Step}
 use Rattle.my_judge.specs.Parts.{start_at}
-use Rattle.my_judge.specs.declared.step.Step.TheVariants.{Stays, Passes, Stops}
+use Rattle.my_judge.specs.declared.step.Step.TheVariants.{Stays, Passes, Reverts, Stops}
 use Rattle.my_judge.specs.declared.step.Stop.TheVariants.{Owes, Awaits, Returns}
 use Rattle.my_judge.specs.declared.tape.Ending.TheVariants.{Answered, Failed}
 
@@ -67,15 +71,20 @@ stand_of login p n = record {
   taken = p.taken;
   statements = p.statements;
   status = p.status;
+  trial = p.trial;
   unread = p.unread;
   said = client_side (exchanges p);
   sent = p.sent;
 }
 
+-- so many of them were begun, or all of them and perhaps more
+abbrev pub IsArranged : Login → Place → ℕ → Type 0
+IsArranged login p n = (k : ℕ) × (connects_in (exchanges p) ≡ suc k) × (n ≡ min k (length (arranging_texts login)))
+
 -- The program is at this place, which a reading comes to.
 pub record IsAt (login : Login) (p : Place) (s : Stand) : Type 0 where
   pub stand_is : s ≡ stand_of login p s.arranged
-  pub arranged_is : connects_in (exchanges p) ≡ suc s.arranged
+  pub arranged_is : IsArranged login p s.arranged
   pub fits : Fits p.talk
   pub login_is : login_in login p.talk ≡ login
 
@@ -91,6 +100,7 @@ with_bytes sent taken s = record {
   taken = s.taken;
   statements = s.statements;
   status = s.status;
+  trial = s.trial;
   unread = s.unread ++ taken;
   said = s.said;
   sent = s.sent ++ sent;
@@ -108,6 +118,7 @@ with_end left s = record {
   taken = s.taken;
   statements = s.statements;
   status = s.status;
+  trial = s.trial;
   unread = s.unread;
   said = s.said;
   sent = s.sent;
@@ -125,6 +136,7 @@ with_taken s = record {
   taken = true;
   statements = s.statements;
   status = s.status;
+  trial = s.trial;
   unread = s.unread;
   said = s.said;
   sent = s.sent;
@@ -142,6 +154,7 @@ with_known st s = record {
   taken = s.taken;
   statements = st;
   status = s.status;
+  trial = s.trial;
   unread = s.unread;
   said = s.said;
   sent = s.sent;
@@ -159,6 +172,25 @@ with_status status s = record {
   taken = s.taken;
   statements = s.statements;
   status = status;
+  trial = s.trial;
+  unread = s.unread;
+  said = s.said;
+  sent = s.sent;
+}
+
+-- it is being committed, or isn't any more
+abbrev pub with_trial : Trial → Stand → Stand
+with_trial trial s = record {
+  context = s.context;
+  number = s.number;
+  facts = s.facts;
+  texts = s.texts;
+  arranged = s.arranged;
+  end_left = s.end_left;
+  taken = s.taken;
+  statements = s.statements;
+  status = s.status;
+  trial = trial;
   unread = s.unread;
   said = s.said;
   sent = s.sent;
@@ -176,6 +208,7 @@ heard login k payload rest s = record {
   taken = s.taken && is_rows (context_after s.context k).spot;
   statements = s.statements;
   status = s.status;
+  trial = s.trial;
   unread = rest;
   said = s.said ++ said login k payload s.number;
   sent = s.sent;
@@ -193,6 +226,7 @@ asked spot command arranged s = record {
   taken = false;
   statements = s.statements;
   status = s.status;
+  trial = s.trial;
   unread = s.unread;
   said = s.said ++ chunks command 0;
   sent = s.sent;
@@ -210,6 +244,7 @@ executed ahead command s = record {
   taken = false;
   statements = s.statements;
   status = s.status;
+  trial = s.trial;
   unread = s.unread;
   said = (s.said ++ commands_bytes ahead) ++ chunks command 0;
   sent = s.sent;
@@ -244,10 +279,15 @@ after_kind parts.Item kinds.Row row new = turn (Stops (Returns (Answered (answer
 after_kind parts.Set (kinds.Good status) row new = turn (Stops (Returns (Answered answers.Ready))) (with_taken (with_end true new))
 after_kind part k row new = turn Stays new
 
--- an ERR ends the call
+-- An ERR ends the call. While a transaction is being committed it is rolled back first, and the first ERR is what the call returns.
+abbrev pub refused_at : Trial → ServerError → Stand → Turn
+refused_at trials.Off e new = turn (failure (errors.Server e)) new
+refused_at trials.On e new = turn Reverts (with_trial (trials.Refused e) (with_status txs.RequiresRollback new))
+refused_at (trials.Refused first) e new = turn (failure (errors.Server first)) (with_trial trials.Off new)
+
 abbrev pub after_err : Option ErrPacket → Stand → Stand → Turn
 after_err None s new = turn (unfit s) s
-after_err (Some e) s new = turn (failure (errors.Server (server_error e))) new
+after_err (Some e) s new = refused_at s.trial (server_error e) new
 
 -- the response to a greeting may be above the limit
 abbrev pub after_greeting : ℕ → Stand → Stand → Turn
@@ -314,9 +354,12 @@ executes_one (Some statement) params s = executes statement.inner.id (values_for
 abbrev pub closes : ℕ → Stand → Turn
 closes id s = asks spots.Idle (packet_bytes (packets.CloseStatement id)) s.arranged s
 
--- a query of the client's own
-abbrev pub queries : List ℕ → Stand → Turn
-queries text s = asks spots.Head (packet_bytes (packets.Query text)) s.arranged s
+-- how many of the queries that set the connection up were begun after an exchange of the call
+abbrev pub arranged_after : Call → Stand → ℕ
+arranged_after call s = if is_connect (kind_of call) && nat_lt s.arranged (length s.texts) then suc s.arranged else s.arranged
+
+abbrev pub queries : Call → List ℕ → Stand → Turn
+queries call text s = asks spots.Head (packet_bytes (packets.Query text)) (arranged_after call s) s
 
 abbrev pub arranges : Option (List ℕ) → Stand → Turn
 arranges None s = turn Passes s
@@ -325,7 +368,7 @@ arranges (Some text) s = asks spots.Head (packet_bytes (packets.Query text)) (su
 -- the call's next command, where it sends one
 abbrev pub commands : Call → Stand → Turn
 commands calls.Connect s = arranges (slice_get s.texts s.arranged) s
-commands (calls.Query text) s = queries text s
+commands (calls.Query text) s = queries (calls.Query text) text s
 commands (calls.Prepare text) s = asks spots.Prepare (packet_bytes (packets.Prepare (query_of text))) s.arranged s
 commands (calls.Execute statement params) s = executes statement.inner.id (values_for statement params) s
 commands (calls.CloseStmt id) s = closes id s
@@ -337,6 +380,7 @@ commands calls.SkipTaken s = turn Passes s
 commands calls.Ping s = asks spots.Single (packet_bytes packets.Ping) s.arranged s
 commands calls.Reset s = asks spots.Single (packet_bytes packets.ResetConnection) s.arranged s
 commands (calls.Begin opts) s = turn Passes s
+commands calls.Commit s = turn Passes s
 commands calls.Rollback s = turn Passes s
 commands calls.ForgetTransaction s = turn Passes s
 commands calls.Quit s = asks spots.Idle (packet_bytes packets.Quit) s.arranged s
@@ -386,14 +430,19 @@ offers true s = turn Passes s
 offers false s = turn (Stops (Returns (Answered (answers.Flag false)))) s
 
 -- a transaction that was given up is rolled back
-abbrev pub undoes : Bool → Stand → Turn
-undoes true s = queries rollback_text s
-undoes false s = turn Passes s
+abbrev pub undoes : Call → Bool → Stand → Turn
+undoes call true s = queries call rollback_text s
+undoes call false s = turn Passes s
 
 -- a transaction isn't begun
 abbrev pub refuses : Option DriverError → Stand → Turn
 refuses None s = turn Passes s
 refuses (Some e) s = turn (failure (errors.Driver e)) s
+
+-- the transaction was rolled back since it couldn't be committed
+abbrev pub returned : Trial → Stand → Turn
+returned (trials.Refused first) s = turn (failure (errors.Server first)) (with_trial trials.Off (with_status (rolled_back s.status) s))
+returned trial s = turn (Stops (Returns (Answered answers.Ready))) s
 
 -- the first part, where nothing is owed
 abbrev pub begins : Login → Call → List Part → Stand → Turn
@@ -426,14 +475,17 @@ begins login call (parts.Learn ∷ more) s = learns (id_in call) s
 begins login call (parts.Forget ∷ more) s = turn Passes (with_known (without_statement (id_in call) s.statements) s)
 begins login call (parts.Offered ∷ more) s = offers (can_reset (version_of s.facts.version)) s
 begins login call (parts.Clear ∷ more) s = turn Passes (with_known (cleared s.statements) s)
-begins login call (parts.Text text ∷ more) s = queries text.now s
-begins login call (parts.Start opts place ∷ more) s = queries (start_at opts.now place) s
+begins login call (parts.Text text ∷ more) s = queries call text.now s
+begins login call (parts.Start opts place ∷ more) s = queries call (start_at opts.now place) s
 begins login call (parts.Flag flag ∷ more) s = turn (Stops (Returns (Answered (answers.Flag flag)))) s
-begins login call (parts.Undo ∷ more) s = undoes (is_given_up s.status) s
+begins login call (parts.Undo ∷ more) s = undoes call (is_given_up s.status) s
 begins login call (parts.Undone ∷ more) s = turn Passes (with_status (rolled_back s.status) s)
 begins login call (parts.Refuse opts ∷ more) s = refuses (begin_refusal opts.now (version_of s.facts.version) s.status) s
-begins login call (parts.Settle status ∷ more) s = turn Passes (with_status status s)
+begins login call (parts.Settle status ∷ more) s = turn Passes (with_trial trials.Off (with_status status s))
 begins login call (parts.GiveUp ∷ more) s = turn Passes (with_status (given_up s.status) s)
+begins login call (parts.Try ∷ more) s = turn Passes (with_trial trials.On s)
+begins login call (parts.Commit ∷ more) s = queries call commit_text s
+begins login call (parts.Back ∷ more) s = if is_idle s.context.spot then returned s.trial s else reads login parts.Back s
 
 -- a step of a call with these parts
 abbrev pub steps : Login → Call → List Part → Stand → Turn

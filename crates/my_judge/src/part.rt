@@ -1,6 +1,6 @@
 //! The parts of a call.
 
-ghost use Rattle.std.specs.Prelude.{◌≡◌, ◌++◌, IfOk, OnOk, drop, map};
+ghost use Rattle.std.specs.Prelude.{◌≡◌, ◌∷◌, ◌++◌, [], IfOk, OnOk, drop, map};
 ghost use Rattle.my_reading.specs.Commands.{arranging_texts};
 ghost use Rattle.my_reading.specs.Course.{clean, parts_of, parts_of_batch, parts_of_lists};
 ghost use Rattle.my_judge.specs.Parts.{begin_parts, connecting_parts, part_of, reset_parts};
@@ -63,6 +63,12 @@ pub enum Part<'a> {
     Settle(TxStatus),
     /// It is given up.
     GiveUp,
+    /// It is to be committed.
+    Try,
+    /// The query that commits it is sent.
+    Commit,
+    /// It was rolled back since it couldn't be committed.
+    Back,
 }
 
 // These parts come first, and those follow once the call has cleaned.
@@ -196,10 +202,23 @@ pub fn parts_of<'a>(
         Call::Ping => cleaned(alloc, &[], &[Part::Command, Part::All]),
         Call::Reset => parts_of_reset(alloc, login.setup.as_slice()),
         Call::Begin(opts) => parts_of_begin(alloc, opts),
+        Call::Commit => cleaned(
+            alloc,
+            &[Part::Try],
+            &[Part::Commit, Part::All, Part::Settle(TxStatus::None)],
+        ),
         Call::Rollback => cleaned(alloc, &[Part::Settle(TxStatus::RequiresRollback)], &[]),
         Call::ForgetTransaction => Ok(vec![in alloc; Part::GiveUp]?),
         Call::Quit => cleaned(alloc, &[], &[Part::Command]),
     }
+}
+
+/// Adds the parts by which a transaction is rolled back that couldn't be committed.
+pub fn add_reverting(parts: &mut Vec<Part>) -> Result<(), NoMemory>
+    ensures { OnOk result (parts.new.items ≡ parts.old.items ++ Part.Undo ∷ Part.Back ∷ []) }
+{
+    parts.extend_from_slice(&[Part::Undo, Part::Back])?;
+    Ok(())
 }
 
 /// All but the first part.

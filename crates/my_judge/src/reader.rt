@@ -58,7 +58,8 @@ fn is_quit(kind: CallKind) -> bool
     }
 }
 
-fn is_connect(kind: CallKind) -> bool
+/// Whether the call connects.
+pub fn is_connect(kind: CallKind) -> bool
     ensures { result ≡ is_connect kind }
 {
     match kind {

@@ -16,7 +16,7 @@ use crate::texts::arranging_texts;
 pub use ending::is_same_row;
 use my_frame::{Blob, Listed, NoMemory};
 use my_grammar::{Context, Login, Queue};
-use my_reading::{Facts, Statements, TxStatus};
+use my_reading::{Facts, Statements, Trial, TxStatus};
 use std::alloc::Global;
 
 /// Where the reading stands.
@@ -40,6 +40,8 @@ pub struct Stand {
     pub statements: Statements,
     /// Whether the server has a transaction.
     pub status: TxStatus,
+    /// Whether it is being committed.
+    pub trial: Trial,
     /// Bytes that were received and not read.
     pub unread: Queue,
     /// What the client says in the exchanges.
@@ -79,6 +81,7 @@ impl Stand {
             taken: false,
             statements,
             status: TxStatus::None,
+            trial: Trial::Off,
             unread: Queue::new(alloc),
             said: Queue::new(alloc),
             sent: Queue::new(alloc),

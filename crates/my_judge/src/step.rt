@@ -20,5 +20,7 @@ pub enum Step {
     Stays,
     /// It goes on with the next part.
     Passes,
+    /// The transaction couldn't be committed: it goes on with its rollback.
+    Reverts,
     Stops(Stop),
 }

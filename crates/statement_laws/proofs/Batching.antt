@@ -9,14 +9,14 @@ use Rattle.my_reading.specs.declared.call.Call.TheVariants.{Execute, Batch, Drop
 use Rattle.my_grammar.specs.Cut.{is_over}
 use Rattle.my_reading.specs.declared.transaction.TxStatus.{TxStatus}
 use Rattle.my_reading.specs.declared.transaction.TxStatus.TheVariants as txs
-use Rattle.my_reading.specs.Course.{Part, All, Head, Command, Check, Run, Learn, Undo, Undone, Step, Goes, Stops, Stop, Owes, Awaits, Returns, Halt, halt, step, step_of, unless_owed, reads, undone, clean, parts_of, parts_of_batch, parts_of_lists, course}
+use Rattle.my_reading.specs.Course.{Part, All, Head, Command, Check, Run, Learn, Undo, Undone, Back, Step, Goes, Stops, Stop, Owes, Awaits, Returns, Halt, halt, step, step_of, unless_owed, reads, undone, clean, parts_of, parts_of_batch, parts_of_lists, course}
 use Rattle.my_reading.specs.Leads.{Leads, Here, Then}
 use Rattle.my_reading.specs.Place.{Place, owed, with_status, without_end}
 use Rattle.my_reading.specs.Told.{ToldReady, ToldRow, ToldEnd, ToldNone, ToldStatement, ToldFlag, ToldError, Dropped}
 use Rattle.my_reading.specs.Transactions.{is_given_up, rolled_back}
 use Rattle.my_reading.proofs.Leading.{leads_to_course}
 use Rattle.statement_laws.specs.Batches.{Alike, AlikePlaces, BatchesAreExecutions, all_done, executions, then_go}
-use Rattle.statement_laws.proofs.Beside.{Beside, BothAll, BothHead, BothLearn, BothCheck, BothUndo, Sent, Pairs, End, More, Calms, Alone, Calm, Placed, Paired, Resting, is_calm, is_placed, is_ready, side_same, size, steps_beside}
+use Rattle.statement_laws.proofs.Beside.{Beside, BothAll, BothHead, BothLearn, BothCheck, BothUndo, Sent, Pairs, End, More, Calms, Alone, Calm, Placed, Paired, Resting, Reverting, Returning, is_calm, is_placed, is_ready, returns_beside, reverts_beside, side_same, size, steps_beside}
 
 -- where these parts of a call lead, and how it stops there
 record Comes (login : Login) (call : Call) (parts : List Part) (p : Place) (h : Halt) : Type 0 where
@@ -84,6 +84,7 @@ module _ (login : Login) (c : Call) (xs : List Part) (p : Place) (ended : p.end_
     taken = w.taken;
     statements = w.statements;
     status = w.status ∙ sym (calm_stays p.status calm);
+    trial = w.trial;
     unread = w.unread;
     sent = w.sent;
   }
@@ -106,10 +107,9 @@ module _ (login : Login) (c d : Call) (tail : List Part) where
 
   -- a step of each, after which this is the outcome
   stepping : (n : ℕ) → ((us vs : List Part) (p q : Place) → size us p ≤ n → Placed c d tail p us vs → AlikePlaces q p → Outcome login c d tail us vs p q)
-      → (calm : Bool) (x y : Part) (us vs : List Part) (p q : Place) → size (x ∷ us) p ≤ suc n → Pairs c d tail calm (x ∷ us) (y ∷ vs) → Calm calm p.status → AlikePlaces q p
+      → (x y : Part) (us vs : List Part) (p q : Place) → size (x ∷ us) p ≤ suc n → Beside c d tail (size (x ∷ us) p) (step login c (x ∷ us) p) (step login d (y ∷ vs) q)
       → Outcome login c d tail (x ∷ us) (y ∷ vs) p q
-  stepping n go calm x y us vs p q h pairs known w =
-      by_steps (step login c (x ∷ us) p) (step login d (y ∷ vs) q) refl refl (steps_beside login c d tail calm p q x y us vs pairs known w)
+  stepping n go x y us vs p q h beside = by_steps (step login c (x ∷ us) p) (step login d (y ∷ vs) q) refl refl beside
     where
       by_steps : (s t : Step) → step login c (x ∷ us) p ≡ s → step login d (y ∷ vs) q ≡ t → Beside c d tail (size (x ∷ us) p) s t → Outcome login c d tail (x ∷ us) (y ∷ vs) p q
       by_steps (Goes us' p') (Goes vs' q') e f b =
@@ -138,11 +138,16 @@ module _ (login : Login) (c d : Call) (tail : List Part) where
   outcome n xs ys p q h (Paired calm us vs End known) w = Ends p q (Here [] p) (Here tail q) w known
   outcome zero xs ys p q h placed w = absurd (omega (arith, h))
   outcome (suc n) xs ys p q h (Paired calm us vs (More b x y xs' ys' pair pairs) known) w =
-      stepping n (λ us' vs' p' q' less b v. outcome n us' vs' p' q' less b v) b x y xs' ys' p q h (More b x y xs' ys' pair pairs) known w
+      stepping n (λ us' vs' p' q' less b v. outcome n us' vs' p' q' less b v) x y xs' ys' p q h (steps_beside login c d tail p q w b x y xs' ys' (More b x y xs' ys' pair pairs) known)
   outcome (suc n) xs ys p q h (Paired calm us vs (Calms xs' ys' pairs) known) w =
-      stepping n (λ us' vs' p' q' less b v. outcome n us' vs' p' q' less b v) false Undone Undone xs' ys' p q h (Calms xs' ys' pairs) known w
+      stepping n (λ us' vs' p' q' less b v. outcome n us' vs' p' q' less b v) Undone Undone xs' ys' p q h (steps_beside login c d tail p q w false Undone Undone xs' ys' (Calms xs' ys' pairs) known)
   outcome (suc n) xs ys p q h (Paired calm us vs (Alone xs' ys' pairs) known) w =
-      stepping n (λ us' vs' p' q' less b v. outcome n us' vs' p' q' less b v) true All All (Undo ∷ All ∷ Undone ∷ xs') ys' p q h (Alone xs' ys' pairs) known w
+      stepping n (λ us' vs' p' q' less b v. outcome n us' vs' p' q' less b v) All All (Undo ∷ All ∷ Undone ∷ xs') ys' p q h
+      (steps_beside login c d tail p q w true All All (Undo ∷ All ∷ Undone ∷ xs') ys' (Alone xs' ys' pairs) known)
+  outcome (suc n) xs ys p q h (Reverting refused) w =
+      stepping n (λ us' vs' p' q' less b v. outcome n us' vs' p' q' less b v) Undo Undo (Back ∷ []) (Back ∷ []) p q h (reverts_beside login c d tail p q w refused)
+  outcome (suc n) xs ys p q h (Returning refused) w =
+      stepping n (λ us' vs' p' q' less b v. outcome n us' vs' p' q' less b v) Back Back [] [] p q h (returns_beside login c d tail p q w refused)
   outcome (suc n) xs ys p q h (Resting us vs pairs ended over calm) w =
       resting n (λ us' vs' p' q' less b v. outcome n us' vs' p' q' less b v) us vs p q h pairs ended over calm w
 
@@ -252,7 +257,7 @@ module _ (login : Login) (statement : StatementView) (all : List Params) where
       (λ r s v known. lists_reach lists r s v known)
 
 same_place : (p : Place) → AlikePlaces p p
-same_place p = record { talk = refl; older = refl; end_left = refl; taken = refl; statements = refl; status = refl; unread = refl; sent = refl }
+same_place p = record { talk = refl; older = refl; end_left = refl; taken = refl; statements = refl; status = refl; trial = refl; unread = refl; sent = refl }
 
 pub batches_are_executions : BatchesAreExecutions
 batches_are_executions login statement lists p =

@@ -8,10 +8,9 @@ use Rattle.my_grammar.specs.declared.spot.Terms.{Terms}
 use Rattle.my_grammar.specs.Cut.{is_over}
 use Rattle.my_grammar.specs.Growth.{grow}
 use Rattle.my_reading.specs.declared.call.Call.{Call}
-use Rattle.my_reading.specs.declared.error.Error.TheVariants.{Server}
 use Rattle.my_reading.specs.declared.transaction.TxStatus.{TxStatus}
 use Rattle.my_reading.specs.Commands.{queried}
-use Rattle.my_reading.specs.Course.{Part, All, Undo, Undone, Step, Goes, failure, step_of, undone}
+use Rattle.my_reading.specs.Course.{Part, All, Undo, Undone, Step, Goes, refused_at, step_of, undone}
 use Rattle.my_reading.specs.Errors.{server_error}
 use Rattle.my_reading.specs.Place.{Place, exchanges, terms_of, with_exchange, with_status, with_talk, without_end}
 use Rattle.my_reading.specs.Transactions.{is_given_up, rollback_text, rolled_back}
@@ -30,7 +29,7 @@ module _ (login : Login) (call : Call) (parts : List Part) (H : Place → Type 0
     (during : (more : List Part) (p : Place) → Cleans parts more → H p → R (Goes more p))
     (after : (p : Place) → H p → R (Goes parts p))
     (grown : (p : Place) (k : Kind) (q rest : List ℕ) → H p → H (with_talk p (grow k p.talk q) rest))
-    (refused : (p : Place) (q rest : List ℕ) (e : ErrPacket) → H p → R (failure (with_talk p (grow kinds.Failed p.talk q) rest) (Server (server_error e))))
+    (refused : (p : Place) (q rest : List ℕ) (e : ErrPacket) → H p → R (refused_at p.trial (with_talk p (grow kinds.Failed p.talk q) rest) (server_error e)))
     (ended : (p : Place) → H p → H (without_end p))
     (opened : (p : Place) (terms : Terms) → H p → H (with_exchange p call (queried terms rollback_text)))
     (settled : (p : Place) (status : TxStatus) → H p → H (with_status status p)) where

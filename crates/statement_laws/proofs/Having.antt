@@ -14,8 +14,7 @@ use Rattle.my_grammar.specs.Growth.{grow}
 use Rattle.my_grammar.specs.Response.{response}
 use Rattle.my_grammar.specs.Talk.{Talk, commands_in, context_of, limit_of}
 use Rattle.my_reading.specs.declared.call.Call.{Call}
-use Rattle.my_reading.specs.Course.{failure, Part, Stop, Awaits, Step, Goes, Stops, with_front, reads, after_payload, after_kind, after_err, unfit, unless_cached, unless_long, with_command, first_above, is_greeting}
-use Rattle.my_reading.specs.declared.error.Error.TheVariants.{Server}
+use Rattle.my_reading.specs.Course.{Part, Stop, Awaits, Step, Goes, Stops, with_front, reads, after_payload, after_kind, after_err, refused_at, unfit, unless_cached, unless_long, with_command, first_above, is_greeting}
 use Rattle.my_reading.specs.Errors.{server_error}
 use Rattle.my_reading.specs.Place.{Place, with_exchange, with_talk}
 use Rattle.my_reading.specs.Statements.{is_cached}
@@ -56,7 +55,7 @@ module _ (R : Step → Type 0) (p : Place) (stops : StopsHave R p) where
   module _ (login : Login) (part : Part) (parts : List Part)
       (again : (k : Kind) (q rest : List ℕ) → Comes p k q → R (Goes (part ∷ parts) (with_talk p (grow k p.talk q) rest)))
       (other : (k : Kind) (q rest : List ℕ) (row : Told) → Comes p k q → R (after_kind part parts k (with_talk p (grow k p.talk q) rest) row))
-      (refused : (q rest : List ℕ) (e : ErrPacket) → R (failure (with_talk p (grow kinds.Failed p.talk q) rest) (Server (server_error e)))) where
+      (refused : (q rest : List ℕ) (e : ErrPacket) → R (refused_at p.trial (with_talk p (grow kinds.Failed p.talk q) rest) (server_error e))) where
     err_has : (q : List ℕ) (rest : List ℕ) (o : Option ErrPacket) → R (after_err login p (with_talk p (grow kinds.Failed p.talk q) rest) o)
     err_has q rest None = stops _ refl
     err_has q rest (Some e) = refused q rest e

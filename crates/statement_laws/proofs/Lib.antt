@@ -4,6 +4,7 @@ pub mod Having
 pub mod Holding
 pub mod Cleaning
 pub mod Phases
+pub mod Reverting
 pub mod Resetting
 pub mod Stepping
 pub mod Running

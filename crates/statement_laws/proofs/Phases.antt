@@ -8,8 +8,10 @@ use Rattle.my_grammar.specs.Talk.{Talk, Asked}
 use Rattle.my_reading.specs.declared.call.Call.{Call}
 use Rattle.my_reading.specs.declared.call.Call.TheVariants.{Prepare, CloseStmt, Reset}
 use Rattle.my_reading.specs.Commands.{closing}
-use Rattle.my_reading.specs.Course.{Part, All, Command, Find, Reply, Keep, Give, Forget, Offered, Clear, clean, Step, Goes, Stops, Stop, Owes, Awaits, Returns}
+use Rattle.my_reading.specs.Course.{Part, All, Command, Find, Reply, Keep, Give, Forget, Offered, Clear, Undo, Back, clean, Step, Goes, Stops, Stop, Owes, Awaits, Returns}
 use Rattle.my_reading.specs.Place.{Place}
+use Rattle.my_reading.specs.declared.transaction.Trial.{Trial}
+use Rattle.my_reading.specs.declared.transaction.Trial.TheVariants.{Refused}
 use Rattle.my_reading.specs.Statements.{held_in, query_of}
 use Rattle.my_reading.specs.Told.{ToldReady, ToldRow, ToldEnd, ToldNone, ToldStatement, ToldFlag, ToldError, Dropped}
 use Rattle.statement_laws.specs.Kept.{Resets, is_answered, is_settled, leaves_open}
@@ -25,6 +27,7 @@ is_plain_part Keep = false
 is_plain_part Give = false
 is_plain_part Forget = false
 is_plain_part Clear = false
+is_plain_part Back = false
 is_plain_part _ = true
 
 abbrev pub is_plain : List Part → Bool
@@ -38,6 +41,15 @@ prepares _ = false
 -- the server's answer to the command that resets its session is awaited, or is an OK
 abbrev pub IsResetting : Talk → Type 0
 IsResetting t = ((terms : Terms) × (t ≡ Asked terms (packet_bytes packets.ResetConnection))) ⊎ Resets t
+
+-- a transaction couldn't be committed
+abbrev pub IsRefused : Trial → Type 0
+IsRefused (Refused e) = Unit {0}
+IsRefused trial = ⊥
+
+-- all is kept where the call may be settled by what is no answer
+abbrev pub Unanswered : Call → Place → Type 0
+Unanswered call p = (s : Stop) → is_answered s ≡ false → is_settled call s ≡ true → Holds p
 
 -- What holds before each of a call's parts.
 pub data Phase : Call → List Part → Place → Type 0 where
@@ -55,6 +67,8 @@ pub data Phase : Call → List Part → Place → Type 0 where
   Readying : (parts left : List Part) (p : Place) → Cleans (Command ∷ All ∷ Clear ∷ parts) left → is_plain parts ≡ true → Holds p → Phase Reset left p
   Commanding : (parts : List Part) (p : Place) → is_plain parts ≡ true → Holds p → Phase Reset (Command ∷ All ∷ Clear ∷ parts) p
   Awaiting : (parts : List Part) (p : Place) → is_plain parts ≡ true → Holds p → IsResetting p.talk → Phase Reset (All ∷ Clear ∷ parts) p
+  Reverting : (call : Call) (p : Place) → IsRefused p.trial → Unanswered call p → Phase call (Undo ∷ Back ∷ []) p
+  Returning : (call : Call) (p : Place) → IsRefused p.trial → Unanswered call p → Phase call (Back ∷ []) p
   Emptying : (parts : List Part) (p : Place) → is_plain parts ≡ true → Holds p → Resets p.talk → Phase Reset (Clear ∷ parts) p
 
 -- a step leads to the next phase, or the call stops where all is kept, unless what it prepares or closes isn't settled
@@ -73,6 +87,18 @@ answer_leaves_open (Returns (ToldStatement statement)) e = refl
 answer_leaves_open (Returns (ToldFlag flag)) e = refl
 answer_leaves_open (Returns (ToldError x)) e = absurd (cc)
 answer_leaves_open (Returns (Dropped closing)) e = absurd (cc)
+
+is_unanswered : (s : Stop) → leaves_open s ≡ false → is_answered s ≡ false
+is_unanswered Owes e = refl
+is_unanswered Awaits e = refl
+is_unanswered (Returns ToldReady) e = absurd (cc)
+is_unanswered (Returns (ToldRow row)) e = absurd (cc)
+is_unanswered (Returns ToldEnd) e = absurd (cc)
+is_unanswered (Returns ToldNone) e = absurd (cc)
+is_unanswered (Returns (ToldStatement statement)) e = absurd (cc)
+is_unanswered (Returns (ToldFlag flag)) e = absurd (cc)
+is_unanswered (Returns (ToldError x)) e = refl
+is_unanswered (Returns (Dropped closing)) e = refl
 
 -- A call that prepares or closes a statement isn't settled where it closes the session, or is left open.
 pub preparing_stops : (text : List ℕ) (p : Place) → StopsHave (IsFine (Prepare text)) p
@@ -96,4 +122,6 @@ stopped_fine c parts p (Offering ps q e w) = λ s _ _. w
 stopped_fine c parts p (Readying ps more q left e w) = λ s _ _. w
 stopped_fine c parts p (Commanding ps q e w) = λ s _ _. w
 stopped_fine c parts p (Awaiting ps q e w r) = λ s _ _. w
+stopped_fine c parts p (Reverting d q r w) = λ s l e. w s (is_unanswered s l) e
+stopped_fine c parts p (Returning d q r w) = λ s l e. w s (is_unanswered s l) e
 stopped_fine c parts p (Emptying ps q e w r) = λ s _ _. w

@@ -18,6 +18,7 @@ use Rattle.my_grammar.specs.Talk.{Asked, Replied}
 use Rattle.my_reading.specs.declared.call.Call.TheVariants.{Reset}
 use Rattle.my_reading.specs.Commands.{queried}
 use Rattle.my_reading.specs.Course.{Part, All, Command, Clear, Goes, clean, step_of, reads, offered}
+use Rattle.my_reading.specs.Errors.{server_error}
 use Rattle.my_reading.specs.Place.{Place, exchanges, terms_of, with_exchange, with_talk, without_end}
 use Rattle.my_reading.specs.Transactions.{rollback_text}
 use Rattle.statement_laws.specs.Kept.{Resets}
@@ -25,6 +26,7 @@ use Rattle.statement_laws.proofs.Cleaning.{Cleans, Reads, cleans_have}
 use Rattle.statement_laws.proofs.Having.{Comes, begun_has, either, reads_have}
 use Rattle.statement_laws.proofs.Holding.{Holds, grown_holds, grown_resets, opened_holds}
 use Rattle.statement_laws.proofs.Talks.{is_failed}
+use Rattle.statement_laws.proofs.Reverting.{refused_fine}
 use Rattle.statement_laws.proofs.Phases.{IsFine, IsResetting, Phase, Readying, Commanding, Awaiting, Emptying, is_plain}
 
 -- where one OK or ERR is awaited, what is neither bad nor an ERR is an OK
@@ -48,7 +50,7 @@ module _ (login : Login) (ps : List Part) (plain : is_plain ps ≡ true) where
       (λ more q here h. Readying ps more q here plain h)
       (λ q h. Commanding ps q plain h)
       (λ q k bytes rest h. grown_holds (λ i. ⊥) q k bytes rest h)
-      (λ q bytes rest x h _. grown_holds (λ i. ⊥) q kinds.Failed bytes rest h)
+      (λ q bytes rest x h. refused_fine Reset q.trial (with_talk q (grow kinds.Failed q.talk bytes) rest) (server_error x) (λ s _ _. grown_holds (λ i. ⊥) q kinds.Failed bytes rest h))
       (λ q h. h)
       (λ q terms h. opened_holds (λ i. ⊥) q Reset (queried terms rollback_text) refl refl h)
       (λ q status h. h)
@@ -81,4 +83,4 @@ module _ (login : Login) (ps : List Part) (plain : is_plain ps ≡ true) where
       by_over : (b : Bool) → is_over p.talk ≡ b → IsFine Reset (cond b (Goes (Clear ∷ ps) p) (reads login All (Clear ∷ ps) p))
       by_over true e = Emptying ps p plain w (over p e r)
       by_over false e = reads_have (IsFine Reset) p (λ s _ _. w) login All (Clear ∷ ps) again (λ k q rest row c. again k q rest c)
-          (λ q rest x _. grown_holds (λ i. ⊥) p kinds.Failed q rest w)
+          (λ q rest x. refused_fine Reset p.trial (with_talk p (grow kinds.Failed p.talk q) rest) (server_error x) (λ s _ _. grown_holds (λ i. ⊥) p kinds.Failed q rest w))

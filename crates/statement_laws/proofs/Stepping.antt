@@ -12,18 +12,20 @@ use Rattle.my_grammar.specs.Prepares.{Unanswered}
 use Rattle.my_grammar.specs.Talk.{Talk, Preparing, context_of}
 use Rattle.my_statements.specs.Cache.{Held}
 use Rattle.my_reading.specs.declared.call.Call.{Call}
-use Rattle.my_reading.specs.declared.call.Call.TheVariants.{Connect, Query, Prepare, Execute, Batch, CloseStmt, NextRow, DropResult, TakeSet, SkipTaken, Ping, Reset, Begin, Rollback, ForgetTransaction, Quit}
+use Rattle.my_reading.specs.declared.call.Call.TheVariants.{Connect, Query, Prepare, Execute, Batch, CloseStmt, NextRow, DropResult, TakeSet, SkipTaken, Ping, Reset, Begin, Commit, Rollback, ForgetTransaction, Quit}
 use Rattle.my_params.specs.declared.params.Params.{Params}
 use Rattle.my_reading.specs.Calls.{id_in, statement_in}
 use Rattle.my_reading.specs.Commands.{arranging, arranging_texts, closing, connecting, execution, opening, queried, setup_texts}
-use Rattle.my_reading.specs.Course.{Part, All, Head, Item, Set, Rest, Command, Find, Check, Run, Reply, Keep, Give, Learn, Forget, Offered, Clear, Text, Flag, Undo, Undone, Refuse, Settle, GiveUp, Goes, step, step_of, unless_owed, reads, after_kind, with_command, found, checked, executed, closing_of, learned, offered, undone, unless_refused, is_rows, clean, parts_of, parts_of_batch, parts_of_lists, parts_of_queries, parts_of_texts, Owes}
+use Rattle.my_reading.specs.Course.{Part, All, Head, Item, Set, Rest, Command, Find, Check, Run, Reply, Keep, Give, Learn, Forget, Offered, Clear, Text, Flag, Undo, Undone, Refuse, Settle, GiveUp, Try, Back, Goes, step, step_of, unless_owed, reads, after_kind, with_command, found, checked, executed, closing_of, learned, offered, undone, unless_refused, is_rows, clean, parts_of, parts_of_batch, parts_of_lists, parts_of_queries, parts_of_texts, Owes}
 use Rattle.my_reading.specs.Executions.{Values, Fitting, Unfitting, values_for}
 use Rattle.my_reading.specs.Facts.{prepared_by}
-use Rattle.my_reading.specs.Place.{Place, connects_in, exchanges, facts_at, facts_of, next_exchange, owed, terms_of, with_end, with_exchange, with_statements, with_status, with_talk, without_end}
+use Rattle.my_reading.specs.Place.{Place, connects_in, exchanges, facts_at, facts_of, next_exchange, owed, terms_of, with_end, with_exchange, with_statements, with_status, with_talk, with_trial, without_end}
 use Rattle.my_reading.specs.Statements.{Statements, cleared, held_in, is_cached, is_mixed_text, leaving, query_of, with_prepared, without_statement}
 use Rattle.my_handshake.specs.Version.{version_of}
 use Rattle.my_reading.specs.declared.error.DriverError.{DriverError}
+use Rattle.my_reading.specs.declared.transaction.Trial.TheVariants as trials
 use Rattle.my_reading.specs.declared.transaction.TxStatus.TheVariants.{InTransaction}
+use Rattle.my_reading.specs.Errors.{server_error}
 use Rattle.my_reading.specs.Transactions.{begin_refusal, begin_texts, given_up, is_given_up, rollback_text, rolled_back}
 use Rattle.my_reading.specs.Versions.{can_reset}
 use Rattle.my_reading.specs.Told.{Told}
@@ -32,7 +34,8 @@ use Rattle.statement_laws.proofs.Cleaning.{Cleans, Reads, cleans_have}
 use Rattle.statement_laws.proofs.Having.{Comes, begun_has, command_has, either, reads_have}
 use Rattle.statement_laws.proofs.Holding.{Holds, HoldsBefore, HoldsBut, cleared_holds, closing_holds, fetched_holds, forgotten_holds, grown_before, grown_holds, learned_holds, opened_before, opened_holds, prepared_holds, refused_holds, weaker_holds}
 use Rattle.statement_laws.proofs.Talks.{is_open, over_is_done, whole_talk}
-use Rattle.statement_laws.proofs.Phases.{IsFine, Phase, Steady, Finding, Clearing, Asking, Replying, Keeping, Giving, Forgetting, Passing, Closing, Offering, Readying, Commanding, Awaiting, Emptying, closing_stops, is_plain, prepares, preparing_stops, stopped_fine}
+use Rattle.statement_laws.proofs.Phases.{IsFine, Phase, Steady, Finding, Clearing, Asking, Replying, Keeping, Giving, Forgetting, Passing, Closing, Offering, Readying, Commanding, Awaiting, Reverting, Returning, Emptying, closing_stops, is_plain, prepares, preparing_stops, stopped_fine}
+use Rattle.statement_laws.proofs.Reverting.{refused_fine, returning, reverting}
 use Rattle.statement_laws.proofs.Resetting.{awaiting, commanding, offering, readying}
 
 -- what other calls begin prepares nothing
@@ -68,6 +71,7 @@ opening_plain login terms st SkipTaken n e = tt
 opening_plain login terms st Ping n e = (refl, refl)
 opening_plain login terms st Reset n e = (refl, refl)
 opening_plain login terms st (Begin opts) n e = tt
+opening_plain login terms st Commit n e = tt
 opening_plain login terms st Rollback n e = tt
 opening_plain login terms st ForgetTransaction n e = tt
 opening_plain login terms st Quit n e = (refl, refl)
@@ -91,6 +95,8 @@ module _ (login : Login) (call : Call) (other : prepares call ≡ false) where
   steady_kind (Refuse opts) parts e k new row w = Steady call (Refuse opts ∷ parts) new e other w
   steady_kind (Settle status) parts e k new row w = Steady call (Settle status ∷ parts) new e other w
   steady_kind GiveUp parts e k new row w = Steady call (GiveUp ∷ parts) new e other w
+  steady_kind Try parts e k new row w = Steady call (Try ∷ parts) new e other w
+  steady_kind Back parts e k new row w = absurd (cc)
   steady_kind Head parts e (kinds.Good status) new row w = Steady call parts (with_end new) e other w
   steady_kind Head parts e _ new row w = Steady call (Head ∷ parts) new e other w
   steady_kind Item parts e (kinds.Good status) new row w = λ _. w
@@ -110,7 +116,7 @@ module _ (login : Login) (call : Call) (other : prepares call ≡ false) where
   steady_reads part parts p e w = reads_have (IsFine call) p (λ s _ _. w) login part parts
       (λ k q rest _. Steady call (part ∷ parts) (with_talk p (grow k p.talk q) rest) e other (grown_holds (λ i. ⊥) p k q rest w))
       (λ k q rest row _. steady_kind part parts e k (with_talk p (grow k p.talk q) rest) row (grown_holds (λ i. ⊥) p k q rest w))
-      (λ q rest e _. grown_holds (λ i. ⊥) p kinds.Failed q rest w)
+      (λ q rest x. refused_fine call p.trial (with_talk p (grow kinds.Failed p.talk q) rest) (server_error x) (λ s _ _. grown_holds (λ i. ⊥) p kinds.Failed q rest w))
 
   steady_checked : (parts : List Part) (p : Place) (v : Values) → is_plain parts ≡ true → Holds p → IsFine call (checked parts p v)
   steady_checked parts p (Fitting values) e w = Steady call parts p e other w
@@ -169,8 +175,10 @@ module _ (login : Login) (call : Call) (other : prepares call ≡ false) where
   steady (Undo ∷ parts) p e w = steady_undone parts p (is_given_up p.status) e w
   steady (Undone ∷ parts) p e w = Steady call parts (with_status (rolled_back p.status) p) e other w
   steady (Refuse opts ∷ parts) p e w = steady_refused parts p (begin_refusal opts (version_of (facts_at login p).version) p.status) e w
-  steady (Settle status ∷ parts) p e w = Steady call parts (with_status status p) e other w
+  steady (Settle status ∷ parts) p e w = Steady call parts (with_trial trials.Off (with_status status p)) e other w
   steady (GiveUp ∷ parts) p e w = Steady call parts (with_status (given_up p.status) p) e other w
+  steady (Try ∷ parts) p e w = Steady call parts (with_trial trials.On p) e other w
+  steady (Back ∷ parts) p e w = absurd (cc)
   steady (Clear ∷ parts) p e w = absurd (cc)
 
 -- a call that prepares a statement
@@ -194,7 +202,7 @@ module _ (login : Login) (text : List ℕ) where
       (λ more q here h. Clearing text more q here h.0 h.1)
       (λ q h. Asking text q h.0 h.1)
       (λ q k bytes rest h. (grown_holds (λ i. ⊥) q k bytes rest h.0, h.1))
-      (λ q bytes rest x h _. grown_holds (λ i. ⊥) q kinds.Failed bytes rest h.0)
+      (λ q bytes rest x h. refused_fine asking_call q.trial (with_talk q (grow kinds.Failed q.talk bytes) rest) (server_error x) (λ s _ _. grown_holds (λ i. ⊥) q kinds.Failed bytes rest h.0))
       (λ q h. h)
       (λ q terms h. (opened_holds (λ i. ⊥) q asking_call (queried terms rollback_text) refl refl h.0, h.1))
       (λ q status h. h)
@@ -215,7 +223,7 @@ module _ (login : Login) (text : List ℕ) where
       by_over : (b : Bool) → is_over p.talk ≡ b → IsFine asking_call (cond b (Goes (Keep ∷ Give ∷ []) p) (reads login Reply (Keep ∷ Give ∷ []) p))
       by_over true e = Keeping text p w e
       by_over false e = reads_have (IsFine asking_call) p (preparing_stops text p) login Reply (Keep ∷ Give ∷ []) again (λ k q rest row c. again k q rest c)
-          (λ q rest x _. refused_holds (query_of text) p q rest w)
+          (λ q rest x. refused_fine asking_call p.trial (with_talk p (grow kinds.Failed p.talk q) rest) (server_error x) (λ s _ _. refused_holds (query_of text) p q rest w))
 
   closed : (p : Place) (terms : Terms) (o : Option ℕ) → HoldsBut (λ i. o ≡ Some i) p → IsFine asking_call (with_command asking_call (Give ∷ []) p (closing_of terms o))
   closed p terms None w = Giving text p (weaker_holds (λ i. None ≡ Some i) (λ i. ⊥) p (λ i e. absurd (cc)) w)
@@ -238,7 +246,7 @@ module _ (login : Login) (id : ℕ) where
       (λ more q here h. Passing id more q here h)
       (λ q h. Closing id q h)
       (λ q k bytes rest h. grown_holds (λ i. i ≡ id) q k bytes rest h)
-      (λ q bytes rest x h e. absurd (cc))
+      (λ q bytes rest x h. refused_fine (CloseStmt id) q.trial (with_talk q (grow kinds.Failed q.talk bytes) rest) (server_error x) (λ s a e. absurd (cc)))
       (λ q h. h)
       (λ q terms h. opened_holds (λ i. i ≡ id) q (CloseStmt id) (queried terms rollback_text) refl refl h)
       (λ q status h. h)
@@ -265,6 +273,8 @@ part_fine login c parts p (Offering ps q e w) = offering login ps e q (can_reset
 part_fine login c parts p (Readying ps more q left e w) = readying login ps e more q left w
 part_fine login c parts p (Commanding ps q e w) = commanding login ps e q w
 part_fine login c parts p (Awaiting ps q e w r) = awaiting login ps e q w r
+part_fine login c parts p (Reverting d q r w) = reverting login d q r w
+part_fine login c parts p (Returning d q r w) = returning login d q r w
 part_fine login c parts p (Emptying ps q e w r) = Steady Reset ps (with_statements (cleared q.statements) q) e refl (cleared_holds q r w)
 
 pub step_fine : (login : Login) (call : Call) (parts : List Part) (p : Place) → Phase call parts p → IsFine call (step login call parts p)
@@ -305,6 +315,7 @@ begins_fine login SkipTaken p w = Steady SkipTaken (parts_of login SkipTaken) p 
 begins_fine login Ping p w = Steady Ping (parts_of login Ping) p refl refl w
 begins_fine login Reset p w = Offering (parts_of_queries (setup_texts login) (Flag true ∷ [])) p (queries_plain (setup_texts login) (Flag true ∷ []) refl) w
 begins_fine login (Begin opts) p w = Steady (Begin opts) (parts_of login (Begin opts)) p (queries_plain (begin_texts opts) (Settle InTransaction ∷ []) refl) refl w
+begins_fine login Commit p w = Steady Commit (parts_of login Commit) p refl refl w
 begins_fine login Rollback p w = Steady Rollback (parts_of login Rollback) p refl refl w
 begins_fine login ForgetTransaction p w = Steady ForgetTransaction (parts_of login ForgetTransaction) p refl refl w
 begins_fine login Quit p w = Steady Quit (parts_of login Quit) p refl refl w

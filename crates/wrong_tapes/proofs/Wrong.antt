@@ -41,7 +41,7 @@ io_mark (ios.Codec fault) = 15
 error_mark : Error → ℕ
 error_mark (errors.Driver e) = 16
 error_mark (errors.Io e) = io_mark e
-error_mark (errors.Server e) = 17
+error_mark (errors.Server e) = 30 + e.code
 error_mark (errors.Url e) = 18
 error_mark (errors.Other e) = 19
 error_mark errors.NoMemory = 20
@@ -134,4 +134,10 @@ are_wrong = record {
   told_old_server = λ w. differs _ _ (λ e. absurd (omega arith)) w.calls.1.0.ends;
   early_begin = λ w. not_cut _ _ (λ e. absurd (omega arith)) (λ e. absurd (omega arith)) (λ e. absurd (omega arith)) (λ e. absurd (omega arith)) w.calls.1.0.ends;
   silent_rollback = λ w. not_cut _ _ (λ e. absurd (omega arith)) (λ e. absurd (omega arith)) (λ e. absurd (omega arith)) (λ e. absurd (omega arith)) w.calls.1.1.0.ends;
+  committed_by_error = λ w. not_cut _ _ (λ e. absurd (omega arith)) (λ e. absurd (omega arith)) (λ e. absurd (omega arith)) (λ e. absurd (omega arith)) w.calls.1.1.0.ends;
+  not_rolled_back = λ w. not_cut _ _ (λ e. absurd (omega arith)) (λ e. absurd (omega arith)) (λ e. absurd (omega arith)) (λ e. absurd (omega arith)) w.calls.1.1.0.ends;
+  early_refusal = λ w. not_cut _ _ (λ e. absurd (omega arith)) (λ e. absurd (omega arith)) (λ e. absurd (omega arith)) (λ e. absurd (omega arith)) w.calls.1.1.0.ends;
+  second_refusal = λ w. differs _ _ (λ e. absurd (omega arith)) w.calls.1.1.0.ends;
+  undone_commit = λ w. false≢true w.calls.1.1.0.sent;
+  silent_commit = λ w. not_cut _ _ (λ e. absurd (omega arith)) (λ e. absurd (omega arith)) (λ e. absurd (omega arith)) (λ e. absurd (omega arith)) w.calls.1.1.0.ends;
 }

@@ -11,7 +11,7 @@ use Rattle.my_value.specs.RowParts.{RowParts}
 use Rattle.my_statements.specs.Prepared.{StatementView}
 use Rattle.my_grammar.specs.declared.login.Login.{Login}
 use Rattle.my_reading.specs.declared.call.Call.{Call}
-use Rattle.my_reading.specs.declared.call.Call.TheVariants.{Connect, Query, Prepare, Ping, Reset, Begin, Rollback, ForgetTransaction}
+use Rattle.my_reading.specs.declared.call.Call.TheVariants.{Connect, Query, Prepare, Ping, Reset, Begin, Commit, Rollback, ForgetTransaction}
 use Rattle.my_reading.specs.Tape.{Tape, TapeCall, Span}
 use Rattle.my_reading.specs.Told.{Told, ToldReady, ToldStatement, ToldFlag}
 
@@ -38,9 +38,12 @@ fine n status = packet n (0 ∷ 0 ∷ 0 ∷ status ∷ 0 ∷ 0 ∷ 0 ∷ [])
 abbrev pub end : ℕ → List ℕ
 end n = packet n (254 ∷ 0 ∷ 0 ∷ 2 ∷ 0 ∷ 0 ∷ 0 ∷ [])
 
--- ERR 1045 42000 "no"
+-- ERR 1045 42000 "no", and ERR 1213 40001 "so"
 abbrev pub refusal : ℕ → List ℕ
 refusal n = packet n (255 ∷ 21 ∷ 4 ∷ 35 ∷ codes "42000no")
+
+abbrev pub other_refusal : ℕ → List ℕ
+other_refusal n = packet n (255 ∷ 189 ∷ 4 ∷ 35 ∷ codes "40001so")
 
 -- a column named 1, and a row with the cell 1
 abbrev pub column : ℕ → List ℕ
@@ -121,6 +124,9 @@ pings = packet 0 (14 ∷ [])
 abbrev pub starts : List ℕ
 starts = asks (codes "START TRANSACTION")
 
+abbrev pub commits : List ℕ
+commits = asks (codes "COMMIT")
+
 abbrev pub rolls_back : List ℕ
 rolls_back = asks (codes "ROLLBACK")
 
@@ -192,9 +198,12 @@ reset sent taken flag = returned Reset sent taken (ToldFlag flag)
 abbrev pub pinged : List ℕ → List ℕ → Span
 pinged first oks = returned Ping (first ++ pings) (oks ++ fine 1 2) ToldReady
 
--- a transaction begins, is rolled back, and is given up
+-- a transaction begins, is committed, is rolled back, and is given up
 abbrev pub begun : Span
 begun = returned (Begin default_tx) starts (fine 1 2) ToldReady
+
+abbrev pub committed : Span
+committed = returned Commit commits (fine 1 2) ToldReady
 
 abbrev pub rolled_back : Span
 rolled_back = returned Rollback rolls_back (fine 1 2) ToldReady

@@ -4,7 +4,7 @@ use Rattle.std.specs.Str.Lossy.{utf8_lossy}
 use Rattle.my_value.specs.declared.value.Value.TheVariants.{Int}
 use Rattle.my_params.specs.declared.params.Params.TheVariants.{Empty, Positional}
 use Rattle.my_grammar.specs.declared.login.Login.{Login}
-use Rattle.my_reading.specs.declared.call.Call.TheVariants.{Connect, Query, Prepare, Execute, Batch, CloseStmt, NextRow, DropResult, TakeSet, SkipTaken, Ping, Reset, Begin, Quit}
+use Rattle.my_reading.specs.declared.call.Call.TheVariants.{Connect, Query, Prepare, Execute, Batch, CloseStmt, NextRow, DropResult, TakeSet, SkipTaken, Ping, Reset, Begin, Commit, Quit}
 use Rattle.my_reading.specs.declared.error.DriverError.TheVariants.{NestedTransaction, ReadOnlyTransNotSupported, StmtParamsMismatch}
 use Rattle.my_reading.specs.declared.error.Error.TheVariants.{Driver, Server}
 use Rattle.my_reading.specs.declared.error.ServerError.{ServerError}
@@ -13,11 +13,14 @@ use Rattle.my_reading.specs.Errors.{connection_closed, mixed_params}
 use Rattle.my_reading.specs.Place.{facts_at}
 use Rattle.my_reading.specs.Reading.{reading}
 use Rattle.my_reading.specs.Told.{ToldReady, ToldRow, ToldEnd, ToldNone, ToldStatement, ToldError, Dropped}
-use Rattle.wrong_tapes.specs.Bytes.{root, frugal, orderly, login_by, connected, connected_to, arranged, selected, prepared, prepared_plain, reset, begun, rolled_back, forgotten, pinged, asking, ones, asked, asks, executes, closes, resets, rolls_back, sets_level, sets_access, starts_fully, reading_tx, full_tx, set_up_queries, returned, call_with, row, row_with, one, binary_one, end, head, fine, refusal, column, packet, response, greeting, tape_of}
+use Rattle.wrong_tapes.specs.Bytes.{root, frugal, orderly, login_by, connected, connected_to, arranged, selected, prepared, prepared_plain, reset, begun, committed, rolled_back, forgotten, pinged, asking, ones, asked, asks, executes, closes, resets, commits, rolls_back, sets_level, sets_access, starts_fully, reading_tx, full_tx, set_up_queries, returned, call_with, row, row_with, one, binary_one, end, head, fine, refusal, other_refusal, column, packet, response, greeting, tape_of}
 
--- what the server's ERR says
+-- what the server's ERRs say
 abbrev pub error : ServerError
 error = record { code = 1045; state = utf8_lossy (codes "42000"); message = utf8_lossy (codes "no") }
+
+abbrev pub other_error : ServerError
+other_error = record { code = 1213; state = utf8_lossy (codes "40001"); message = utf8_lossy (codes "so") }
 
 -- the answer to the settings' query: 67,108,864 bytes and 600 seconds
 abbrev pub settings : List ℕ
@@ -81,6 +84,14 @@ pub record AreRight : Type 0 where
       ∷ returned (Prepare (codes "SELECT ?")) [] [] (ToldStatement (asking 1)) ∷ []))
   -- a transaction begins, a query is sent in it, and it is rolled back; then a ping sends no more than itself
   pub transaction : IsTape root (tape_of (connected ∷ begun ∷ asked (codes "DO 1") (fine 1 2) ∷ rolled_back ∷ pinged [] [] ∷ []))
+  -- or it is committed
+  pub commit : IsTape root (tape_of (connected ∷ begun ∷ asked (codes "DO 1") (fine 1 2) ∷ committed ∷ pinged [] [] ∷ []))
+  -- where the server refuses to commit it, it is rolled back, and the call returns why
+  pub not_committed : IsTape root (tape_of (connected ∷ begun ∷ returned Commit (commits ++ rolls_back) (refusal 1 ++ fine 1 2) (ToldError (Server error)) ∷ pinged [] [] ∷ []))
+  -- where it refuses to roll it back, too, the call returns the first refusal, and the next command tries it again
+  pub neither : IsTape root (tape_of (connected ∷ begun ∷ returned Commit (commits ++ rolls_back) (refusal 1 ++ other_refusal 1) (ToldError (Server error)) ∷ pinged rolls_back (fine 1 2) ∷ []))
+  -- an ERR in the rest of a set leaves nothing to be committed
+  pub rest_refused : IsTape root (tape_of (connected ∷ begun ∷ selected ∷ returned Commit rolls_back (refusal 3 ++ fine 1 2) (ToldError (Server error)) ∷ begun ∷ []))
   -- the level comes first, then whether it only reads
   pub begun_so : IsTape root (tape_of (connected ∷ returned (Begin full_tx) (sets_level ++ sets_access ++ starts_fully) (fine 1 2 ++ fine 1 2 ++ fine 1 2) ToldReady ∷ []))
   -- one that was given up is rolled back by the next command, once

@@ -2,7 +2,7 @@
 use Rattle.std.specs.Prelude.{pos, List, [], ◌∷◌, ◌++◌, codes, None, false, true}
 use Rattle.my_value.specs.declared.value.Value.TheVariants.{Int}
 use Rattle.my_params.specs.declared.params.Params.TheVariants.{Empty, Positional}
-use Rattle.my_reading.specs.declared.call.Call.TheVariants.{Connect, Query, Prepare, Execute, Batch, CloseStmt, NextRow, DropResult, TakeSet, SkipTaken, Ping, Begin, Rollback, ForgetTransaction, Quit}
+use Rattle.my_reading.specs.declared.call.Call.TheVariants.{Connect, Query, Prepare, Execute, Batch, CloseStmt, NextRow, DropResult, TakeSet, SkipTaken, Ping, Begin, Commit, Rollback, ForgetTransaction, Quit}
 use Rattle.my_opts_parts.specs.TransactionOptions.{default_tx}
 use Rattle.my_reading.specs.declared.error.DriverError.TheVariants.{NestedTransaction}
 use Rattle.my_reading.specs.declared.error.Error.TheVariants.{Driver, Server}
@@ -11,8 +11,8 @@ use Rattle.my_reading.specs.Endings.{IsTape}
 use Rattle.my_reading.specs.Errors.{connection_closed, mixed_params, io_error, unexpected_eof, invalid_data}
 use Rattle.my_reading.specs.Told.{ToldReady, ToldRow, ToldEnd, ToldNone, ToldStatement, ToldError, Dropped}
 use Rattle.my_reading.specs.Tape.{Span}
-use Rattle.wrong_tapes.specs.Bytes.{root, frugal, orderly, connected, connected_to, arranged, selected, prepared, prepared_plain, reset, begun, forgotten, pinged, asking, ones, executes, closes, resets, starts, rolls_back, sets_level, sets_access, starts_fully, reading_tx, full_tx, asked, asks, returned, call_with, row, one, end, fine, refusal, head, packet, response, greeting, tape_of}
-use Rattle.wrong_tapes.specs.Right.{curious, error}
+use Rattle.wrong_tapes.specs.Bytes.{root, frugal, orderly, connected, connected_to, arranged, selected, prepared, prepared_plain, reset, begun, committed, forgotten, pinged, asking, ones, executes, closes, resets, starts, commits, rolls_back, sets_level, sets_access, starts_fully, reading_tx, full_tx, asked, asks, returned, call_with, row, one, end, fine, refusal, other_refusal, head, packet, response, greeting, tape_of}
+use Rattle.wrong_tapes.specs.Right.{curious, error, other_error}
 
 -- the calls are on no tape of a client that logs in as root
 abbrev pub NoTape : List Span → Type 0
@@ -120,3 +120,12 @@ pub record AreWrong : Type 0 where
   pub early_begin : NoTape (connected ∷ returned (Begin reading_tx) (sets_access ++ starts) (fine 1 2) ToldReady ∷ [])
   -- one is rolled back, and nothing is sent
   pub silent_rollback : NoTape (connected ∷ begun ∷ returned Rollback [] [] ToldReady ∷ [])
+  -- one is committed, though the server refused; or it isn't rolled back then; or the call returns before the answer to that
+  pub committed_by_error : NoTape (connected ∷ begun ∷ returned Commit commits (refusal 1) ToldReady ∷ [])
+  pub not_rolled_back : NoTape (connected ∷ begun ∷ returned Commit commits (refusal 1) (ToldError (Server error)) ∷ [])
+  pub early_refusal : NoTape (connected ∷ begun ∷ returned Commit (commits ++ rolls_back) (refusal 1) (ToldError (Server error)) ∷ [])
+  -- the refusal to roll it back is returned in place of the first one
+  pub second_refusal : NoTape (connected ∷ begun ∷ returned Commit (commits ++ rolls_back) (refusal 1 ++ other_refusal 1) (ToldError (Server other_error)) ∷ [])
+  -- one that was committed is rolled back; or isn't sent at all
+  pub undone_commit : NoTape (connected ∷ begun ∷ returned Commit (commits ++ rolls_back) (fine 1 2 ++ fine 1 2) ToldReady ∷ [])
+  pub silent_commit : NoTape (connected ∷ begun ∷ returned Commit [] [] ToldReady ∷ [])

@@ -9,7 +9,7 @@ ghost use Rattle.wrong_tapes.specs.Wrong.{AreWrong};
 /// a statement that is prepared, executed, found in the cache and closed, one that has to go for another, and what is refused;
 /// batches of two lists of parameters, of none, and of one that doesn't fit; a reset with the queries that follow it, one that
 /// an older server isn't asked for, one that the server refuses, and a statement that is prepared anew after one; transactions
-/// that begin, are rolled back, given up and refused.
+/// that begin, are committed, rolled back, given up and refused.
 pub fn right_tapes_are_accepted()
     ensures { AreRight }
 {}
@@ -20,7 +20,8 @@ pub fn right_tapes_are_accepted()
 /// text, values that don't fit and are sent, a batch that is cut short or not read whole; a reset that wasn't sent or answered,
 /// that is left out, or whose queries are sent in the other order or in part, and a statement that is found after one; a
 /// transaction that was given up and isn't rolled back, or twice or too early, one that begins in another one or is refused for
-/// none, queries of one in another order, one that has begun before its last OK, and a rollback that sends nothing.
+/// none, queries of one in another order, one that has begun before its last OK, a rollback that sends nothing, and one
+/// that is committed though the server refused, or isn't rolled back then.
 pub fn wrong_tapes_are_refuted()
     ensures { AreWrong }
 {}

@@ -6,12 +6,14 @@ ghost use Rattle.my_reading.specs.Course.{first_above};
 ghost use Rattle.my_reading.specs.Executions.{Fitting, values_for};
 ghost use Rattle.my_reading.specs.Statements.{query_of};
 ghost use Rattle.my_command.specs.Client.Packet.{PartsFit, client_bytes};
-ghost use Rattle.my_judge.specs.Stands.{Comes, arranges, asks, closes, commands, executed_in, executes, executes_one};
+ghost use Rattle.my_judge.specs.Stands.{Comes, arranged_after, arranges, asks, closes, commands, executed_in};
+ghost use Rattle.my_judge.specs.Stands.{executes, executes_one};
 ghost use Rattle.my_judge.specs.Stands.{queries, sends};
 
 use super::Stand;
 use super::preparing::executed_in;
 use super::reading::codec_failure;
+use crate::reader::is_connect;
 use crate::step::Step;
 use my_command::{ClientPacket, write_client};
 use my_frame::{Blob, CodecFault, NoMemory};
@@ -200,12 +202,27 @@ impl Stand {
         self.ask(spot, &command, self.arranged)
     }
 
-    /// A query of the client's own is sent.
-    pub(super) fn query(&mut self, alloc: Global, text: &[u8]) -> Result<Step, NoMemory>
-        ensures { IfOk result (λ step. Comes (queries text.now self.old) step self.new) }
+    // How many of the queries that set the connection up were begun after an exchange of the call.
+    fn arranged_after(&self, call: &Call) -> usize
+        ensures { result ≡ arranged_after call.now self.now }
+    {
+        if is_connect(call.kind()) && self.arranged < self.texts.len() {
+            return self.arranged + 1;
+        }
+        self.arranged
+    }
+
+    /// A query is sent.
+    pub(super) fn query(
+        &mut self,
+        alloc: Global,
+        call: &Call,
+        text: &[u8],
+    ) -> Result<Step, NoMemory>
+        ensures { IfOk result (λ step. Comes (queries call.now text.now self.old) step self.new) }
     {
         let command = query_payload(alloc, text)?;
-        self.ask(Spot::Head, &command, self.arranged)
+        self.ask(Spot::Head, &command, self.arranged_after(call))
     }
 
     /// The statement of this id is closed.
@@ -233,7 +250,7 @@ impl Stand {
     {
         match call {
             Call::Connect => self.arrange(alloc),
-            Call::Query(text) => self.query(alloc, text.as_slice()),
+            Call::Query(text) => self.query(alloc, call, text.as_slice()),
             Call::Prepare(text) => self.ask(
                 Spot::Prepare,
                 &prepare_payload(alloc, text)?,
@@ -247,6 +264,7 @@ impl Stand {
             | Call::TakeSet
             | Call::SkipTaken
             | Call::Begin(_)
+            | Call::Commit
             | Call::Rollback
             | Call::ForgetTransaction => Ok(Step::Passes),
             Call::Ping => self.ask_packet(alloc, Spot::Single, ClientPacket::Ping),

@@ -5,7 +5,7 @@ ghost use Rattle.my_reading.specs.Commands.{arranging_texts};
 ghost use Rattle.my_judge.specs.Courses.{CourseIs};
 
 use super::Stand;
-use crate::part::{after_first, parts_of};
+use crate::part::{add_reverting, after_first, parts_of};
 use crate::step::{Step, Stop};
 use my_frame::NoMemory;
 use my_grammar::Login;
@@ -18,14 +18,18 @@ impl Stand {
         requires { self.old.texts ≡ arranging_texts login.now }
         ensures { IfOk result (λ stop. CourseIs login.now call.now self.old stop self.new) }
     {
-        let parts = parts_of(alloc, login, self.texts.as_slice(), call)?;
-        let mut left = parts.as_slice();
-        let mut most = 2 + self.unread.len() as u128 + 2 * parts.len() as u128;
+        let mut parts = parts_of(alloc, login, self.texts.as_slice(), call)?;
+        let count = parts.len();
+        add_reverting(&mut parts)?;
+        let (first, back) = parts.split_at(count);
+        let mut left = first;
+        let mut most = 2 + 4 * self.unread.len() as u128 + 2 * count as u128;
         'steps: while most > 0 {
             most -= 1;
             match self.step(alloc, login, call, left)? {
                 Step::Stays => {}
                 Step::Passes => left = after_first(left),
+                Step::Reverts => left = back,
                 Step::Stops(stop) => return Ok(stop),
             }
         }

@@ -211,7 +211,7 @@ impl Stand {
             Ok(packet) => {
                 let error = server_error(alloc, packet)?;
                 match self.hear(alloc, login, Kind::Failed, found) {
-                    Ok(()) => Ok(failure(Error::Server(error))),
+                    Ok(()) => Ok(self.refuse_at(error)),
                     Err(NoMemory) => {
                         drop(error);
                         Err(NoMemory)

@@ -13,7 +13,7 @@ use crate::step::{Step, Stop};
 use my_frame::NoMemory;
 use my_grammar::{Login, Spot};
 use my_handshake::server_version;
-use my_reading::{Answer, Call, can_reset};
+use my_reading::{Answer, Call, can_reset, commit_text};
 use std::alloc::Global;
 
 fn is_idle(spot: Spot) -> bool
@@ -102,6 +102,16 @@ impl Stand {
         self.read(alloc, login, Part::Reply)
     }
 
+    // The transaction is rolled back that couldn't be committed, and the call returns why.
+    fn read_back(&mut self, alloc: Global, login: &Login, call: &Call) -> Result<Step, NoMemory>
+        ensures { IfOk result (λ step. Comes (begins login.now call.now (Part.Back ∷ []) self.old) step self.new) }
+    {
+        if is_idle(self.context.spot) {
+            return Ok(self.give_back());
+        }
+        self.read(alloc, login, Part::Back)
+    }
+
     // Whether the server can reset its session; one that can't is sent nothing.
     fn offer(&self) -> Step
         ensures { let s = self.now in Comes (offers (can_reset (version_of s.facts.version)) s) result s }
@@ -145,14 +155,17 @@ impl Stand {
             Part::Forget => Ok(self.forget(call)),
             Part::Offered => Ok(self.offer()),
             Part::Clear => Ok(self.clear()),
-            Part::Text(text) => self.query(alloc, text.as_slice()),
-            Part::Start(opts, place) => self.start(alloc, **opts, *place),
+            Part::Text(text) => self.query(alloc, call, text.as_slice()),
+            Part::Start(opts, place) => self.start(alloc, call, **opts, *place),
             Part::Flag(flag) => Ok(answered(Answer::Flag(*flag))),
-            Part::Undo => self.undo(alloc),
-            Part::Undone => Ok(self.settle(self.status.rolled_back())),
+            Part::Undo => self.undo(alloc, call),
+            Part::Undone => Ok(self.stand_so(self.status.rolled_back())),
             Part::Refuse(opts) => Ok(self.refuse_transaction(**opts)),
             Part::Settle(status) => Ok(self.settle(*status)),
-            Part::GiveUp => Ok(self.settle(self.status.given_up())),
+            Part::GiveUp => Ok(self.stand_so(self.status.given_up())),
+            Part::Try => Ok(self.try_it()),
+            Part::Commit => self.query(alloc, call, commit_text()),
+            Part::Back => self.read_back(alloc, login, call),
         }
     }
 }
