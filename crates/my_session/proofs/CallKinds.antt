@@ -3,32 +3,33 @@ use Rattle.std.proofs.Common.{◌≡◌, true, refl}
 use Rattle.my_grammar.specs.declared.login.Login.{Login}
 use Rattle.my_reading.specs.declared.call.Call.{Call}
 use Rattle.my_reading.specs.declared.call.CallKind.{CallKind}
-use Rattle.my_reading.specs.declared.call.CallKind.TheVariants.{Connect, Query, Prepare, Execute, Batch, CloseStmt, NextRow, DropResult, TakeSet, SkipTaken, Ping, Reset, Begin, Rollback, ForgetTransaction, Quit}
+use Rattle.my_reading.specs.declared.call.CallKind.TheVariants.{Connect, Query, Prepare, Execute, Batch, CloseStmt, NextRow, DropResult, TakeSet, SkipTaken, Ping, Reset, Begin, Commit, Rollback, ForgetTransaction, Quit}
 use Rattle.my_reading.specs.Calls.{kind_of, call_of, asks, is_unrefused}
 use Rattle.my_session.specs.Entries.{owns_more}
 use Rattle.my_session.specs.Queries.{has_queries, queries_of}
 
--- what holds of a reset and a transaction that begins, holds of each call that has queries of its own
-pub of_queries : (Holds : CallKind → Type 0) → Holds Reset → Holds Begin → (c : CallKind) → has_queries c ≡ true → Holds c
-of_queries Holds reset begin Connect e = cc
-of_queries Holds reset begin Query e = cc
-of_queries Holds reset begin Prepare e = cc
-of_queries Holds reset begin Execute e = cc
-of_queries Holds reset begin Batch e = cc
-of_queries Holds reset begin CloseStmt e = cc
-of_queries Holds reset begin NextRow e = cc
-of_queries Holds reset begin DropResult e = cc
-of_queries Holds reset begin TakeSet e = cc
-of_queries Holds reset begin SkipTaken e = cc
-of_queries Holds reset begin Ping e = cc
-of_queries Holds reset begin Reset e = reset
-of_queries Holds reset begin Begin e = begin
-of_queries Holds reset begin Rollback e = cc
-of_queries Holds reset begin ForgetTransaction e = cc
-of_queries Holds reset begin Quit e = cc
+-- what holds of a reset and of a transaction that begins or is committed, holds of each call that has queries of its own
+pub of_queries : (Holds : CallKind → Type 0) → Holds Reset → Holds Begin → Holds Commit → (c : CallKind) → has_queries c ≡ true → Holds c
+of_queries Holds reset begin commit Connect e = cc
+of_queries Holds reset begin commit Query e = cc
+of_queries Holds reset begin commit Prepare e = cc
+of_queries Holds reset begin commit Execute e = cc
+of_queries Holds reset begin commit Batch e = cc
+of_queries Holds reset begin commit CloseStmt e = cc
+of_queries Holds reset begin commit NextRow e = cc
+of_queries Holds reset begin commit DropResult e = cc
+of_queries Holds reset begin commit TakeSet e = cc
+of_queries Holds reset begin commit SkipTaken e = cc
+of_queries Holds reset begin commit Ping e = cc
+of_queries Holds reset begin commit Reset e = reset
+of_queries Holds reset begin commit Begin e = begin
+of_queries Holds reset begin commit Commit e = commit
+of_queries Holds reset begin commit Rollback e = cc
+of_queries Holds reset begin commit ForgetTransaction e = cc
+of_queries Holds reset begin commit Quit e = cc
 
 pub queries_ask : (c : CallKind) → has_queries c ≡ true → asks c ≡ true
-queries_ask c e = of_queries (λ x. asks x ≡ true) refl refl c e
+queries_ask c e = of_queries (λ x. asks x ≡ true) refl refl refl c e
 
 -- and what holds of the two calls that a closed session doesn't refuse, of each such call
 pub of_unrefused : (Holds : CallKind → Type 0) → Holds ForgetTransaction → Holds Quit → (c : CallKind) → is_unrefused c ≡ true → Holds c
@@ -45,6 +46,7 @@ of_unrefused Holds forget quit SkipTaken e = cc
 of_unrefused Holds forget quit Ping e = cc
 of_unrefused Holds forget quit Reset e = cc
 of_unrefused Holds forget quit Begin e = cc
+of_unrefused Holds forget quit Commit e = cc
 of_unrefused Holds forget quit Rollback e = cc
 of_unrefused Holds forget quit ForgetTransaction e = forget
 of_unrefused Holds forget quit Quit e = quit
@@ -64,6 +66,7 @@ asks_more SkipTaken opened e = cc
 asks_more Ping opened e = refl
 asks_more Reset opened e = refl
 asks_more Begin opened e = refl
+asks_more Commit opened e = refl
 asks_more Rollback opened e = refl
 asks_more ForgetTransaction opened e = cc
 asks_more Quit opened e = refl
@@ -82,6 +85,7 @@ asks_too SkipTaken opened e = cc
 asks_too Ping opened e = refl
 asks_too Reset opened e = refl
 asks_too Begin opened e = refl
+asks_too Commit opened e = refl
 asks_too Rollback opened e = refl
 asks_too ForgetTransaction opened e = cc
 asks_too Quit opened e = refl
@@ -101,6 +105,7 @@ same_queries login SkipTaken opened = refl
 same_queries login Ping opened = refl
 same_queries login Reset opened = refl
 same_queries login Begin opened = refl
+same_queries login Commit opened = refl
 same_queries login Rollback opened = refl
 same_queries login ForgetTransaction opened = refl
 same_queries login Quit opened = refl

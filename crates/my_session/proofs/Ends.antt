@@ -30,11 +30,14 @@ use Rattle.my_reading.specs.Statements.{held_in, is_mixed_text, leaving, query_o
 use Rattle.my_statements.specs.Cache.{Held}
 use Rattle.my_session.specs.Tasks.{fault_in, is_open}
 use Rattle.my_reading.specs.Commands.{closing, command_of, connecting, execution, queried}
-use Rattle.my_reading.specs.Errors.{invalid_data, unexpected_eof}
+use Rattle.my_reading.specs.declared.error.ServerError.{ServerError}
+use Rattle.my_reading.specs.declared.transaction.Trial.{Trial}
+use Rattle.my_reading.specs.declared.transaction.Trial.TheVariants as trials
+use Rattle.my_reading.specs.Errors.{invalid_data, server_error, unexpected_eof}
 use Rattle.my_session.specs.LinkErrors.{link_error}
 use Rattle.my_session.specs.Ends.{EachEnd, IsFault, Fails}
 use Rattle.my_reading.specs.Told.{ToldReady, ToldRow, ToldEnd, ToldNone, ToldStatement, ToldFlag, ToldError, Dropped}
-use Rattle.my_session.specs.Machine.{Doing, Goes, Passes, Sends, Needs, Tells, Move, Did, Does, FaultIs, failed_by, reply_to, above, unless_above, refused, gave, passed, reacted, read_by, reading, next_terms, queued, unless_exceeds, unless_refused, refusal, is_doubled, looked, with_kept, kept, with_task, asked, arranged, offered, undone, queried_by, admitted, planned, when_owed, next_by, next, advanced, refused_by, batched, ran}
+use Rattle.my_session.specs.Machine.{Doing, Goes, Passes, Sends, Needs, Tells, Move, Did, Does, FaultIs, failed_by, reply_to, above, unless_above, refused, refused_by_server, returned, reverted, gave, passed, reacted, read_by, reading, next_terms, queued, unless_exceeds, unless_refused, refusal, is_doubled, looked, with_kept, kept, with_task, asked, arranged, offered, undone, queried_by, admitted, planned, when_owed, next_by, next, advanced, refused_by, batched, ran}
 use Rattle.my_reading.specs.Rows.{row_at}
 use Rattle.my_reading.specs.Transactions.{begin_refusal, is_given_up, rollback_text}
 use Rattle.my_reading.specs.Versions.{can_reset}
@@ -64,10 +67,16 @@ unfolding needs
 passed_needs s n None = refl
 passed_needs s n (Some row) = refl
 
+refused_by_needs : (s n : Seen) (trial : Trial) (e : ServerError) → needs (refused_by_server s n trial e).does ≡ false
+unfolding needs
+refused_by_needs s n trials.Off e = refl
+refused_by_needs s n trials.On e = refl
+refused_by_needs s n (trials.Refused first) e = refl
+
 refused_needs : (s n : Seen) (x : Option ErrPacket) → needs (refused s n x).does ≡ false
 unfolding needs
 refused_needs s n None = refl
-refused_needs s n (Some e) = refl
+refused_needs s n (Some e) = refused_by_needs s n s.trial (server_error e)
 
 reacted_needs : (s n : Seen) (p : List ℕ) (r : Reaction) → needs (reacted s n p r).does ≡ false
 unfolding needs
@@ -155,6 +164,17 @@ unfolding needs
 undone_needs s c true = begins_needs s (tasks.Undoing c) (queried (next_terms s) rollback_text) _
 undone_needs s c false = refl
 
+reverted_needs : (s : Seen) (c : CallKind) (b : Bool) → needs (reverted s c b).does ≡ false
+unfolding needs
+reverted_needs s c true = begins_needs s (tasks.Reverting c) (queried (next_terms s) rollback_text) _
+reverted_needs s c false = refl
+
+returned_needs : (s : Seen) (trial : Trial) → needs (returned s trial).does ≡ false
+unfolding needs
+returned_needs s trials.Off = refl
+returned_needs s trials.On = refl
+returned_needs s (trials.Refused first) = refl
+
 -- what a session that asks for bytes does once the link reported its end
 record IsAtEnd (s : Seen) : Type 0 where
   pub stays : (next s).seen ≡ s
@@ -194,6 +214,9 @@ planned_rests s (plans.Queries c n) e = absurd (no_need _ (queried_needs s c n (
 planned_rests s (plans.Undoes c) e = absurd (no_need _ (undone_needs s c (is_given_up s.status)) e)
 planned_rests s (plans.Settles c) e = cc
 planned_rests s plans.Admits e = absurd (no_need _ (admitted_needs s (begin_refusal (opts_in s.call) (version_of s.facts.version) s.status)) e)
+planned_rests s plans.Tries e = cc
+planned_rests s (plans.Reverts c) e = absurd (no_need _ (reverted_needs s c (is_given_up s.status)) e)
+planned_rests s plans.Returns e = absurd (no_need _ (returned_needs s s.trial) e)
 planned_rests s plans.GivesUp e = cc
 planned_rests s plans.Forsakes e = cc
 planned_rests s (plans.Asks c) e = absurd (no_need _ (unless_refused_needs s (refusal c s.call) (asked s (tasks.Own c) (command_of (next_terms s) s.statements (call_of c s.call))) (asked_needs s (tasks.Own c) (command_of (next_terms s) s.statements (call_of c s.call)))) e)
@@ -305,6 +328,8 @@ failing_tells s fault (tasks.Running n) o = refl
 failing_tells s fault (tasks.Finishing n) o = refl
 failing_tells s fault tasks.Clearing o = refl
 failing_tells s fault (tasks.Asking c n) o = refl
+failing_tells s fault (tasks.Backing c) o = refl
+failing_tells s fault (tasks.Reverting c) o = refl
 failing_tells s fault tasks.Reading o = refl
 failing_tells s fault tasks.Dropping o = refl
 failing_tells s fault tasks.Taking o = refl

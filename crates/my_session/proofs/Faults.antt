@@ -35,12 +35,13 @@ use Rattle.my_reading.specs.Executions.{Values, Fitting, Unfitting, values_for}
 use Rattle.my_reading.specs.Facts.{prepared_by}
 use Rattle.my_reading.specs.Statements.{held_in, is_mixed_text, known_in, leaving, query_of}
 use Rattle.my_reading.specs.declared.call.Call.{Call}
+use Rattle.my_reading.specs.declared.call.Call.TheVariants as calls
 use Rattle.my_reading.specs.declared.call.CallKind.{CallKind}
-use Rattle.my_reading.specs.declared.call.CallKind.TheVariants.{Connect, Query, Prepare, Execute, Batch, CloseStmt, NextRow, DropResult, TakeSet, SkipTaken, Ping, Reset, Begin, Rollback, ForgetTransaction, Quit}
+use Rattle.my_reading.specs.declared.call.CallKind.TheVariants.{Connect, Query, Prepare, Execute, Batch, CloseStmt, NextRow, DropResult, TakeSet, SkipTaken, Ping, Reset, Begin, Commit, Rollback, ForgetTransaction, Quit}
 use Rattle.my_session.specs.declared.task.LinkFault.{LinkFault}
 use Rattle.my_session.specs.declared.task.LinkFault.TheVariants as faults
 use Rattle.my_session.specs.declared.task.Task.{Task}
-use Rattle.my_session.specs.declared.task.Task.TheVariants.{Nothing, Begun, Cleaning, Undoing, Cleaned, Own, Giving, Arranging, Running, Finishing, Clearing, Asking, Reading, Dropping, Taking, Skipping, Leaving, Failing}
+use Rattle.my_session.specs.declared.task.Task.TheVariants.{Nothing, Begun, Cleaning, Undoing, Cleaned, Own, Giving, Arranging, Running, Finishing, Clearing, Asking, Backing, Reverting, Reading, Dropping, Taking, Skipping, Leaving, Failing}
 use Rattle.my_reading.specs.declared.error.Error.{Error}
 use Rattle.my_reading.specs.declared.error.Error.TheVariants as errors
 use Rattle.my_reading.specs.declared.facts.Facts.{Facts}
@@ -53,28 +54,31 @@ use Rattle.my_reading.specs.declared.answer.Answer.TheVariants as answers
 use Rattle.my_session.specs.declared.answer.Tick.TheVariants as ticks
 use Rattle.my_reading.specs.Calls.{kind_of as call_kind, call_of, asks, lists_in, opts_in, params_in, statement_in, text_in}
 use Rattle.my_session.specs.Tasks.{kind_in, fault_in, is_open}
-use Rattle.my_session.specs.Causes.{Executes, Stops, Cause, SessionBecause, NothingLeft, AnswerCause, EachFault, place_in}
+use Rattle.my_session.specs.Causes.{Executes, IsRefused, IsReturned, Stops, Cause, SessionBecause, NothingLeft, AnswerCause, EachFault, place_in}
 use Rattle.my_reading.specs.Commands.{closing, command_of, connecting, execution, opening, queried}
 use Rattle.my_session.specs.Entries.{Entry, Opens, facts_of, terms_by, connecting_in}
-use Rattle.my_reading.specs.Errors.{invalid_data, unexpected_eof}
+use Rattle.my_reading.specs.declared.error.ServerError.{ServerError}
+use Rattle.my_reading.specs.declared.transaction.Trial.{Trial}
+use Rattle.my_reading.specs.declared.transaction.Trial.TheVariants as trials
+use Rattle.my_reading.specs.Errors.{invalid_data, server_error, unexpected_eof}
 use Rattle.my_session.specs.LinkErrors.{link_error}
 use Rattle.my_reading.specs.Told.{Told, ToldReady, ToldRow, ToldEnd, ToldNone, ToldStatement, ToldFlag, ToldError, Dropped}
 use Rattle.my_session.specs.History.{History}
 use Rattle.my_session.specs.Law.{in_order, talks}
 use Rattle.my_session.specs.Machine as machine
-use Rattle.my_session.specs.Machine.{Move, Doing, Goes, Sends, Needs, Tells, Did, FaultIs, advanced, reply_to, above, unless_above, refused, gave, passed, reacted, read_by, reading, next_terms, unless_exceeds, unless_refused, refusal, refused_by, is_doubled, looked, with_kept, kept, asked, batched, ran, arranged, offered, begins, undone, done, queried_by, admitted, planned, when_owed, next_by, next, is_greeting}
+use Rattle.my_session.specs.Machine.{Move, Doing, Goes, Sends, Needs, Tells, Did, FaultIs, advanced, reply_to, above, unless_above, refused, refused_by_server, returned, reverted, gave, passed, reacted, read_by, reading, next_terms, unless_exceeds, unless_refused, refusal, refused_by, is_doubled, looked, with_kept, kept, asked, batched, ran, arranged, offered, begins, undone, done, queried_by, admitted, planned, when_owed, next_by, next, is_greeting}
 use Rattle.my_reading.specs.Rows.{row_at}
 use Rattle.my_reading.specs.Transactions.{begin_refusal, is_given_up, rollback_text}
 use Rattle.my_reading.specs.Versions.{can_reset}
 use Rattle.my_session.specs.Queries.{has_queries, queries_of}
 use Rattle.my_handshake.specs.Version.{version_of}
 use Rattle.my_session.specs.Seen.{Seen}
-use Rattle.my_session.specs.Stands.{Stands, Heard, call_with, is_heading, is_reading}
+use Rattle.my_session.specs.Stands.{CleansAt, Stands, Heard, TrialIs, call_with, is_alive, is_heading, is_reading, trial_at}
 use Rattle.my_session.specs.Tables.{plan_of, ask_plan, run_plan, first_plan, clean_plan, leave_plan, own_plan, query_plan, execute_plan, prepare_plan, read_plan, drop_plan, take_plan, skip_plan, react, is_breaking}
 use Rattle.my_session.proofs.Faults.Payloads.{failed_reads, row_reads}
 use Rattle.my_reading.proofs.Described.{kind_is, told_columns}
 use Rattle.my_session.proofs.Faults.Places.{place_is}
-use Rattle.my_session.proofs.Faults.Misfits.{Awaits, FitsKind, react_fits, heading_spot, cleaning_awaits, undoing_awaits, arranging_awaits, reading_awaits, dropping_awaits, connect_awaits, ping_awaits, reset_awaits, head_awaits, column_awaits, close_awaits, execution_head_awaits, execution_column_awaits, execution_close_awaits, running_head_awaits, running_column_awaits, running_close_awaits, finishing_awaits, asking_awaits, prepare_awaits, further_awaits, next_column_awaits, next_close_awaits, skipping_awaits}
+use Rattle.my_session.proofs.Faults.Misfits.{Awaits, FitsKind, react_fits, heading_spot, cleaning_awaits, undoing_awaits, arranging_awaits, reading_awaits, dropping_awaits, connect_awaits, ping_awaits, reset_awaits, head_awaits, column_awaits, close_awaits, execution_head_awaits, execution_column_awaits, execution_close_awaits, running_head_awaits, running_column_awaits, running_close_awaits, finishing_awaits, asking_awaits, reverting_awaits, prepare_awaits, further_awaits, next_column_awaits, next_close_awaits, skipping_awaits}
 use Rattle.my_session.proofs.History.{each_history}
 use Rattle.my_session.proofs.Stands.Spots.{is_known, known, row_spot}
 use Rattle.my_session.proofs.History.Stopping.{talks_found, rest_found, stopped, over_found, failed_found}
@@ -82,6 +86,7 @@ use Rattle.my_session.proofs.Stands.Firsts.{query_talk, execute_talk}
 use Rattle.my_session.proofs.Stands.Plans.{left_false}
 use Rattle.my_session.proofs.CallKinds.{of_queries, of_unrefused, asks_too, same_queries}
 use Rattle.my_session.proofs.Refusals.{refused_run, values_cause, begin_cause}
+use Rattle.my_session.proofs.Stands.Trials.{is_hushed, reads_alive, reverts}
 use Rattle.my_session.proofs.Stands.Wired.{limit_is, terms_now}
 
 module _ (s : Seen) (h : History) (st : Stands s h) (op : is_open s.task ≡ true) where
@@ -150,6 +155,10 @@ module _ (s : Seen) (h : History) (st : Stands s h) (op : is_open s.task ≡ tru
   link faults.TooLong e = e
   link faults.NoMemory e = tt
 
+  -- the open call is to commit a transaction
+  commits_here : kind_in s.task ≡ Some Commit → h.pending ≡ Some calls.Commit
+  commits_here own = st.heard.pending_is ∙ ap (λ k. call_with k s.call) own
+
   -- the payload in front
   module _ (waits : is_idle s.context.spot ≡ false) (p rest : List ℕ) (next : ℕ) (at : front_at s.number s.context.terms.limit s.unread ≡ Whole p rest next) where
     unfit : is_bad (kind_there s.context s.facts.columns p) ≡ true → Cause s.login (fault_in s.task) s.statements s.status s.unread h st.newest st.older (invalid_data s.facts.place)
@@ -170,11 +179,8 @@ module _ (s : Seen) (h : History) (st : Stands s h) (op : is_open s.task ≡ tru
     doubled kinds.Field k c = cc
     doubled kinds.Bad k c = cc
 
-    refused_told : (n : Seen) (x : Option ErrPacket) → kind_there s.context s.facts.columns p ≡ kinds.Failed → err_at (is_greeting s.context.spot) p ≡ x → Explained (refused s n x)
-    refused_told n None k is =
-        let some = failed_reads s.context.spot s.context.rows (deprecates_eof s.context.terms.kept) s.context.columns s.facts.columns p k in
-        let no : None ≡ Some some.0 = sym is ∙ some.1 in cc
-    refused_told n (Some x) k is = record {
+    refused_here : (x : ErrPacket) → kind_there s.context s.facts.columns p ≡ kinds.Failed → err_at (is_greeting s.context.spot) p ≡ Some x → IsRefused s.unread h st.newest st.older (server_error x)
+    refused_here x k is = record {
       payload = p;
       rest = rest;
       number = next;
@@ -190,6 +196,24 @@ module _ (s : Seen) (h : History) (st : Stands s h) (op : is_open s.task ≡ tru
           rest_found st.newest st.older h.taken s.unread st.wire.taken_is st.wire.done st.wire.fits
           ∙ ap (λ (c : Cut). c.rest) (failed_found talk s.unread p rest next (front_here ∙ at) (kind_here p ∙ k));
     }
+
+    -- the ERR that kept a transaction from being committed
+    returned_here : (first : ServerError) → is_alive s.task ≡ true → s.trial ≡ trials.Refused first → IsReturned h st.newest st.older first
+    returned_here first alive is =
+        let tried : TrialIs (trials.Refused first) s.context.spot st.newest st.older = subst (λ (tr : Trial). TrialIs tr s.context.spot st.newest st.older) is st.tried.trial_is in
+        let w = is_hushed s.login s.context.spot st.newest st.older waits first tried in
+        record { pending = commits_here (reverts s.task first s.context.spot s.closed _ _ st.newest alive (ap (trial_at s.task) (sym is) ∙ st.heard.trying (st.heard.alive alive)) st.heard.at); hushed = w.0; ended = w.1 }
+
+    refused_by_told : (n : Seen) (x : ErrPacket) → is_alive s.task ≡ true → kind_there s.context s.facts.columns p ≡ kinds.Failed → err_at (is_greeting s.context.spot) p ≡ Some x → (tr : Trial) → s.trial ≡ tr → Explained (refused_by_server s n tr (server_error x))
+    refused_by_told n x alive k is trials.Off e = inl (refused_here x k is)
+    refused_by_told n x alive k is trials.On e = tt
+    refused_by_told n x alive k is (trials.Refused first) e = inr (returned_here first alive e)
+
+    refused_told : (n : Seen) (x : Option ErrPacket) → is_alive s.task ≡ true → kind_there s.context s.facts.columns p ≡ kinds.Failed → err_at (is_greeting s.context.spot) p ≡ x → Explained (refused s n x)
+    refused_told n None alive k is =
+        let some = failed_reads s.context.spot s.context.rows (deprecates_eof s.context.terms.kept) s.context.columns s.facts.columns p k in
+        let no : None ≡ Some some.0 = sym is ∙ some.1 in cc
+    refused_told n (Some x) alive k is = refused_by_told n x alive k is s.trial refl
 
     -- a payload that is a row reads as one
     row_there : kind_there s.context s.facts.columns p ≡ kinds.Row → (row : RowParts) × (row_at s.context.rows s.facts.columns p ≡ Some row)
@@ -208,16 +232,16 @@ module _ (s : Seen) (h : History) (st : Stands s h) (op : is_open s.task ≡ tru
     passed_told n None k is = let some = row_there k in let no : None ≡ Some some.0 = sym is ∙ some.1 in cc
     passed_told n (Some row) k is = tt
 
-    reacted_told : (n : Seen) (r : Reaction) (k : Kind) → kind_there s.context s.facts.columns p ≡ k → FitsKind r k → is_breaking r ≡ false → Explained (reacted s n p r)
-    reacted_told n (reactions.Goes u) k e fit b = tt
-    reacted_told n (reactions.Readies untold) k e fit b = tt
-    reacted_told n reactions.Takes k e fit b = tt
-    reacted_told n reactions.Gives k e fit b = gave_told n (row_at s.context.rows s.facts.columns p) (e ∙ fit) refl
-    reacted_told n reactions.Ends k e fit b = tt
-    reacted_told n reactions.PassesRow k e fit b = passed_told n (row_at s.context.rows s.facts.columns p) (e ∙ fit) refl
-    reacted_told n reactions.PassesEnd k e fit b = tt
-    reacted_told n reactions.Refuses k e fit b = refused_told n (err_at (is_greeting s.context.spot) p) (e ∙ fit) refl
-    reacted_told n reactions.Breaks k e fit b = cc
+    reacted_told : (n : Seen) (r : Reaction) (k : Kind) → kind_there s.context s.facts.columns p ≡ k → FitsKind r k → is_breaking r ≡ false → is_alive s.task ≡ true → Explained (reacted s n p r)
+    reacted_told n (reactions.Goes u) k e fit b alive = tt
+    reacted_told n (reactions.Readies untold) k e fit b alive = tt
+    reacted_told n reactions.Takes k e fit b alive = tt
+    reacted_told n reactions.Gives k e fit b alive = gave_told n (row_at s.context.rows s.facts.columns p) (e ∙ fit) refl
+    reacted_told n reactions.Ends k e fit b alive = tt
+    reacted_told n reactions.PassesRow k e fit b alive = passed_told n (row_at s.context.rows s.facts.columns p) (e ∙ fit) refl
+    reacted_told n reactions.PassesEnd k e fit b alive = tt
+    reacted_told n reactions.Refuses k e fit b alive = refused_told n (err_at (is_greeting s.context.spot) p) alive (e ∙ fit) refl
+    reacted_told n reactions.Breaks k e fit b alive = cc
 
     -- the response to a greeting may be too long
     long_told : (n : CapabilityFlags) → kind_there s.context s.facts.columns p ≡ kinds.Greets n → (m : Move) → Explained m → (b : Bool) → ltb s.context.terms.limit (length (response s.login p)) ≡ b → Explained (unless_above s (cond b (Some (length (response s.login p))) None) m)
@@ -256,7 +280,7 @@ module _ (s : Seen) (h : History) (st : Stands s h) (op : is_open s.task ≡ tru
 
     kind_told : ((k : Kind) → is_known s.context.spot k ≡ true → is_breaking (react s.task k) ≡ true → is_bad k ≡ true) → (k : Kind) → kind_there s.context s.facts.columns p ≡ k → (b : Bool) → is_breaking (react s.task k) || is_doubled s.statements k p ≡ b → Explained (cond b (machine.failed_by s (invalid_data s.facts.place)) (read_by s (advanced s k p rest next) p (react s.task k) (reply_to s.login k p)))
     kind_told breaks k e true b = misfit_told breaks k e (is_breaking (react s.task k)) refl b
-    kind_told breaks k e false b = unless_told k e (reacted s (advanced s k p rest next) p (react s.task k)) (reacted_told (advanced s k p rest next) (react s.task k) k e (react_fits s.task k) (left_false (is_breaking (react s.task k)) (is_doubled s.statements k p) b))
+    kind_told breaks k e false b = unless_told k e (reacted s (advanced s k p rest next) p (react s.task k)) (reacted_told (advanced s k p rest next) (react s.task k) k e (react_fits s.task k) (left_false (is_breaking (react s.task k)) (is_doubled s.statements k p) b) (reads_alive s.task k (left_false (is_breaking (react s.task k)) (is_doubled s.statements k p) b)))
 
   waiting_told : is_idle s.context.spot ≡ false → front_at s.number s.context.terms.limit s.unread ≡ Waiting → (b : Bool) → s.ended ≡ b → Explained (cond b (machine.failed_by s (unexpected_eof s.facts.place)) (record { seen = s; does = Needs }))
   waiting_told waits at true e = (place, (sym st.ended_is ∙ e, stops Waiting at tt waits))
@@ -308,6 +332,7 @@ module _ (s : Seen) (h : History) (st : Stands s h) (op : is_open s.task ≡ tru
   opens_some Ping e own fit none = cc
   opens_some Reset e own fit none = cc
   opens_some Begin e own fit none = cc
+  opens_some Commit e own fit none = cc
   opens_some Rollback e own fit none = cc
   opens_some ForgetTransaction e own fit none = cc
   opens_some Quit e own fit none = cc
@@ -327,6 +352,7 @@ module _ (s : Seen) (h : History) (st : Stands s h) (op : is_open s.task ≡ tru
   opens_own Ping e own = refl
   opens_own Reset e own = refl
   opens_own Begin e own = cc
+  opens_own Commit e own = cc
   opens_own Rollback e own = cc
   opens_own ForgetTransaction e own = cc
   opens_own Quit e own = refl
@@ -351,7 +377,7 @@ module _ (s : Seen) (h : History) (st : Stands s h) (op : is_open s.task ≡ tru
       command_told c (Asking c (suc n)) t own (inr (inr (inr (inl (record { place = n; text = text; listed = listed; queries = refl }))))) (first_above s.facts.settings.limit (commands_in t)) refl
 
   queries_told : (c : CallKind) (n : ℕ) → has_queries c ≡ true → Some c ≡ kind_in s.task → (o : Option (List ℕ)) → slice_get (queries_of s.login c s.call) n ≡ o → Explained (queried_by s c n o)
-  queries_told c n some own None at = of_queries (λ x. Explained (done s x)) tt tt c some
+  queries_told c n some own None at = of_queries (λ x. Explained (done s x)) tt tt tt c some
   queries_told c n some own (Some text) at = query_told c n text own at
 
   -- a transaction may be refused
@@ -365,6 +391,19 @@ module _ (s : Seen) (h : History) (st : Stands s h) (op : is_open s.task ≡ tru
       let t : Talk = queried (next_terms s) rollback_text in
       command_told c (Undoing c) t own (inr (inr (inr (inr (record { cleans = asks_too c s.call asking; queries = refl }))))) (first_above s.facts.settings.limit (commands_in t)) refl
   undone_told c asking own false = tt
+
+  -- a transaction that couldn't be committed is rolled back, and then the call returns why
+  reverted_told : (c : CallKind) → asks c ≡ true → Some c ≡ kind_in s.task → (b : Bool) → Explained (reverted s c b)
+  reverted_told c asking own true =
+      let t : Talk = queried (next_terms s) rollback_text in
+      command_told c (Reverting c) t own (inr (inr (inr (inr (record { cleans = asks_too c s.call asking; queries = refl }))))) (first_above s.facts.settings.limit (commands_in t)) refl
+  reverted_told c asking own false = tt
+
+  returned_told : st.newest.hushed ≡ true → kind_in s.task ≡ Some Commit → (tr : Trial) → TrialIs tr s.context.spot st.newest st.older → Explained (returned s tr)
+  returned_told hushed own trials.Off w = tt
+  returned_told hushed own trials.On w = tt
+  returned_told hushed own (trials.Refused first) (inl w) = let no : true ≡ false = sym hushed ∙ w.0 in cc
+  returned_told hushed own (trials.Refused first) (inr w) = inr (record { pending = commits_here own; hushed = w.0; ended = w.1 })
 
   -- its parameters may be refused
   refusal_told : (c : CallKind) → Some c ≡ kind_in s.task → (o : Option DriverError) (m : Move) → refusal c s.call ≡ o → (o ≡ None → Explained m) → Explained (unless_refused s o m)
@@ -421,6 +460,8 @@ module _ (s : Seen) (h : History) (st : Stands s h) (op : is_open s.task ≡ tru
   Suits (plans.Arranges n) = (connecting_in entries ≡ suc n) × (Some Connect ≡ kind_in s.task)
   Suits (plans.Queries c n) = (has_queries c ≡ true) × (Some c ≡ kind_in s.task)
   Suits (plans.Undoes c) = (asks c ≡ true) × (Some c ≡ kind_in s.task)
+  Suits (plans.Reverts c) = (asks c ≡ true) × (Some c ≡ kind_in s.task)
+  Suits plans.Returns = (st.newest.hushed ≡ true) × (kind_in s.task ≡ Some Commit)
   Suits plans.Admits = Some Begin ≡ kind_in s.task
   Suits plans.Finds = Some Prepare ≡ kind_in s.task
   Suits plans.Checks = Some Execute ≡ kind_in s.task
@@ -441,6 +482,9 @@ module _ (s : Seen) (h : History) (st : Stands s h) (op : is_open s.task ≡ tru
   plan_told (plans.Undoes c) own = undone_told c own.0 own.1 (is_given_up s.status)
   plan_told (plans.Settles c) a = tt
   plan_told plans.Admits own = admitted_told own (begin_refusal (opts_in s.call) (version_of s.facts.version) s.status) refl
+  plan_told plans.Tries a = tt
+  plan_told (plans.Reverts c) own = reverted_told c own.0 own.1 (is_given_up s.status)
+  plan_told plans.Returns own = returned_told own.0 own.1 s.trial st.tried.trial_is
   plan_told plans.GivesUp a = tt
   plan_told plans.Forsakes a = tt
   plan_told plans.Batches own = batched_told own (slice_get (lists_in s.call) 0) refl
@@ -460,7 +504,7 @@ module _ (s : Seen) (h : History) (st : Stands s h) (op : is_open s.task ≡ tru
   plan_told plans.NoMore a = (ends a.0, a.1)
 
   abbrev HeardAs : Task → Type 0
-  HeardAs t = Heard t s.call s.context.spot s.untold s.closed h.lost h.calls h.pending st.newest st.older
+  HeardAs t = Heard t s.call s.context.spot s.untold s.closed h.lost h.calls h.pending st.newest st.older s.trial
 
   awaits_as : (t : Task) → s.task ≡ t → Awaits t s.context.spot → Awaits s.task s.context.spot
   awaits_as t e a = subst (λ (u : Task). Awaits u s.context.spot) (sym e) a
@@ -560,6 +604,7 @@ module _ (s : Seen) (h : History) (st : Stands s h) (op : is_open s.task ≡ tru
   first_suits Ping own = tt
   first_suits Reset own = tt
   first_suits Begin own = tt
+  first_suits Commit own = tt
   first_suits Rollback own = tt
   first_suits ForgetTransaction own = tt
   first_suits Quit own = tt
@@ -582,6 +627,7 @@ module _ (s : Seen) (h : History) (st : Stands s h) (op : is_open s.task ≡ tru
   own_suits Ping e hd = awaits_as (Own Ping) e (subst (λ (x : Spot). Awaits (Own Ping) x) (sym hd.at.1) ping_awaits)
   own_suits Reset e hd = awaits_as (Own Reset) e (subst (λ (x : Spot). Awaits (Own Reset) x) (sym hd.at.1) reset_awaits)
   own_suits Begin e hd = absurd hd.at
+  own_suits Commit e hd = absurd hd.at
   own_suits Rollback e hd = absurd hd.at
   own_suits ForgetTransaction e hd = absurd hd.at
   own_suits Quit e hd = tt
@@ -664,6 +710,7 @@ module _ (s : Seen) (h : History) (st : Stands s h) (op : is_open s.task ≡ tru
   ask_suits Ping asking own = (asking, refl, own)
   ask_suits Reset asking own = (asking, refl, own)
   ask_suits Begin asking own = own
+  ask_suits Commit asking own = (refl, own)
   ask_suits Rollback asking own = tt
   ask_suits ForgetTransaction asking own = (asking, refl, own)
   ask_suits Quit asking own = (asking, refl, own)
@@ -681,6 +728,9 @@ module _ (s : Seen) (h : History) (st : Stands s h) (op : is_open s.task ≡ tru
   suits (Finishing n) e sound hd untold told = clean_suits (Finishing n) e (finishing_awaits n) (plans.Runs n) (sym (ap kind_in e)) s.context.spot refl hd.at.1 untold
   suits Clearing e sound hd untold told = tt
   suits (Asking c n) e sound hd untold told = clean_suits (Asking c n) e (asking_awaits c n) (plans.Queries c n) (hd.at.0, sym (ap kind_in e)) s.context.spot refl hd.at.2 untold
+  suits (Backing c) e sound hd untold told = (ap asks hd.at.0, sym (ap kind_in e))
+  suits (Reverting c) e sound hd untold told = clean_suits (Reverting c) e (reverting_awaits c) plans.Returns
+      (subst (λ (t : Task). CleansAt t s.untold s.status st.newest.hushed) e st.cleans, ap kind_in e ∙ ap Some hd.at.0) s.context.spot refl hd.at.2 untold
   suits Reading e sound hd true told = tt
   suits Reading e sound hd false told = read_suits e told s.context.spot refl hd.at.1
   suits Dropping e sound hd true told = tt

@@ -15,14 +15,15 @@ use Rattle.my_reading.specs.declared.error.ServerError.{ServerError}
 use Rattle.my_reading.specs.declared.call.Call.{Call}
 use Rattle.my_reading.specs.declared.call.Call.TheVariants as calls
 use Rattle.my_session.specs.declared.task.Task.{Task}
-use Rattle.my_session.specs.declared.task.Task.TheVariants.{Nothing, Begun, Cleaning, Undoing, Cleaned, Own, Giving, Arranging, Running, Finishing, Clearing, Asking, Reading, Dropping, Taking, Skipping, Leaving, Failing}
+use Rattle.my_session.specs.declared.task.Task.TheVariants.{Nothing, Begun, Cleaning, Undoing, Cleaned, Own, Giving, Arranging, Running, Finishing, Clearing, Asking, Backing, Reverting, Reading, Dropping, Taking, Skipping, Leaving, Failing}
 use Rattle.my_reading.specs.Calls.{kind_of as call_kind, call_of}
 use Rattle.my_reading.specs.declared.call.CallKind.TheVariants.{Prepare, Batch, Reset}
 use Rattle.my_session.specs.Tasks.{kind_in}
 use Rattle.my_session.specs.Entries.{Entry, AllGiven, IsGiven, calls_in, owns_more, OwnsFirst, IsTied}
 use Rattle.my_session.specs.Groups.{Group}
 use Rattle.my_session.specs.History.{Made}
-use Rattle.my_session.specs.Law.{in_order, talks, origins, shares, errors_along, at_most_one, AreGiven, AreOf, EachHistory}
+use Rattle.my_session.specs.ServerErrors.{errors_told}
+use Rattle.my_session.specs.Law.{in_order, hushes, talks, origins, shares, errors_heard, AreGiven, AreOf, EachHistory}
 use Rattle.my_session.specs.Machine.{is_greeting}
 use Rattle.my_session.specs.Stands.{TieIs, begun_of, call_with, owes}
 use Rattle.my_session.proofs.History.Prefixes.{given_fronts}
@@ -85,6 +86,12 @@ calls_are (Running n) opened spot made call older w = own_open (is_greeting spot
 calls_are (Finishing n) opened spot made call older w = own_open (is_greeting spot) (call_of Batch opened) call made (calls_in older) w
 calls_are Clearing opened spot made call older w = own_open (is_greeting spot) (call_of Reset opened) call made (calls_in older) w
 calls_are (Asking c n) opened spot made call older w = own_open (is_greeting spot) (call_of c opened) call made (calls_in older) w
+calls_are (Backing c) opened spot made call older w =
+    elim w as (λ _. AreOf (Some (call_of c opened)) made (begun_of spot call older)) [
+      | inl v ↦ own_open (is_greeting spot) (call_of c opened) call made (calls_in older) v
+      | inr v ↦ inr v
+    ]
+calls_are (Reverting c) opened spot made call older w = own_open (is_greeting spot) (call_of c opened) call made (calls_in older) w
 calls_are Reading opened spot made call older w = inr w
 calls_are Dropping opened spot made call older w = inr w
 calls_are Taking opened spot made call older w = inr w
@@ -110,6 +117,8 @@ rests_owe (Running n) opened e = cc
 rests_owe (Finishing n) opened e = cc
 rests_owe Clearing opened e = cc
 rests_owe (Asking c n) opened e = cc
+rests_owe (Backing c) opened e = cc
+rests_owe (Reverting c) opened e = cc
 rests_owe Reading opened e = cc
 rests_owe Dropping opened e = cc
 rests_owe Taking opened e = cc
@@ -124,7 +133,7 @@ each_history s h st =
     let now = (read_from e.talk s.unread).talk in
     let all : (cut (in_order (origins (e ∷ es))) h.taken).talks ≡ in_order (talks es) ++ now ∷ [] =
     talks_found e es h.taken s.unread st.wire.taken_is st.wire.done st.wire.fits ∙ ap (λ (us : List Talk). in_order (talks es) ++ us) (last_talk (read_from e.talk s.unread)) in
-    let left = unheard e es s.unread in
+    let left = unheard e es s.unread s.trial s.context.spot (errors_told h.calls) (ap (λ (c : Context). c.spot) (sym st.wire.context_is)) st.tried.trial_is st.heard.errors in
     let read : AreGiven (in_order (shares (e ∷ es))) (cut (in_order (origins (e ∷ es))) h.taken).talks = subst (AreGiven (in_order (shares (e ∷ es)))) (sym all) (push (in_order (shares es)) (in_order (talks es)) e.given now (given_in_order es st.heard.each.1) (later e.given e.talk s.unread st.heard.each.0)) in
     record {
       law = record {
@@ -149,7 +158,8 @@ each_history s h st =
         read = read;
         fronts = given_fronts _ _ read;
         unheard = left.new;
-        errors = ap (λ (ts : List Talk). errors_along ts) all ∙ left.errors ∙ ap (λ (xs : List ServerError). in_order xs ++ at_most_one left.new) (sym st.heard.errors);
+        hushed = st.tried.hushed;
+        errors = ap (λ (ts : List Talk). errors_heard (in_order (hushes (e ∷ es))) ts) all ∙ left.errors;
       };
       unread = refl;
       facts = st.wire.facts_are;

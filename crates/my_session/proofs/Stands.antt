@@ -9,6 +9,7 @@ pub mod Plans
 pub mod Reacts
 pub mod Spots
 pub mod Ties
+pub mod Trials
 pub mod Views
 pub mod Wired
 use Rattle.std.proofs.Common.{◌≡◌, true, refl, sym, subst}

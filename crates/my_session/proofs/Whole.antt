@@ -93,7 +93,8 @@ module _ (login : Login) (made : Option LinkFault) (known : Statements) (status 
   pub is_outside : (e : Error) → Cause login made known status unread h newest older e → IsOutside login made known status unread h newest older e
   is_outside (errors.Driver e) c = c
   is_outside (errors.Io e) c = io_outside e c
-  is_outside (errors.Server e) c = refused_never e c
+  is_outside (errors.Server e) (inl c) = absurd (refused_never e c)
+  is_outside (errors.Server e) (inr c) = c
   is_outside (errors.Url e) c = c
   is_outside (errors.Other e) c = c
   is_outside errors.NoMemory c = tt

@@ -41,7 +41,7 @@ use Rattle.my_reading.specs.Course.{first_above}
 use Rattle.my_reading.specs.Executions.{Unfitting, values_for}
 use Rattle.my_reading.specs.Statements.{Statements, is_mixed_text}
 use Rattle.my_reading.specs.Transactions.{begin_refusal}
-use Rattle.my_session.specs.Entries.{Entry, Opens, facts_of, terms_by, connecting_in}
+use Rattle.my_session.specs.Entries.{Entry, EndedBy, Opens, facts_of, terms_by, connecting_in}
 use Rattle.my_reading.specs.Errors.{server_error}
 use Rattle.my_reading.specs.Told.{Told, ToldError}
 use Rattle.my_session.specs.History.{History, passing}
@@ -139,6 +139,12 @@ pub record IsRefused (unread : List ℕ) (h : History) (newest : Entry) (older :
   pub talks_are : (found (newest ∷ older) h.taken).talks ≡ in_order (talks older) ++ grow Failed newest.talk payload ∷ []
   pub rest_is : (found (newest ∷ older) h.taken).rest ≡ Trailing rest
 
+-- The open call is to commit a transaction, and this is the ERR that ended the exchange before the newest, by which it is rolled back.
+pub record IsReturned (h : History) (newest : Entry) (older : List Entry) (error : ServerError) : Type 0 where
+  pub pending : h.pending ≡ Some calls.Commit
+  pub hushed : newest.hushed ≡ true
+  pub ended : EndedBy error older
+
 -- The call was made to fail; the link reported its end, while a payload was awaited that isn't whole; a payload fits no case, or has the id of
 -- a statement that is still cached. No other.
 abbrev pub IoCause : Option LinkFault → Statements → List ℕ → History → Entry → List Entry → IoKind → Type 0
@@ -173,7 +179,7 @@ IoErrorCause login made st unread h newest older (ios.Codec fault) = CodecCause 
 abbrev pub Cause : Login → Option LinkFault → Statements → TxStatus → List ℕ → History → Entry → List Entry → Error → Type 0
 Cause login made st status unread h newest older (errors.Driver e) = DriverCause login made status h (newest ∷ older) e
 Cause login made st status unread h newest older (errors.Io e) = IoErrorCause login made st unread h newest older e
-Cause login made st status unread h newest older (errors.Server e) = IsRefused unread h newest older e
+Cause login made st status unread h newest older (errors.Server e) = IsRefused unread h newest older e ⊎ IsReturned h newest older e
 Cause login made st status unread h newest older (errors.Url e) = ⊥
 Cause login made st status unread h newest older (errors.Other e) = ⊥
 Cause login made st status unread h newest older errors.NoMemory = Unit {0}

@@ -13,7 +13,7 @@ use Rattle.my_session.specs.declared.task.LinkFault.{LinkFault}
 use Rattle.my_session.specs.declared.task.LinkFault.TheVariants as faults
 use Rattle.my_reading.specs.declared.transaction.TxStatus.{TxStatus}
 use Rattle.my_reading.specs.Statements.{Statements}
-use Rattle.my_session.specs.Causes.{Because, DriverCause, IsDoubled, IsLongCommand, IsLongResponse}
+use Rattle.my_session.specs.Causes.{Because, DriverCause, IsDoubled, IsLongCommand, IsLongResponse, IsReturned}
 use Rattle.my_session.specs.Entries.{Entry}
 use Rattle.my_session.specs.History.{History}
 use Rattle.my_session.specs.Law.{in_order, talks, origins, errors_along}
@@ -24,7 +24,8 @@ pub record AreWhole (es : List Entry) (own : List Talk) (bytes : List ℕ) : Typ
   pub no_error : errors_along (cut (in_order (origins es) ++ own) bytes).talks ≡ errors_along (in_order (talks es))
 
 -- What is left then: the call was made to fail, the link reported its end, a command or response is longer than the limit, a text,
--- parameters or a transaction are refused, or a statement that was prepared has the id of one that is still cached.
+-- parameters or a transaction are refused, a statement that was prepared has the id of one that is still cached, or a transaction was rolled back
+-- since an ERR that was read before kept it from being committed.
 abbrev pub OutsideKind : Option LinkFault → Statements → List ℕ → History → Entry → IoKind → Type 0
 OutsideKind made st unread h newest Link = made ≡ Some faults.Link
 OutsideKind made st unread h newest Dial = ⊥
@@ -39,7 +40,7 @@ OutsideIo login made st unread h newest older (ios.Codec fault) = IsLongCommand 
 abbrev pub IsOutside : Login → Option LinkFault → Statements → TxStatus → List ℕ → History → Entry → List Entry → Error → Type 0
 IsOutside login made st status unread h newest older (errors.Driver e) = DriverCause login made status h (newest ∷ older) e
 IsOutside login made st status unread h newest older (errors.Io e) = OutsideIo login made st unread h newest older e
-IsOutside login made st status unread h newest older (errors.Server e) = ⊥
+IsOutside login made st status unread h newest older (errors.Server e) = IsReturned h newest older e
 IsOutside login made st status unread h newest older (errors.Url e) = ⊥
 IsOutside login made st status unread h newest older (errors.Other e) = ⊥
 IsOutside login made st status unread h newest older errors.NoMemory = Unit {0}

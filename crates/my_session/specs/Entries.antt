@@ -15,6 +15,7 @@ use Rattle.my_reading.specs.declared.call.Call.{Call}
 use Rattle.my_reading.specs.declared.call.Call.TheVariants as calls
 use Rattle.my_reading.specs.declared.call.CallKind.{CallKind}
 use Rattle.my_reading.specs.declared.call.CallKind.TheVariants as callkinds
+use Rattle.my_reading.specs.declared.error.ServerError.{ServerError}
 use Rattle.my_reading.specs.declared.facts.Facts.{Facts}
 use Rattle.my_reading.specs.Calls.{kind_of, asks, id_in, is_connect, lists_in, statement_in}
 use Rattle.my_reading.specs.Commands.{closing, execution, opening, queried}
@@ -25,13 +26,16 @@ use Rattle.my_reading.specs.Transactions.{rollback_text}
 use Rattle.my_session.specs.Groups.{Group, groups, IsEarlier}
 use Rattle.my_reading.specs.Told.{Told, ToldReady, ToldFlag}
 use Rattle.my_session.specs.History.{Made}
+use Rattle.my_session.specs.TalkErrors.{errors_in}
 use Rattle.my_session.specs.Queries.{queries_of}
 
--- an exchange, the call that began it, and what this call and later ones were given of it, if it is a query that was answered
+-- An exchange, the call that began it, and what this call and later ones were given of it, if it is a query that was answered. It may be the
+-- ROLLBACK of a transaction that couldn't be committed, of which no ERR is returned.
 pub record Entry : Type 0 where
   pub call : Call
   pub talk : Talk
   pub given : Option (List Group)
+  pub hushed : Bool
 
 -- the bytes of each side
 abbrev pub taken_by : List Entry → List ℕ
@@ -90,7 +94,23 @@ abbrev pub Opens : Login → Terms → Call → ℕ → Talk → Type 0
 Opens login terms call n t = ((st : Statements) × (opening login terms st call n ≡ Some t))
     ⊎ (((id : ℕ) × (kind_of call ≡ callkinds.Prepare) × (closing terms id ≡ t)) ⊎ (IsRun terms call t ⊎ (IsQuery login terms call t ⊎ IsUndo terms call t)))
 
--- so is each exchange
+-- the newest of these exchanges ended with this ERR
+abbrev pub EndedBy : ServerError → List Entry → Type 0
+EndedBy x [] = ⊥
+EndedBy x (e ∷ es) = (earlier : List ServerError) × (errors_in e.talk ≡ x ∷ earlier)
+
+-- An exchange whose ERR isn't returned is the ROLLBACK of a call that commits, after one that ended with an ERR.
+pub record IsHushed (terms : Terms) (call : Call) (t : Talk) (es : List Entry) : Type 0 where
+  pub commits : call ≡ calls.Commit
+  pub rolls_back : queried terms rollback_text ≡ t
+  pub first : ServerError
+  pub after : EndedBy first es
+
+abbrev pub AreHushed : Login → List Entry → Type 0
+AreHushed login [] = Unit {0}
+AreHushed login (e ∷ es) = (e.hushed ≡ true → IsHushed (terms_by login es) e.call (origin e.talk) es) × AreHushed login es
+
+-- each exchange is by the table
 abbrev pub Follow : Login → List Entry → Type 0
 Follow login [] = Unit {0}
 Follow login (e ∷ es) = Opens login (terms_by login es) e.call (connecting_in es) (origin e.talk) × Follow login es

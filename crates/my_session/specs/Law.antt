@@ -1,16 +1,16 @@
 -- What holds of each history of a session.
-use Rattle.std.specs.Prelude.{◌≡◌, ℕ, List, [], ◌∷◌, ◌++◌, ◌⊎◌, Option, Some, None, true, false}
+use Rattle.std.specs.Prelude.{◌≡◌, ℕ, List, [], ◌∷◌, ◌++◌, ◌⊎◌, Option, Some, None, Bool, true, false}
 use Rattle.my_grammar.specs.declared.login.Login.{Login}
 use Rattle.my_grammar.specs.Talk.{Talk, Fits, turns, client_bytes, context_of, origin}
 use Rattle.my_grammar.specs.Cut.{cut}
 use Rattle.my_reading.specs.declared.call.Call.{Call}
 use Rattle.my_reading.specs.declared.error.ServerError.{ServerError}
-use Rattle.my_session.specs.Entries.{Entry, Follow, OwnsFirst, is_answered, AllDone, taken_by, sent_by, facts_of, givens, IsGiven, IsTied}
+use Rattle.my_session.specs.Entries.{Entry, AreHushed, Follow, OwnsFirst, is_answered, AllDone, taken_by, sent_by, facts_of, givens, IsGiven, IsTied}
 use Rattle.my_session.specs.Groups.{Group, given}
 use Rattle.my_session.specs.History.{History, Made, is_closed}
 use Rattle.my_session.specs.Prefix.{AreFronts}
 use Rattle.my_session.specs.Seen.{Seen}
-use Rattle.my_session.specs.ServerErrors.{errors_in, errors_told}
+use Rattle.my_session.specs.ServerErrors.{errors_in, errors_told, unless_hushed}
 use Rattle.my_session.specs.Stands.{Stands, IsArranged, begun_of}
 
 -- a list that is newest first, oldest first
@@ -38,10 +38,21 @@ AreGiven (g ∷ gs) (t ∷ ts) = IsGiven g t × AreGiven gs ts
 AreGiven [] (t ∷ ts) = ⊥
 AreGiven (g ∷ gs) [] = ⊥
 
+-- whether the ERR of each is hushed
+abbrev pub hushes : List Entry → List Bool
+hushes [] = []
+hushes (e ∷ es) = e.hushed ∷ hushes es
+
 -- the server's errors in exchanges, in order
 abbrev pub errors_along : List Talk → List ServerError
 errors_along [] = []
 errors_along (t ∷ ts) = in_order (errors_in t) ++ errors_along ts
+
+-- those that aren't hushed
+abbrev pub errors_heard : List Bool → List Talk → List ServerError
+errors_heard hushed [] = []
+errors_heard [] (t ∷ ts) = in_order (errors_in t) ++ errors_heard [] ts
+errors_heard (b ∷ bs) (t ∷ ts) = unless_hushed b (in_order (errors_in t)) ++ errors_heard bs ts
 
 abbrev pub at_most_one : Option ServerError → List ServerError
 at_most_one None = []
@@ -82,9 +93,11 @@ pub record IsLawful (login : Login) (h : History) : Type 0 where
   pub read : AreGiven (in_order (shares (newest ∷ older))) (cut (in_order (origins (newest ∷ older))) h.taken).talks
   -- so of each set, callers were given a beginning, in order, and an end only after the whole
   pub fronts : AreFronts (in_order (shares (newest ∷ older))) (cut (in_order (origins (newest ∷ older))) h.taken).talks
-  -- callers got each ERR that the grammar finds there, once and in order, but perhaps the last
+  -- callers got each ERR that the grammar finds there, once and in order, but perhaps the last; not those of exchanges by which a transaction
+  -- that couldn't be committed was rolled back
+  pub hushed : AreHushed login (newest ∷ older)
   pub unheard : Option ServerError
-  pub errors : errors_along (cut (in_order (origins (newest ∷ older))) h.taken).talks ≡ in_order (errors_told h.calls) ++ at_most_one unheard
+  pub errors : errors_heard (in_order (hushes (newest ∷ older))) (cut (in_order (origins (newest ∷ older))) h.taken).talks ≡ in_order (errors_told h.calls) ++ at_most_one unheard
 
 -- So it was said on a session's connection, and the session knows it.
 pub record Says (s : Seen) (h : History) : Type 0 where

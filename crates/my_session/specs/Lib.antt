@@ -22,5 +22,6 @@ pub mod SettingsLaw
 pub mod Stands
 pub mod Steps
 pub mod Tables
+pub mod TalkErrors
 pub mod Tasks
 pub mod View

@@ -27,8 +27,11 @@ use Rattle.my_statements.specs.Cache.{Held}
 use Rattle.my_statements.specs.Prepared.{StatementView}
 use Rattle.my_reading.specs.declared.call.Call.{Call}
 use Rattle.my_reading.specs.declared.call.CallKind.{CallKind}
-use Rattle.my_reading.specs.declared.call.CallKind.TheVariants.{Prepare, Execute, Batch, CloseStmt, Reset, Begin, Rollback}
+use Rattle.my_reading.specs.declared.call.CallKind.TheVariants.{Prepare, Execute, Batch, CloseStmt, Reset, Begin, Commit, Rollback}
 use Rattle.my_reading.specs.declared.error.DriverError.{DriverError}
+use Rattle.my_reading.specs.declared.error.ServerError.{ServerError}
+use Rattle.my_reading.specs.declared.transaction.Trial.{Trial}
+use Rattle.my_reading.specs.declared.transaction.Trial.TheVariants as trials
 use Rattle.my_reading.specs.declared.transaction.TxStatus.{TxStatus}
 use Rattle.my_reading.specs.declared.transaction.TxStatus.TheVariants as txs
 use Rattle.my_session.specs.declared.task.LinkFault.{LinkFault}
@@ -44,7 +47,7 @@ use Rattle.my_session.specs.declared.session.receiving.Arrival.{Arrival}
 use Rattle.my_session.specs.declared.answer.Tick.{Tick}
 use Rattle.my_session.specs.declared.answer.Tick.TheVariants as ticks
 use Rattle.my_reading.specs.Calls.{call_of, id_in, lists_in, opts_in, params_in, statement_in, text_in}
-use Rattle.my_session.specs.Tasks.{fault_in}
+use Rattle.my_session.specs.Tasks.{kind_in, fault_in}
 use Rattle.my_reading.specs.Commands.{closing, command_of, connecting, execution, queried}
 use Rattle.my_reading.specs.Course.{first_above}
 pub use Rattle.my_reading.specs.Course.{is_greeting}
@@ -78,22 +81,26 @@ pub record Move : Type 0 where
 
 -- the call ends, the session is closed, what was owed is dropped, and no prepared statement is known any more
 abbrev pub fell : Seen → Seen
-fell s = record { context = s.context; task = tasks.Nothing; call = s.call; untold = s.untold; taken = s.taken; closed = true; ended = s.ended; number = s.number; unread = s.unread; owed = []; facts = s.facts; statements = emptied s.statements; status = s.status; login = s.login }
+fell s = record { context = s.context; task = tasks.Nothing; call = s.call; untold = s.untold; taken = s.taken; closed = true; ended = s.ended; number = s.number; unread = s.unread; owed = []; facts = s.facts; statements = emptied s.statements; status = s.status; trial = s.trial; login = s.login }
 
 abbrev pub with_task : Seen → Task → Bool → Seen
-with_task s t untold = record { context = s.context; task = t; call = s.call; untold = untold; taken = s.taken; closed = s.closed; ended = s.ended; number = s.number; unread = s.unread; owed = s.owed; facts = s.facts; statements = s.statements; status = s.status; login = s.login }
+with_task s t untold = record { context = s.context; task = t; call = s.call; untold = untold; taken = s.taken; closed = s.closed; ended = s.ended; number = s.number; unread = s.unread; owed = s.owed; facts = s.facts; statements = s.statements; status = s.status; trial = s.trial; login = s.login }
 
 -- a stream takes the set
 abbrev pub with_taken : Seen → Seen
-with_taken s = record { context = s.context; task = s.task; call = s.call; untold = s.untold; taken = true; closed = s.closed; ended = s.ended; number = s.number; unread = s.unread; owed = s.owed; facts = s.facts; statements = s.statements; status = s.status; login = s.login }
+with_taken s = record { context = s.context; task = s.task; call = s.call; untold = s.untold; taken = true; closed = s.closed; ended = s.ended; number = s.number; unread = s.unread; owed = s.owed; facts = s.facts; statements = s.statements; status = s.status; trial = s.trial; login = s.login }
 
 -- these prepared statements are known
 abbrev pub with_statements : Seen → Statements → Seen
-with_statements s st = record { context = s.context; task = s.task; call = s.call; untold = s.untold; taken = s.taken; closed = s.closed; ended = s.ended; number = s.number; unread = s.unread; owed = s.owed; facts = s.facts; statements = st; status = s.status; login = s.login }
+with_statements s st = record { context = s.context; task = s.task; call = s.call; untold = s.untold; taken = s.taken; closed = s.closed; ended = s.ended; number = s.number; unread = s.unread; owed = s.owed; facts = s.facts; statements = st; status = s.status; trial = s.trial; login = s.login }
 
 -- the transaction stands so
 abbrev pub with_status : Seen → TxStatus → Seen
-with_status s status = record { context = s.context; task = s.task; call = s.call; untold = s.untold; taken = s.taken; closed = s.closed; ended = s.ended; number = s.number; unread = s.unread; owed = s.owed; facts = s.facts; statements = s.statements; status = status; login = s.login }
+with_status s status = record { context = s.context; task = s.task; call = s.call; untold = s.untold; taken = s.taken; closed = s.closed; ended = s.ended; number = s.number; unread = s.unread; owed = s.owed; facts = s.facts; statements = s.statements; status = status; trial = s.trial; login = s.login }
+
+-- a transaction is being committed, or isn't any more
+abbrev pub with_trial : Seen → Trial → Seen
+with_trial s trial = record { context = s.context; task = s.task; call = s.call; untold = s.untold; taken = s.taken; closed = s.closed; ended = s.ended; number = s.number; unread = s.unread; owed = s.owed; facts = s.facts; statements = s.statements; status = s.status; trial = trial; login = s.login }
 
 -- a fatal error
 abbrev pub failed_by : Seen → Error → Move
@@ -128,17 +135,29 @@ advanced s k p rest next = record {
   facts = facts_after k p s.facts;
   statements = s.statements;
   status = s.status;
+  trial = s.trial;
   login = s.login;
 }
 
 -- an exchange begins, and nothing of an older one is left
 abbrev pub queued : Seen → Task → Talk → Seen
-queued s t talk = record { context = context_of talk; task = t; call = s.call; untold = false; taken = false; closed = s.closed; ended = s.ended; number = number_of (turns talk); unread = s.unread; owed = s.owed ++ client_bytes (turns talk); facts = s.facts; statements = s.statements; status = s.status; login = s.login }
+queued s t talk = record { context = context_of talk; task = t; call = s.call; untold = false; taken = false; closed = s.closed; ended = s.ended; number = number_of (turns talk); unread = s.unread; owed = s.owed ++ client_bytes (turns talk); facts = s.facts; statements = s.statements; status = s.status; trial = s.trial; login = s.login }
 
--- a server's error ends the call, and a session that isn't connected
+-- the transaction of the open call couldn't be committed, and is rolled back
+abbrev pub backing : Option CallKind → Task
+backing None = tasks.Nothing
+backing (Some c) = tasks.Backing c
+
+-- A server's error ends the call, and a session that isn't connected. While a transaction is being committed it is rolled back first, and the
+-- first error is what the call returns.
+abbrev pub refused_by_server : Seen → Seen → Trial → ServerError → Move
+refused_by_server s n trials.Off e = record { seen = (if is_connecting s.task then fell n else with_task n tasks.Nothing n.untold); does = Tells (ToldError (errors.Server e)) }
+refused_by_server s n trials.On e = record { seen = with_trial (with_status (with_task n (backing (kind_in s.task)) n.untold) txs.RequiresRollback) (trials.Refused e); does = Goes }
+refused_by_server s n (trials.Refused first) e = record { seen = with_trial (with_task n tasks.Nothing n.untold) trials.Off; does = Tells (ToldError (errors.Server first)) }
+
 abbrev pub refused : Seen → Seen → Option ErrPacket → Move
 refused s n None = failed_by s (invalid_data s.facts.place)
-refused s n (Some e) = record { seen = (if is_connecting s.task then fell n else with_task n tasks.Nothing n.untold); does = Tells (ToldError (errors.Server (server_error e))) }
+refused s n (Some e) = refused_by_server s n s.trial (server_error e)
 
 abbrev pub gave : Seen → Seen → Option RowParts → Move
 gave s n None = failed_by s (invalid_data s.facts.place)
@@ -226,6 +245,7 @@ commanded s t spot rows ahead command =
         facts = s.facts;
         statements = s.statements;
         status = s.status;
+        trial = s.trial;
         login = s.login;
       };
       does = Sends;
@@ -301,17 +321,36 @@ abbrev pub undone : Seen → CallKind → Bool → Move
 undone s c true = begins s (tasks.Undoing c) (queried (next_terms s) rollback_text)
 undone s c false = record { seen = with_task s (tasks.Cleaned c) s.untold; does = Goes }
 
--- a call ends whose own queries were sent and answered: there is a transaction, or the reset is done
+-- so is one that couldn't be committed
+abbrev pub reverted : Seen → CallKind → Bool → Move
+reverted s c true = begins s (tasks.Reverting c) (queried (next_terms s) rollback_text)
+reverted s c false = record { seen = with_task s (tasks.Reverting c) s.untold; does = Goes }
+
+-- and then the call returns why it couldn't
+abbrev pub returned : Seen → Trial → Move
+returned s (trials.Refused first) = record {
+  seen = with_trial (with_status (with_task s tasks.Nothing s.untold) (rolled_back s.status)) trials.Off;
+  does = Tells (ToldError (errors.Server first));
+}
+returned s trial = record { seen = with_task s tasks.Nothing s.untold; does = Tells ToldReady }
+
+-- a call ends whose own queries were sent and answered: there is a transaction, or none any more, or the reset is done
 abbrev pub status_then : CallKind → TxStatus → TxStatus
 status_then Begin status = txs.InTransaction
+status_then Commit status = txs.None
 status_then c status = status
+
+abbrev pub trial_then : CallKind → Trial → Trial
+trial_then Begin trial = trials.Off
+trial_then Commit trial = trials.Off
+trial_then c trial = trial
 
 abbrev pub told_then : CallKind → Told
 told_then Reset = ToldFlag true
 told_then c = ToldReady
 
 abbrev pub done : Seen → CallKind → Move
-done s c = record { seen = with_status (with_task s tasks.Nothing s.untold) (status_then c s.status); does = Tells (told_then c) }
+done s c = record { seen = with_trial (with_status (with_task s tasks.Nothing s.untold) (status_then c s.status)) (trial_then c s.trial); does = Tells (told_then c) }
 
 -- the next query of the call's own, after n others; where none is left, the call is done
 abbrev pub queried_by : Seen → CallKind → ℕ → Option (List ℕ) → Move
@@ -343,7 +382,10 @@ planned s (plans.Queries c n) = queried_by s c n (slice_get (queries_of s.login 
 planned s (plans.Undoes c) = undone s c (is_given_up s.status)
 planned s (plans.Settles c) = record { seen = with_status (with_task s (tasks.Cleaned c) s.untold) (rolled_back s.status); does = Goes }
 planned s plans.Admits = admitted s (begin_refusal (opts_in s.call) (version_of s.facts.version) s.status)
-planned s plans.GivesUp = record { seen = with_status (with_task s (tasks.Cleaning Rollback) s.untold) txs.RequiresRollback; does = Goes }
+planned s plans.Tries = record { seen = with_trial (with_task s (tasks.Cleaning Commit) s.untold) trials.On; does = Goes }
+planned s (plans.Reverts c) = reverted s c (is_given_up s.status)
+planned s plans.Returns = returned s s.trial
+planned s plans.GivesUp = record { seen = with_trial (with_status (with_task s (tasks.Cleaning Rollback) s.untold) txs.RequiresRollback) trials.Off; does = Goes }
 planned s plans.Forsakes = record { seen = with_status (with_task s tasks.Nothing s.untold) (given_up s.status); does = Tells ToldReady }
 planned s plans.Readies = record { seen = with_task s tasks.Nothing s.untold; does = Tells ToldReady }
 planned s plans.Learns = record {

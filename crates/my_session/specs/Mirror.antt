@@ -9,7 +9,7 @@ use Rattle.my_grammar.specs.Talk.{turns, number_of, context_of, Fits, login_in}
 use Rattle.my_reading.specs.declared.call.Call.{Call}
 use Rattle.my_reading.specs.declared.call.Call.TheVariants as calls
 use Rattle.my_reading.specs.declared.call.CallKind.{CallKind}
-use Rattle.my_reading.specs.declared.call.CallKind.TheVariants.{Connect, Query, Prepare, Execute, Batch, CloseStmt, NextRow, DropResult, TakeSet, SkipTaken, Ping, Reset, Begin, Rollback, ForgetTransaction, Quit}
+use Rattle.my_reading.specs.declared.call.CallKind.TheVariants.{Connect, Query, Prepare, Execute, Batch, CloseStmt, NextRow, DropResult, TakeSet, SkipTaken, Ping, Reset, Begin, Commit, Rollback, ForgetTransaction, Quit}
 use Rattle.my_params.specs.declared.params.Params.{Params}
 use Rattle.my_statements.specs.Prepared.{StatementView}
 use Rattle.my_reading.specs.declared.error.DriverError.{DriverError}
@@ -20,11 +20,12 @@ use Rattle.my_reading.specs.declared.transaction.TxStatus.TheVariants as txs
 use Rattle.my_reading.specs.Calls.{kind_of, call_of, asks, lists_in, opts_in, statement_in}
 use Rattle.my_reading.specs.Executions.{values_for}
 use Rattle.my_reading.specs.Commands.{arranging_texts}
-use Rattle.my_reading.specs.Course.{Part, All, Head, Item, Set, Rest, Command, Run, Reply, Keep, Give, Learn, Clear, Flag, Undone, Refuse, Settle, Owes, Awaits, Returns, Stops, step, clean, parts_of, parts_of_lists, parts_of_queries, parts_of_texts, is_greeting}
+use Rattle.my_reading.specs.Course.{Part, All, Head, Item, Set, Rest, Command, Run, Reply, Keep, Give, Learn, Clear, Flag, Undo, Undone, Refuse, Settle, Text, Back, Owes, Awaits, Returns, Stops, step, clean, parts_of, parts_of_lists, parts_of_queries, parts_of_texts, is_greeting}
 use Rattle.my_reading.specs.Errors.{unexpected_eof}
 use Rattle.my_reading.specs.Leads.{Leads}
 use Rattle.my_reading.specs.Place.{Place, exchanges, facts_at, client_side, connects_in}
 use Rattle.my_reading.specs.Told.{Told, ToldError, told, closes}
+use Rattle.my_reading.specs.Transactions.{commit_text}
 use Rattle.my_session.specs.declared.answer.SessionStep.{SessionStep}
 use Rattle.my_session.specs.declared.answer.SessionStep.TheVariants as steps
 use Rattle.my_session.specs.declared.answer.Tick.{Tick}
@@ -34,13 +35,14 @@ use Rattle.my_session.specs.declared.task.Task.TheVariants as tasks
 use Rattle.my_session.specs.Machine.{Doing, Goes, Passes, Sends, Needs, Tells, Move, next, refusal, refused_by}
 use Rattle.my_session.specs.Queries.{has_queries, queries_of}
 use Rattle.my_session.specs.Seen.{Seen}
-use Rattle.my_session.specs.Stands.{is_shaking, owes, call_with}
+use Rattle.my_session.specs.Stands.{is_off, is_shaking, owes, call_with}
 use Rattle.my_session.specs.Tasks.{kind_in, fault_in}
 
 -- what is left of a call after the queries of its own
 abbrev pub last_parts : CallKind → List Part
 last_parts Reset = Flag true ∷ []
 last_parts Begin = Settle txs.InTransaction ∷ []
+last_parts Commit = Settle txs.None ∷ []
 last_parts c = []
 
 -- what is left of a call after some of its own queries, of which these come next
@@ -62,6 +64,7 @@ own_parts login SkipTaken call = Rest ∷ []
 own_parts login Ping call = All ∷ []
 own_parts login Reset call = All ∷ Clear ∷ parts_of_own Reset (queries_of login Reset call)
 own_parts login Begin call = []
+own_parts login Commit call = []
 own_parts login Rollback call = []
 own_parts login ForgetTransaction call = []
 own_parts login Quit call = []
@@ -75,6 +78,7 @@ parts_of_runs (params ∷ lists) = Run params ∷ Head ∷ Learn ∷ All ∷ par
 abbrev pub ask_parts : Login → CallKind → Call → List Part
 ask_parts login Batch call = parts_of_runs (lists_in call)
 ask_parts login Begin call = Refuse (opts_in call) ∷ parts_of_own Begin (queries_of login Begin call)
+ask_parts login Commit call = Text commit_text ∷ parts_of_own Commit []
 ask_parts login Rollback call = []
 ask_parts login c call = Command ∷ own_parts login c call
 
@@ -92,6 +96,8 @@ parts_left login call (tasks.Running n) = Head ∷ Learn ∷ All ∷ parts_of_li
 parts_left login call (tasks.Finishing n) = All ∷ parts_of_lists (drop n (lists_in call))
 parts_left login call tasks.Clearing = Clear ∷ parts_of_own Reset (queries_of login Reset call)
 parts_left login call (tasks.Asking c n) = parts_of_own c (drop n (queries_of login c call))
+parts_left login call (tasks.Backing c) = Undo ∷ Back ∷ []
+parts_left login call (tasks.Reverting c) = Back ∷ []
 parts_left login call tasks.Reading = Item ∷ []
 parts_left login call tasks.Dropping = All ∷ []
 parts_left login call tasks.Taking = Set ∷ []
@@ -106,11 +112,13 @@ passes_end (tasks.Undoing c) = true
 passes_end (tasks.Arranging n) = true
 passes_end (tasks.Finishing n) = true
 passes_end (tasks.Asking c n) = true
+passes_end (tasks.Reverting c) = true
 passes_end t = false
 
--- a call has cleaned, its own exchange, or what follows it
+-- a call has cleaned, its own exchange, or what follows it; or it couldn't commit
 abbrev pub is_own : Task → Bool
 is_own (tasks.Cleaned c) = true
+is_own (tasks.Backing c) = true
 is_own (tasks.Own c) = true
 is_own tasks.Giving = true
 is_own (tasks.Running n) = true
@@ -132,6 +140,7 @@ OwnStandsAt SkipTaken spot count = ⊥
 OwnStandsAt Ping spot count = spot ≡ spots.Single
 OwnStandsAt Reset spot count = spot ≡ spots.Single
 OwnStandsAt Begin spot count = ⊥
+OwnStandsAt Commit spot count = ⊥
 OwnStandsAt Rollback spot count = ⊥
 OwnStandsAt ForgetTransaction spot count = ⊥
 OwnStandsAt Quit spot count = is_greeting spot ≡ false
@@ -153,6 +162,8 @@ TaskStandsAt (tasks.Running n) spot count = is_greeting spot ≡ false
 TaskStandsAt (tasks.Finishing n) spot count = is_greeting spot ≡ false
 TaskStandsAt tasks.Clearing spot count = is_greeting spot ≡ false
 TaskStandsAt (tasks.Asking c n) spot count = (asks c ≡ true) × (is_greeting spot ≡ false) × (has_queries c ≡ true)
+TaskStandsAt (tasks.Backing c) spot count = (c ≡ Commit) × (spot ≡ spots.Idle)
+TaskStandsAt (tasks.Reverting c) spot count = (c ≡ Commit) × (is_greeting spot ≡ false)
 TaskStandsAt tasks.Reading spot count = is_greeting spot ≡ false
 TaskStandsAt tasks.Dropping spot count = is_greeting spot ≡ false
 TaskStandsAt tasks.Taking spot count = is_greeting spot ≡ false
@@ -200,6 +211,7 @@ pub record StandsAt (s : Seen) (p : Place) : Type 0 where
   pub task_at : TaskStandsAt s.task s.context.spot (connects_in (exchanges p))
   pub statements_are : s.closed ≡ false → s.statements ≡ p.statements
   pub status_is : s.closed ≡ false → s.status ≡ p.status
+  pub trial_is : s.closed ≡ false → s.trial ≡ p.trial
   -- the parameters of an execution were looked at before anything is sent
   pub checked : refusal_at s.task s.call ≡ None
   pub settled : owes s.task ≡ false → s.owed ≡ []
@@ -211,6 +223,8 @@ pub record OpenAt (s : Seen) (call : Call) (parts : List Part) (p : Place) : Typ
   pub sound : fault_in s.task ≡ None
   pub call_is : call_with (kind_in s.task) s.call ≡ Some call
   pub parts_are : parts ≡ parts_left s.login s.call s.task
+  -- only a call that commits has a trial
+  pub tries : is_off s.trial ≡ false → kind_in s.task ≡ Some Commit
 
 -- the call returned what it comes to at this place
 pub record ReturnsAt (login : Login) (call : Call) (parts : List Part) (q : Place) (t : Told) (new : Seen) : Type 0 where

@@ -1,21 +1,24 @@
--- The queries that a call has of its own: those that set the server's session up after a reset, and those that begin a transaction.
-use Rattle.std.specs.Prelude.{ℕ, List, [], Bool, true, false}
+-- The queries that a call has of its own: those that set the server's session up after a reset, and those that begin a transaction or
+-- commit it.
+use Rattle.std.specs.Prelude.{ℕ, List, [], ◌∷◌, Bool, true, false}
 use Rattle.my_grammar.specs.declared.login.Login.{Login}
 use Rattle.my_reading.specs.declared.call.Call.{Call}
 use Rattle.my_reading.specs.declared.call.CallKind.{CallKind}
-use Rattle.my_reading.specs.declared.call.CallKind.TheVariants.{Reset, Begin}
+use Rattle.my_reading.specs.declared.call.CallKind.TheVariants.{Reset, Begin, Commit}
 use Rattle.my_reading.specs.Calls.{opts_in}
 use Rattle.my_reading.specs.Commands.{setup_texts}
-use Rattle.my_reading.specs.Transactions.{begin_texts}
+use Rattle.my_reading.specs.Transactions.{begin_texts, commit_text}
 
 -- the calls that may have some
 abbrev pub has_queries : CallKind → Bool
 has_queries Reset = true
 has_queries Begin = true
+has_queries Commit = true
 has_queries _ = false
 
 -- those of a call of this kind, with what another call carries, in the order in which they are sent
 abbrev pub queries_of : Login → CallKind → Call → List (List ℕ)
 queries_of login Reset call = setup_texts login
 queries_of login Begin call = begin_texts (opts_in call)
+queries_of login Commit call = commit_text ∷ []
 queries_of login _ call = []

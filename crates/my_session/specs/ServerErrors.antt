@@ -1,59 +1,23 @@
 -- The server's errors, and those that callers got.
--- MySQL internals, "ERR_Packet": it ends a response.
-use Rattle.std.specs.Prelude.{ℕ, List, [], ◌∷◌, ◌++◌, Option, Some, None, true, false}
-use Rattle.my_reply.specs.declared.err.ErrPacket.{ErrPacket}
-use Rattle.my_reply.specs.ErrPacket.{err_at}
-use Rattle.my_grammar.specs.declared.spot.Kind.{Kind}
-use Rattle.my_grammar.specs.declared.spot.Kind.TheVariants as kinds
-use Rattle.my_grammar.specs.Sets.{Sets, NoSets, Lone, Failed, Heading, Headed, Begun, Ended, Broken}
-use Rattle.my_grammar.specs.Prepares.{Reply, Refused}
-use Rattle.my_grammar.specs.Talk.{Talk, Unwelcome, Settled, Replied, Queried, Preparing}
+use Rattle.std.specs.Prelude.{List, [], ◌∷◌, ◌++◌, Bool, true, false}
 use Rattle.my_reading.specs.declared.error.Error.{Error}
 use Rattle.my_reading.specs.declared.error.Error.TheVariants as errors
 use Rattle.my_reading.specs.declared.error.ServerError.{ServerError}
+use Rattle.my_reading.specs.declared.transaction.Trial.{Trial}
+use Rattle.my_reading.specs.declared.transaction.Trial.TheVariants as trials
 use Rattle.my_session.specs.Entries.{Entry}
-use Rattle.my_reading.specs.Errors.{server_error}
 use Rattle.my_reading.specs.Told.{Told, ToldError}
 use Rattle.my_session.specs.History.{Made}
+pub use Rattle.my_session.specs.TalkErrors.{error_onto, error_of, errors_in_sets, errors_in_reply, errors_in}
 
--- what an ERR says, the newest first
-abbrev pub error_onto : Option ErrPacket → List ServerError → List ServerError
-error_onto None es = es
-error_onto (Some e) es = server_error e ∷ es
-
--- the one answer of an exchange, where it is an ERR
-abbrev pub error_of : Kind → List ℕ → List ServerError
-error_of kinds.Failed p = error_onto (err_at false p) []
-error_of _ p = []
-
--- the ERRs among sets
-abbrev pub errors_in_sets : Sets → List ServerError
-errors_in_sets (NoSets asking) = []
-errors_in_sets (Lone older p status) = errors_in_sets older
-errors_in_sets (Failed older p) = error_onto (err_at false p) (errors_in_sets older)
-errors_in_sets (Heading older head left) = errors_in_sets older
-errors_in_sets (Headed older head) = errors_in_sets older
-errors_in_sets (Begun older head rows) = errors_in_sets older
-errors_in_sets (Ended older head rows last status) = errors_in_sets older
-errors_in_sets (Broken older head rows last) = error_onto (err_at false last) (errors_in_sets older)
-
--- the ERR that answers a statement to prepare
-abbrev pub errors_in_reply : Reply → List ServerError
-errors_in_reply (Refused p) = error_onto (err_at false p) []
-errors_in_reply _ = []
-
--- the ERRs of an exchange; one in place of the greeting has no state
-abbrev pub errors_in : Talk → List ServerError
-errors_in (Unwelcome login p) = error_onto (err_at true p) []
-errors_in (Settled login p capabilities last kind) = error_of kind last
-errors_in (Replied terms c last kind) = error_of kind last
-errors_in (Queried terms c sets) = errors_in_sets sets
-errors_in (Preparing terms c reply) = errors_in_reply reply
-errors_in _ = []
+-- those of a hushed exchange aren't returned
+abbrev pub unless_hushed : Bool → List ServerError → List ServerError
+unless_hushed true es = []
+unless_hushed false es = es
 
 abbrev pub errors_of : List Entry → List ServerError
 errors_of [] = []
-errors_of (e ∷ es) = errors_in e.talk ++ errors_of es
+errors_of (e ∷ es) = unless_hushed e.hushed (errors_in e.talk) ++ errors_of es
 
 -- the server's errors that callers got
 abbrev pub with_error : Error → List ServerError → List ServerError
@@ -67,3 +31,8 @@ with_told _ es = es
 abbrev pub errors_told : List Made → List ServerError
 errors_told [] = []
 errors_told (m ∷ ms) = with_told m.what (errors_told ms)
+
+-- with the one that is yet to be returned, for which a transaction is rolled back
+abbrev pub with_pending : Trial → List ServerError → List ServerError
+with_pending (trials.Refused first) es = first ∷ es
+with_pending trial es = es

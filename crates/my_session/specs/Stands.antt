@@ -10,15 +10,17 @@ use Rattle.my_grammar.specs.Talk.{Talk, turns, number_of, server_bytes, client_b
 use Rattle.my_reading.specs.declared.call.Call.{Call}
 use Rattle.my_reading.specs.declared.call.Call.TheVariants as calls
 use Rattle.my_reading.specs.declared.call.CallKind.{CallKind}
-use Rattle.my_reading.specs.declared.call.CallKind.TheVariants.{Connect, Query, Prepare, Execute, Batch, CloseStmt, NextRow, DropResult, TakeSet, SkipTaken, Ping, Reset, Begin, Rollback, ForgetTransaction, Quit}
+use Rattle.my_reading.specs.declared.call.CallKind.TheVariants.{Connect, Query, Prepare, Execute, Batch, CloseStmt, NextRow, DropResult, TakeSet, SkipTaken, Ping, Reset, Begin, Commit, Rollback, ForgetTransaction, Quit}
 use Rattle.my_session.specs.declared.task.Task.{Task}
 use Rattle.my_session.specs.declared.task.Task.TheVariants as tasks
 use Rattle.my_reading.specs.declared.facts.Facts.{Facts}
+use Rattle.my_reading.specs.declared.transaction.Trial.{Trial}
+use Rattle.my_reading.specs.declared.transaction.Trial.TheVariants as trials
 use Rattle.my_reading.specs.declared.transaction.TxStatus.{TxStatus}
 use Rattle.my_reading.specs.Calls.{kind_of, call_of, asks, is_connect, is_unrefused}
 use Rattle.my_session.specs.Tasks.{kind_in}
 use Rattle.my_reading.specs.Commands.{arranging_texts}
-use Rattle.my_session.specs.Entries.{Entry, taken_by, sent_by, facts_of, Follow, connecting_in, OwnsFirst, is_answered, AllDone, AllGiven, givens, sets_of, calls_in, IsTied, has_connected}
+use Rattle.my_session.specs.Entries.{Entry, AreHushed, EndedBy, taken_by, sent_by, facts_of, Follow, connecting_in, OwnsFirst, is_answered, AllDone, AllGiven, givens, sets_of, calls_in, IsTied, has_connected}
 use Rattle.my_reading.specs.Facts.{facts_by}
 use Rattle.my_reading.specs.Transactions.{is_given_up}
 use Rattle.my_session.specs.Groups.{groups, given}
@@ -26,7 +28,7 @@ use Rattle.my_session.specs.History.{History, Made, has_closed}
 use Rattle.my_session.specs.Machine.{is_greeting}
 use Rattle.my_session.specs.Queries.{has_queries}
 use Rattle.my_session.specs.Seen.{Seen}
-use Rattle.my_session.specs.ServerErrors.{errors_of, errors_told}
+use Rattle.my_session.specs.ServerErrors.{errors_of, errors_told, with_pending}
 use Rattle.my_session.specs.Steps.{is_settled}
 
 -- The wire: the bytes are those of the exchanges, and each field is what the exchanges say. Of the newest exchange's bytes some went
@@ -46,7 +48,7 @@ pub record Wire (context : Context) (number : ℕ) (unread owed : List ℕ) (clo
   pub fits : Fits talk
   pub done : AllDone older
   pub facts_are : facts ≡ facts_by (packets_of talk) (facts_of login older)
-  pub table : Follow login (record { call = call; talk = talk; given = None } ∷ older)
+  pub table : Follow login (record { call = call; talk = talk; given = None; hushed = false } ∷ older)
 
 -- there is something that a read would answer
 abbrev pub is_left : Spot → Bool
@@ -104,6 +106,7 @@ owes tasks.Giving = true
 owes (tasks.Arranging n) = true
 owes (tasks.Running n) = true
 owes (tasks.Asking c n) = true
+owes (tasks.Reverting c) = true
 owes (tasks.Failing c fault) = true
 owes _ = false
 
@@ -154,6 +157,7 @@ OwnAt SkipTaken spot connected count newest = ⊥
 OwnAt Ping spot connected count newest = (connected ≡ true) × (spot ≡ spots.Single)
 OwnAt Reset spot connected count newest = (connected ≡ true) × (spot ≡ spots.Single)
 OwnAt Begin spot connected count newest = ⊥
+OwnAt Commit spot connected count newest = ⊥
 OwnAt Rollback spot connected count newest = ⊥
 OwnAt ForgetTransaction spot connected count newest = ⊥
 OwnAt Quit spot connected count newest = connected ≡ true
@@ -177,6 +181,8 @@ TaskIs (tasks.Running n) spot closed connected count newest = (connected ≡ tru
 TaskIs (tasks.Finishing n) spot closed connected count newest = (connected ≡ true) × (is_greeting spot ≡ false)
 TaskIs tasks.Clearing spot closed connected count newest = (connected ≡ true) × (spot ≡ spots.Idle)
 TaskIs (tasks.Asking c n) spot closed connected count newest = (has_queries c ≡ true) × (connected ≡ true) × (is_greeting spot ≡ false)
+TaskIs (tasks.Backing c) spot closed connected count newest = (c ≡ Commit) × (connected ≡ true) × (spot ≡ spots.Idle)
+TaskIs (tasks.Reverting c) spot closed connected count newest = (c ≡ Commit) × (connected ≡ true) × (is_greeting spot ≡ false)
 TaskIs tasks.Reading spot closed connected count newest = (connected ≡ true) × (is_reading spot ≡ true)
 TaskIs tasks.Dropping spot closed connected count newest = (connected ≡ true) × (is_reading spot ≡ true)
 TaskIs tasks.Taking spot closed connected count newest = (connected ≡ true) × (is_reading spot ≡ true)
@@ -206,6 +212,8 @@ TieIs (tasks.Running n) opened spot made call older = OwnsFirst (call_of Batch o
 TieIs (tasks.Finishing n) opened spot made call older = OwnsFirst (call_of Batch opened) (call ∷ calls_in older) (IsTied made)
 TieIs tasks.Clearing opened spot made call older = OwnsFirst (call_of Reset opened) (call ∷ calls_in older) (IsTied made)
 TieIs (tasks.Asking c n) opened spot made call older = OwnsFirst (call_of c opened) (call ∷ calls_in older) (IsTied made)
+TieIs (tasks.Backing c) opened spot made call older = OwnsFirst (call_of c opened) (call ∷ calls_in older) (IsTied made) ⊎ IsTied made (begun_of spot call older)
+TieIs (tasks.Reverting c) opened spot made call older = OwnsFirst (call_of c opened) (call ∷ calls_in older) (IsTied made)
 TieIs (tasks.Failing c fault) opened spot made call older = OwnsFirst (call_of c opened) (call ∷ calls_in older) (IsTied made) ⊎ IsTied made (begun_of spot call older)
 TieIs _ opened spot made call older = IsTied made (begun_of spot call older)
 
@@ -214,13 +222,41 @@ abbrev pub call_with : Option CallKind → Call → Option Call
 call_with None call = None
 call_with (Some c) call = Some (call_of c call)
 
+-- Only a call that commits has a trial, once it was stepped, and one that was refused is rolled back.
+abbrev pub is_off : Trial → Bool
+is_off trials.Off = true
+is_off _ = false
+
+abbrev pub is_on : Trial → Bool
+is_on trials.On = true
+is_on _ = false
+
+abbrev pub is_refused_trial : Trial → Bool
+is_refused_trial (trials.Refused first) = true
+is_refused_trial _ = false
+
+abbrev pub trial_of : CallKind → Trial → Bool
+trial_of Commit trial = is_on trial
+trial_of c trial = is_off trial
+
+abbrev pub trial_at : Task → Trial → Bool
+trial_at (tasks.Cleaning c) trial = trial_of c trial
+trial_at (tasks.Undoing c) trial = trial_of c trial
+trial_at (tasks.Cleaned c) trial = trial_of c trial
+trial_at (tasks.Asking c n) trial = trial_of c trial
+trial_at (tasks.Backing c) trial = is_refused_trial trial
+trial_at (tasks.Reverting c) trial = is_refused_trial trial
+trial_at (tasks.Failing c fault) trial = true
+trial_at _ trial = is_off trial
+
 -- The calls: what they were given is what was in the responses.
-pub record Heard (task : Task) (open_call : Call) (spot : Spot) (untold closed lost : Bool) (made : List Made) (pending : Option Call) (newest : Entry) (older : List Entry) : Type 0 where
+pub record Heard (task : Task) (open_call : Call) (spot : Spot) (untold closed lost : Bool) (made : List Made) (pending : Option Call) (newest : Entry) (older : List Entry) (trial : Trial) : Type 0 where
   pub pending_is : pending ≡ call_with (kind_in task) open_call
   pub closed_is : closed ≡ has_closed made || lost
   pub alive : is_alive task ≡ true → closed ≡ false
   pub given_is : given made ≡ givens (newest ∷ older)
-  pub errors : errors_told made ≡ errors_of (newest ∷ older)
+  pub errors : with_pending trial (errors_told made) ≡ errors_of (newest ∷ older)
+  pub trying : closed ≡ false → trial_at task trial ≡ true
   pub each : AllGiven (newest ∷ older)
   pub lone : untold ≡ true → is_lone (sets_of newest.talk) ≡ true
   pub fresh : closed ≡ false → keeps task ≡ true → untold || is_left spot ≡ true → newest.given ≡ Some (groups (known_part untold (sets_of newest.talk)))
@@ -233,19 +269,32 @@ abbrev pub IsArranged : Login → List Made → Entry → List Entry → Type 0
 IsArranged login made newest older = has_connected made ≡ true
     → (connecting_in (newest ∷ older) ≡ suc (length (arranging_texts login))) × (is_connect (kind_of newest.call) ≡ true → is_answered newest.talk ≡ true)
 
--- The transaction that is rolled back was given up; and of a call that has cleaned no end is left to be returned.
-abbrev pub CleansAt : Task → Bool → TxStatus → Type 0
-CleansAt (tasks.Cleaning c) untold status = is_rollback c ≡ true → is_given_up status ≡ true
-CleansAt (tasks.Cleaned c) untold status = untold ≡ false
-CleansAt _ untold status = Unit {0}
+-- The transaction that is rolled back was given up; of a call that has cleaned no end is left to be returned; and a transaction that couldn't
+-- be committed is rolled back by an exchange that is hushed.
+abbrev pub CleansAt : Task → Bool → TxStatus → Bool → Type 0
+CleansAt (tasks.Cleaning c) untold status hushed = is_rollback c ≡ true → is_given_up status ≡ true
+CleansAt (tasks.Cleaned c) untold status hushed = untold ≡ false
+CleansAt (tasks.Backing c) untold status hushed = (is_given_up status ≡ true) × (hushed ≡ false)
+CleansAt (tasks.Reverting c) untold status hushed = hushed ≡ true
+CleansAt _ untold status hushed = Unit {0}
+
+-- Where the trial was refused, the newest exchange ended with that ERR, or is the ROLLBACK after it. Else the newest exchange isn't hushed, or is over.
+abbrev pub TrialIs : Trial → Spot → Entry → List Entry → Type 0
+TrialIs (trials.Refused first) spot newest older = ((newest.hushed ≡ false) × (is_idle spot ≡ true) × EndedBy first (newest ∷ older)) ⊎ ((newest.hushed ≡ true) × EndedBy first older)
+TrialIs trial spot newest older = newest.hushed ≡ true → is_idle spot ≡ true
+
+pub record Tried (login : Login) (trial : Trial) (spot : Spot) (newest : Entry) (older : List Entry) : Type 0 where
+  pub trial_is : TrialIs trial spot newest older
+  pub hushed : AreHushed login (newest ∷ older)
 
 pub record Stands (s : Seen) (h : History) : Type 0 where
   pub newest : Entry
   pub older : List Entry
   pub wire : Wire s.context s.number s.unread s.owed s.closed s.facts s.login h.taken h.sent newest.call newest.talk older
-  pub heard : Heard s.task s.call s.context.spot s.untold s.closed h.lost h.calls h.pending newest older
+  pub heard : Heard s.task s.call s.context.spot s.untold s.closed h.lost h.calls h.pending newest older s.trial
   pub arranged : IsArranged s.login h.calls newest older
   pub ended_is : s.ended ≡ h.ended
   -- a call that has no exchange of its own owes nothing
   pub settled : owes s.task ≡ false → s.owed ≡ []
-  pub cleans : CleansAt s.task s.untold s.status
+  pub cleans : CleansAt s.task s.untold s.status newest.hushed
+  pub tried : Tried s.login s.trial s.context.spot newest older

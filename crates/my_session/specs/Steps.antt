@@ -16,11 +16,12 @@ use Rattle.my_reading.specs.declared.call.CallKind.TheVariants.{Connect, Batch, 
 use Rattle.my_session.specs.declared.task.LinkFault.{LinkFault}
 use Rattle.my_session.specs.declared.task.LinkFault.TheVariants.{NoMemory}
 use Rattle.my_session.specs.declared.task.Task.{Task}
-use Rattle.my_session.specs.declared.task.Task.TheVariants.{Nothing, Begun, Cleaning, Undoing, Cleaned, Own, Giving, Arranging, Running, Finishing, Clearing, Asking, Reading, Dropping, Taking, Skipping, Leaving, Failing}
+use Rattle.my_session.specs.declared.task.Task.TheVariants.{Nothing, Begun, Cleaning, Undoing, Cleaned, Own, Giving, Arranging, Running, Finishing, Clearing, Asking, Backing, Reverting, Reading, Dropping, Taking, Skipping, Leaving, Failing}
 use Rattle.my_reading.specs.Calls.{kind_of, is_unrefused}
 use Rattle.my_session.specs.Tasks.{is_open}
 use Rattle.my_reading.specs.Facts.{first_facts}
 use Rattle.my_reading.specs.declared.transaction.TxStatus.TheVariants as txs
+use Rattle.my_reading.specs.declared.transaction.Trial.TheVariants.{Off}
 use Rattle.my_reading.specs.Statements.{first_statements}
 use Rattle.my_reading.specs.Place.{is_rows}
 use Rattle.my_reading.specs.Told.{ToldError, told}
@@ -51,7 +52,7 @@ is_begun_at _ spot = is_settled spot
 
 -- before the greeting
 abbrev pub fresh : Login → Seen
-fresh login = record { context = context_of (Start login); task = Nothing; call = calls.Connect; untold = false; taken = false; closed = false; ended = false; number = 0; unread = []; owed = []; facts = first_facts login; statements = first_statements login; status = txs.None; login = login }
+fresh login = record { context = context_of (Start login); task = Nothing; call = calls.Connect; untold = false; taken = false; closed = false; ended = false; number = 0; unread = []; owed = []; facts = first_facts login; statements = first_statements login; status = txs.None; trial = Off; login = login }
 
 -- whether a stream took the set that is read, or whose end is left
 abbrev pub is_taken : Seen → Bool
@@ -63,17 +64,17 @@ is_refused closed c = closed && not (is_unrefused c)
 
 -- a call begins; on a closed session it has nothing left to do
 abbrev pub begun : Seen → Call → Seen
-begun s call = record { context = s.context; task = (if s.closed then Leaving (kind_of call) else Begun (kind_of call)); call = call; untold = s.untold; taken = s.taken; closed = s.closed; ended = s.ended; number = s.number; unread = s.unread; owed = s.owed; facts = s.facts; statements = s.statements; status = s.status; login = s.login }
+begun s call = record { context = s.context; task = (if s.closed then Leaving (kind_of call) else Begun (kind_of call)); call = call; untold = s.untold; taken = s.taken; closed = s.closed; ended = s.ended; number = s.number; unread = s.unread; owed = s.owed; facts = s.facts; statements = s.statements; status = s.status; trial = s.trial; login = s.login }
 
 abbrev pub with_owed : Seen → List ℕ → Seen
-with_owed s owed = record { context = s.context; task = s.task; call = s.call; untold = s.untold; taken = s.taken; closed = s.closed; ended = s.ended; number = s.number; unread = s.unread; owed = owed; facts = s.facts; statements = s.statements; status = s.status; login = s.login }
+with_owed s owed = record { context = s.context; task = s.task; call = s.call; untold = s.untold; taken = s.taken; closed = s.closed; ended = s.ended; number = s.number; unread = s.unread; owed = owed; facts = s.facts; statements = s.statements; status = s.status; trial = s.trial; login = s.login }
 
 abbrev pub with_unread : Seen → List ℕ → Seen
-with_unread s unread = record { context = s.context; task = s.task; call = s.call; untold = s.untold; taken = s.taken; closed = s.closed; ended = s.ended; number = s.number; unread = unread; owed = s.owed; facts = s.facts; statements = s.statements; status = s.status; login = s.login }
+with_unread s unread = record { context = s.context; task = s.task; call = s.call; untold = s.untold; taken = s.taken; closed = s.closed; ended = s.ended; number = s.number; unread = unread; owed = s.owed; facts = s.facts; statements = s.statements; status = s.status; trial = s.trial; login = s.login }
 
 -- the link reported its end
 abbrev pub with_end : Seen → Seen
-with_end s = record { context = s.context; task = s.task; call = s.call; untold = s.untold; taken = s.taken; closed = s.closed; ended = true; number = s.number; unread = s.unread; owed = s.owed; facts = s.facts; statements = s.statements; status = s.status; login = s.login }
+with_end s = record { context = s.context; task = s.task; call = s.call; untold = s.untold; taken = s.taken; closed = s.closed; ended = true; number = s.number; unread = s.unread; owed = s.owed; facts = s.facts; statements = s.statements; status = s.status; trial = s.trial; login = s.login }
 
 -- the open call is made to fail; where none is open, nothing changes
 abbrev pub failing : Task → LinkFault → Task
@@ -89,6 +90,8 @@ failing (Running n) fault = Failing Batch fault
 failing (Finishing n) fault = Failing Batch fault
 failing Clearing fault = Failing Reset fault
 failing (Asking c n) fault = Failing c fault
+failing (Backing c) fault = Failing c fault
+failing (Reverting c) fault = Failing c fault
 failing Reading fault = Failing NextRow fault
 failing Dropping fault = Failing DropResult fault
 failing Taking fault = Failing TakeSet fault
@@ -97,7 +100,7 @@ failing (Leaving c) fault = Failing c fault
 failing (Failing c old) fault = Failing c fault
 
 abbrev pub with_failing : Seen → LinkFault → Seen
-with_failing s fault = record { context = s.context; task = failing s.task fault; call = s.call; untold = s.untold; taken = s.taken; closed = s.closed; ended = s.ended; number = s.number; unread = s.unread; owed = s.owed; facts = s.facts; statements = s.statements; status = s.status; login = s.login }
+with_failing s fault = record { context = s.context; task = failing s.task fault; call = s.call; untold = s.untold; taken = s.taken; closed = s.closed; ended = s.ended; number = s.number; unread = s.unread; owed = s.owed; facts = s.facts; statements = s.statements; status = s.status; trial = s.trial; login = s.login }
 
 -- bytes were received for which there is no memory: the open call is made to fail, or the session is closed
 abbrev pub with_loss : Seen → Seen
@@ -122,6 +125,9 @@ rank (Finishing n) false = 0
 rank Clearing untold = 2
 rank (Asking c n) true = 1
 rank (Asking c n) false = 0
+rank (Backing c) untold = 3
+rank (Reverting c) true = 2
+rank (Reverting c) false = 1
 rank Reading untold = 0
 rank Dropping true = 1
 rank Dropping false = 0

@@ -6,11 +6,11 @@ use Rattle.my_grammar.specs.declared.spot.Spot.TheVariants as spots
 use Rattle.my_grammar.specs.declared.spot.Kind.{Kind}
 use Rattle.my_grammar.specs.declared.spot.Kind.TheVariants as kinds
 use Rattle.my_reading.specs.declared.call.CallKind.{CallKind}
-use Rattle.my_reading.specs.declared.call.CallKind.TheVariants.{Connect, Query, Prepare, Execute, Batch, CloseStmt, NextRow, DropResult, TakeSet, SkipTaken, Ping, Reset, Begin, Rollback, ForgetTransaction, Quit}
+use Rattle.my_reading.specs.declared.call.CallKind.TheVariants.{Connect, Query, Prepare, Execute, Batch, CloseStmt, NextRow, DropResult, TakeSet, SkipTaken, Ping, Reset, Begin, Commit, Rollback, ForgetTransaction, Quit}
 use Rattle.my_reading.specs.Calls.{is_quit}
 pub use Rattle.my_reading.specs.Endings.{awaits_head}
 use Rattle.my_session.specs.declared.task.Task.{Task}
-use Rattle.my_session.specs.declared.task.Task.TheVariants.{Nothing, Begun, Cleaning, Undoing, Cleaned, Own, Giving, Arranging, Running, Finishing, Clearing, Asking, Reading, Dropping, Taking, Skipping, Leaving, Failing}
+use Rattle.my_session.specs.declared.task.Task.TheVariants.{Nothing, Begun, Cleaning, Undoing, Cleaned, Own, Giving, Arranging, Running, Finishing, Clearing, Asking, Backing, Reverting, Reading, Dropping, Taking, Skipping, Leaving, Failing}
 use Rattle.my_session.specs.declared.tables.Plan.{Plan}
 use Rattle.my_session.specs.declared.tables.Plan.TheVariants as plans
 use Rattle.my_session.specs.declared.reactions.Reaction.{Reaction}
@@ -31,19 +31,21 @@ first_task SkipTaken = Skipping
 first_task Ping = Cleaning Ping
 first_task Reset = Cleaning Reset
 first_task Begin = Cleaning Begin
+first_task Commit = Cleaning Commit
 first_task Rollback = Cleaning Rollback
 first_task ForgetTransaction = Nothing
 first_task Quit = Cleaning Quit
 
 -- what a call does first: a statement to prepare is looked for in the cache, parameters are looked at, those of a batch's first execution
--- among them, a statement to close isn't kept any more, before a reset the server's version is looked at, and a transaction that is rolled
--- back or forgotten is given up
+-- among them, a statement to close isn't kept any more, before a reset the server's version is looked at, a transaction is about to be
+-- committed, or one that is rolled back or forgotten is given up
 abbrev pub first_plan : CallKind → Plan
 first_plan Prepare = plans.Finds
 first_plan Execute = plans.Checks
 first_plan Batch = plans.Batches
 first_plan CloseStmt = plans.Forgets
 first_plan Reset = plans.Resets
+first_plan Commit = plans.Tries
 first_plan Rollback = plans.GivesUp
 first_plan ForgetTransaction = plans.Forsakes
 first_plan c = plans.Starts (first_task c)
@@ -57,6 +59,7 @@ clean_plan p s untold = plans.Reads
 abbrev pub ask_plan : CallKind → Plan
 ask_plan Batch = plans.Runs 0
 ask_plan Begin = plans.Admits
+ask_plan Commit = plans.Queries Commit 0
 ask_plan Rollback = plans.Readies
 ask_plan c = plans.Asks c
 
@@ -125,6 +128,8 @@ plan_of (Running n) s untold = run_plan n s
 plan_of (Finishing n) s untold = clean_plan (plans.Runs n) s untold
 plan_of Clearing s untold = plans.Clears
 plan_of (Asking c n) s untold = clean_plan (plans.Queries c n) s untold
+plan_of (Backing c) s untold = plans.Reverts c
+plan_of (Reverting c) s untold = clean_plan plans.Returns s untold
 plan_of Reading s untold = if untold then plans.Ends else read_plan s
 plan_of Dropping s untold = if untold then plans.Passes else drop_plan s
 plan_of Taking s untold = if untold then plans.Takes else take_plan s
@@ -244,6 +249,7 @@ react (Arranging n) k = react_whole (Arranging n) k
 react (Running n) k = react_running n k
 react (Finishing n) k = react_whole (Finishing n) k
 react (Asking c n) k = react_whole (Asking c n) k
+react (Reverting c) k = react_whole (Reverting c) k
 react Reading k = react_reading k
 react Dropping k = react_dropping k
 react Taking k = react_taking k
@@ -274,6 +280,8 @@ closes_when_cancelled (Running n) s = true
 closes_when_cancelled (Finishing n) s = true
 closes_when_cancelled Clearing s = true
 closes_when_cancelled (Asking c n) s = true
+closes_when_cancelled (Backing c) s = true
+closes_when_cancelled (Reverting c) s = true
 closes_when_cancelled Reading s = awaits_head s
 closes_when_cancelled Dropping s = awaits_head s
 closes_when_cancelled Taking s = awaits_head s

@@ -11,8 +11,8 @@ ghost use Rattle.my_session.specs.SettingsLaw.{EachSetting};
 /// For each session and each history of it: the exchanges are those that the command table has for the
 /// history's calls; the bytes sent are the client's in them, of the newest perhaps only a part; the grammar
 /// cuts the bytes taken into the server's payloads; callers were given a beginning of each set, and its end
-/// only after all of it; each ERR was returned once, in order, but perhaps the last; the session is closed
-/// exactly by what closes it.
+/// only after all of it; each ERR was returned once, in order, but perhaps the last, and but that of a ROLLBACK
+/// which a commit sends after an ERR; the session is closed exactly by what closes it.
 pub fn each_history()
     ensures { EachHistory }
 {}
@@ -31,16 +31,17 @@ pub fn each_end()
 /// Each error that an open call returns next has its cause in what the grammar finds in the bytes taken:
 /// after all that was read follows a payload that fits no case, the reply to a statement to prepare with the id of one
 /// that is still cached, a faulty header, no whole payload where the link reported its end, or an ERR that says so; or a
-/// command or a response is too long to be sent, or the text or the parameters of the open call are refused. A call that
-/// was made to fail returns its fault. Out of memory has no cause.
+/// command or a response is too long to be sent, or the text, the parameters or the transaction of the open call are
+/// refused. A commit that was refused returns the ERR before the ROLLBACK. A call that was made to fail returns its fault.
+/// Out of memory has no cause.
 pub fn each_fault()
     ensures { EachFault }
 {}
 
 /// Where the bytes that were taken, with those that may still come, are whole exchanges and bring no further
 /// ERR, no call fails by them: an error is out of memory, a command or response above the limit, a fault that the link
-/// reported, a text or parameters that are refused, or a statement that was prepared with the id of one that is still
-/// cached.
+/// reported, a text, parameters or a transaction that are refused, a statement that was prepared with the id of one that is
+/// still cached, or an earlier ERR that kept a transaction from being committed.
 pub fn each_whole_call()
     ensures { EachWholeCall }
 {}

@@ -106,6 +106,7 @@ fn react_own(call: CallKind, kind: Kind) -> Reaction
         | CallKind::TakeSet
         | CallKind::SkipTaken
         | CallKind::Begin
+        | CallKind::Commit
         | CallKind::Rollback
         | CallKind::ForgetTransaction
         | CallKind::Quit => Reaction::Breaks,
@@ -167,13 +168,15 @@ pub fn react_to(task: Task, kind: Kind) -> Reaction
         | Task::Cleaned(_)
         | Task::Giving
         | Task::Clearing
+        | Task::Backing(_)
         | Task::Leaving(_)
         | Task::Failing(_, _) => Reaction::Breaks,
         Task::Cleaning(_)
         | Task::Undoing(_)
         | Task::Arranging(_)
         | Task::Finishing(_)
-        | Task::Asking(_, _) => react_whole(task, kind),
+        | Task::Asking(_, _)
+        | Task::Reverting(_) => react_whole(task, kind),
         Task::Running(sent) => react_head(Reaction::Goes(Task::Finishing(sent)), task, kind),
         Task::Own(call) => react_own(call, kind),
         Task::Reading => react_reading(kind),

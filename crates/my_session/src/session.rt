@@ -20,7 +20,7 @@ use crate::task::{LinkFault, Task};
 use my_frame::NoMemory;
 use my_grammar::{Context, Login, Queue, Spot};
 use my_opts::Opts;
-use my_reading::{Call, CallKind, DriverError, Error, Facts, Statements, TxStatus};
+use my_reading::{Call, CallKind, DriverError, Error, Facts, Statements, Trial, TxStatus};
 use std::alloc::Global;
 use std::marker::Model;
 use std::mem;
@@ -52,6 +52,8 @@ pub struct Session {
     statements: Statements,
     // Whether there is a transaction.
     status: TxStatus,
+    // Whether it is being committed.
+    trial: Trial,
     login: Login,
     opts: Opts,
     is_socket: bool,
@@ -96,6 +98,8 @@ fn failing(task: Task, fault: LinkFault) -> Task
         | Task::Cleaned(call)
         | Task::Own(call)
         | Task::Asking(call, _)
+        | Task::Backing(call)
+        | Task::Reverting(call)
         | Task::Leaving(call)
         | Task::Failing(call, _) => Task::Failing(call, fault),
         Task::Giving => Task::Failing(CallKind::Prepare, fault),
@@ -150,6 +154,7 @@ impl Session {
             facts,
             statements,
             status: TxStatus::None,
+            trial: Trial::Off,
             login,
             opts,
             is_socket,

@@ -24,6 +24,8 @@ pub enum Plan {
     Forgets,
     /// A reset begins: the server's version is looked at.
     Resets,
+    /// The transaction is about to be committed.
+    Tries,
     /// The transaction is given up, so that it is rolled back.
     GivesUp,
     /// The call is answered: the transaction is given up, where there is one.
@@ -48,6 +50,10 @@ pub enum Plan {
     Clears,
     /// The next query that the call has of its own is owed, after this many others; where none is left, the call is answered.
     Queries(CallKind, usize),
+    /// A transaction that couldn't be committed is rolled back.
+    Reverts(CallKind),
+    /// The call is answered by the reason for which the transaction couldn't be committed.
+    Returns,
     /// The call is answered: its command was accepted.
     Readies,
     /// The call is answered: its rows follow, and their columns are known from now on.
@@ -86,6 +92,7 @@ fn first_task(call: CallKind) -> Task
         | CallKind::Ping
         | CallKind::Reset
         | CallKind::Begin
+        | CallKind::Commit
         | CallKind::Rollback
         | CallKind::Quit => Task::Cleaning(call),
         CallKind::NextRow => Task::Reading,
@@ -105,6 +112,7 @@ fn first_plan(call: CallKind) -> Plan
         CallKind::Batch => Plan::Batches,
         CallKind::CloseStmt => Plan::Forgets,
         CallKind::Reset => Plan::Resets,
+        CallKind::Commit => Plan::Tries,
         CallKind::Rollback => Plan::GivesUp,
         CallKind::ForgetTransaction => Plan::Forsakes,
         CallKind::Connect
@@ -174,6 +182,7 @@ fn own_plan(call: CallKind, spot: Spot) -> Plan
         | CallKind::Ping
         | CallKind::Reset
         | CallKind::Begin
+        | CallKind::Commit
         | CallKind::Rollback
         | CallKind::ForgetTransaction => Plan::Reads,
     }
@@ -186,6 +195,7 @@ fn ask_plan(call: CallKind) -> Plan
     match call {
         CallKind::Batch => Plan::Runs(0),
         CallKind::Begin => Plan::Admits,
+        CallKind::Commit => Plan::Queries(CallKind::Commit, 0),
         CallKind::Rollback => Plan::Readies,
         CallKind::Connect
         | CallKind::Query
@@ -277,6 +287,8 @@ pub fn plan_for(task: Task, spot: Spot, untold: bool) -> Plan
         Task::Finishing(sent) => clean_plan(Plan::Runs(sent), spot, untold),
         Task::Clearing => Plan::Clears,
         Task::Asking(call, sent) => clean_plan(Plan::Queries(call, sent), spot, untold),
+        Task::Backing(call) => Plan::Reverts(call),
+        Task::Reverting(_) => clean_plan(Plan::Returns, spot, untold),
         Task::Reading => read_plan(spot, untold),
         Task::Dropping => drop_plan(spot, untold),
         Task::Taking => take_plan(spot, untold),
@@ -321,6 +333,8 @@ pub fn closes_when_cancelled(task: Task, spot: Spot) -> bool
         | Task::Finishing(_)
         | Task::Clearing
         | Task::Asking(_, _)
+        | Task::Backing(_)
+        | Task::Reverting(_)
         | Task::Failing(_, _) => true,
         Task::Reading | Task::Dropping | Task::Taking | Task::Skipping => awaits_head(spot),
     }

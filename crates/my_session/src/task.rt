@@ -40,6 +40,10 @@ pub enum Task {
     /// This many queries that the call has of its own were sent: those that set the server's session up after a reset, or
     /// those that begin a transaction. Their answers are read whole.
     Asking(CallKind, usize),
+    /// A transaction couldn't be committed.
+    Backing(CallKind),
+    /// A transaction that couldn't be committed is rolled back. The response is read whole.
+    Reverting(CallKind),
     /// The next row is awaited.
     Reading,
     /// What is left is passed over.

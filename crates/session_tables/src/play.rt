@@ -121,6 +121,7 @@ pub fn call_of(alloc: Global, text: &str) -> Result<Call, NoMemory> {
         "ping" => Ok(Call::Ping),
         "reset" => Ok(Call::Reset),
         "prepare" => Ok(Call::Prepare(Blob::from_slice(alloc, b"DO ?")?)),
+        "commit" => Ok(Call::Commit),
         "rollback" => Ok(Call::Rollback),
         "forget" => Ok(Call::ForgetTransaction),
         "quit" => Ok(Call::Quit),

@@ -12,9 +12,9 @@ use Rattle.my_grammar.specs.Sets.{Sets, NoSets, Lone, Failed, Heading, Headed, B
 use Rattle.my_grammar.specs.Talk.{Talk, Start, Unwelcome, Greeted, Settled, Asked, Replied, Queried, Preparing, Silent, context_of}
 use Rattle.my_grammar.proofs.Growth.Known.{is_greeting_kind, is_single_kind, is_head_kind, is_column_kind, is_close_kind, is_row_kind}
 use Rattle.my_reading.specs.declared.call.CallKind.{CallKind}
-use Rattle.my_reading.specs.declared.call.CallKind.TheVariants.{Connect, Query, Prepare, Execute, Batch, CloseStmt, NextRow, DropResult, TakeSet, SkipTaken, Ping, Reset, Begin, Rollback, ForgetTransaction, Quit}
+use Rattle.my_reading.specs.declared.call.CallKind.TheVariants.{Connect, Query, Prepare, Execute, Batch, CloseStmt, NextRow, DropResult, TakeSet, SkipTaken, Ping, Reset, Begin, Commit, Rollback, ForgetTransaction, Quit}
 use Rattle.my_session.specs.declared.task.Task.{Task}
-use Rattle.my_session.specs.declared.task.Task.TheVariants.{Nothing, Begun, Cleaning, Undoing, Cleaned, Own, Giving, Arranging, Running, Finishing, Clearing, Asking, Reading, Dropping, Taking, Skipping, Leaving, Failing}
+use Rattle.my_session.specs.declared.task.Task.TheVariants.{Nothing, Begun, Cleaning, Undoing, Cleaned, Own, Giving, Arranging, Running, Finishing, Clearing, Asking, Backing, Reverting, Reading, Dropping, Taking, Skipping, Leaving, Failing}
 use Rattle.my_session.specs.declared.reactions.Reaction.{Reaction}
 use Rattle.my_session.specs.declared.reactions.Reaction.TheVariants as reactions
 use Rattle.my_session.specs.Entries.{sets_of}
@@ -101,6 +101,7 @@ own_fits SkipTaken k = tt
 own_fits Ping k = single_fits (reactions.Readies false) k (λ _. tt)
 own_fits Reset k = single_fits (reactions.Goes Clearing) k (λ _. tt)
 own_fits Begin k = tt
+own_fits Commit k = tt
 own_fits Rollback k = tt
 own_fits ForgetTransaction k = tt
 own_fits Quit k = tt
@@ -118,6 +119,8 @@ react_fits (Running n) k = head_fits (reactions.Goes (Finishing n)) (Running n) 
 react_fits (Finishing n) k = whole_fits (Finishing n) k
 react_fits Clearing k = tt
 react_fits (Asking c n) k = whole_fits (Asking c n) k
+react_fits (Backing c) k = tt
+react_fits (Reverting c) k = whole_fits (Reverting c) k
 react_fits Reading (kinds.Greets n) = tt
 react_fits Reading (kinds.Good status) = tt
 react_fits Reading kinds.Failed = refl
@@ -355,6 +358,9 @@ asking_awaits c n spot waits past = record { waits = waits; breaks = whole_break
 
 pub undoing_awaits : (c : CallKind) (spot : Spot) → is_idle spot ≡ false → is_greeting spot ≡ false → Awaits (Undoing c) spot
 undoing_awaits c spot waits past = record { waits = waits; breaks = whole_breaks (Undoing c) spot past }
+
+pub reverting_awaits : (c : CallKind) (spot : Spot) → is_idle spot ≡ false → is_greeting spot ≡ false → Awaits (Reverting c) spot
+reverting_awaits c spot waits past = record { waits = waits; breaks = whole_breaks (Reverting c) spot past }
 
 pub reading_awaits : (spot : Spot) → is_idle spot ≡ false → is_greeting spot ≡ false → Awaits Reading spot
 reading_awaits spot waits past = record { waits = waits; breaks = reading_breaks spot past }

@@ -2,56 +2,60 @@
 use Rattle.std.proofs.Common.{◌≡◌, ◌||◌, Bool, true, false, Option, Some, None, refl, ◌∙◌}
 use Rattle.my_reading.specs.declared.call.CallKind.{CallKind}
 use Rattle.my_session.specs.declared.task.Task.{Task}
-use Rattle.my_session.specs.declared.task.Task.TheVariants.{Nothing, Begun, Cleaning, Undoing, Cleaned, Own, Giving, Arranging, Running, Finishing, Clearing, Asking, Reading, Dropping, Taking, Skipping, Leaving, Failing}
+use Rattle.my_session.specs.declared.task.Task.TheVariants.{Nothing, Begun, Cleaning, Undoing, Cleaned, Own, Giving, Arranging, Running, Finishing, Clearing, Asking, Backing, Reverting, Reading, Dropping, Taking, Skipping, Leaving, Failing}
 use Rattle.my_reading.specs.declared.error.Error.{Error}
+use Rattle.my_reading.specs.declared.transaction.Trial.{Trial}
 use Rattle.my_reading.specs.declared.transaction.TxStatus.{TxStatus}
 use Rattle.my_reading.specs.Calls.{asks, is_connect, is_unrefused}
 use Rattle.my_session.specs.Tasks.{kind_in, fault_in}
 use Rattle.my_session.specs.Fits.{may_be_told, OwnError, is_begun}
 use Rattle.my_reading.specs.Told.{Told, ToldReady, ToldRow, ToldEnd, ToldNone, ToldStatement, ToldFlag, ToldError, Dropped}
-use Rattle.my_session.specs.Machine.{Doing, Goes, Passes, Sends, Needs, Tells, Move, fell, with_task, with_taken, with_statements, with_status, failed_by}
+use Rattle.my_session.specs.Machine.{Doing, Goes, Passes, Sends, Needs, Tells, Move, fell, with_task, with_taken, with_statements, with_status, with_trial, failed_by}
 use Rattle.my_session.specs.Queries.{has_queries}
 use Rattle.my_reading.specs.Statements.{Statements}
 use Rattle.my_session.specs.Seen.{Seen}
+use Rattle.my_session.specs.Stands.{is_refused_trial}
 
 -- only a call that sends a command cleans, only such a call or the handshake has an exchange of its own, only two kinds have queries of
--- their own, and two have nothing to do on a closed session
-abbrev pub is_proper : Task → Bool
-is_proper Nothing = true
-is_proper (Begun c) = true
-is_proper (Cleaning c) = asks c
-is_proper (Undoing c) = asks c
-is_proper (Cleaned c) = asks c
-is_proper (Own c) = asks c || is_connect c
-is_proper Giving = true
-is_proper (Arranging n) = true
-is_proper (Running n) = true
-is_proper (Finishing n) = true
-is_proper Clearing = true
-is_proper (Asking c n) = has_queries c
-is_proper Reading = true
-is_proper Dropping = true
-is_proper Taking = true
-is_proper Skipping = true
-is_proper (Leaving c) = is_unrefused c
-is_proper (Failing c fault) = true
+-- their own, two have nothing to do on a closed session, and a transaction is rolled back after one that couldn't be committed
+abbrev pub is_proper : Task → Trial → Bool
+is_proper Nothing trial = true
+is_proper (Begun c) trial = true
+is_proper (Cleaning c) trial = asks c
+is_proper (Undoing c) trial = asks c
+is_proper (Cleaned c) trial = asks c
+is_proper (Own c) trial = asks c || is_connect c
+is_proper Giving trial = true
+is_proper (Arranging n) trial = true
+is_proper (Running n) trial = true
+is_proper (Finishing n) trial = true
+is_proper Clearing trial = true
+is_proper (Asking c n) trial = has_queries c
+is_proper (Backing c) trial = is_refused_trial trial
+is_proper (Reverting c) trial = is_refused_trial trial
+is_proper Reading trial = true
+is_proper Dropping trial = true
+is_proper Taking trial = true
+is_proper Skipping trial = true
+is_proper (Leaving c) trial = is_unrefused c
+is_proper (Failing c fault) trial = true
 
 -- a call that goes on was stepped, and is what it was
-pub record GoesOn (c : Option CallKind) (t : Task) : Type 0 where
-  pub proper : is_proper t ≡ true
+pub record GoesOn (c : Option CallKind) (t : Task) (trial : Trial) : Type 0 where
+  pub proper : is_proper t trial ≡ true
   pub kind : kind_in t ≡ c
   pub stepped : is_begun t ≡ false
   pub sound : fault_in t ≡ None
 
 -- the call goes on as what it is, or returns what it may
-abbrev pub DoingFits : Option CallKind → Task → Doing → Type 0
-DoingFits c t Goes = GoesOn c t
-DoingFits c t (Passes x) = GoesOn c t
-DoingFits c t Sends = (is_begun t ≡ false) × (fault_in t ≡ None)
-DoingFits c t Needs = (is_begun t ≡ false) × (fault_in t ≡ None)
-DoingFits c t (Tells x) = may_be_told c x ≡ true
+abbrev pub DoingFits : Option CallKind → Task → Trial → Doing → Type 0
+DoingFits c t trial Goes = GoesOn c t trial
+DoingFits c t trial (Passes x) = GoesOn c t trial
+DoingFits c t trial Sends = (is_begun t ≡ false) × (fault_in t ≡ None)
+DoingFits c t trial Needs = (is_begun t ≡ false) × (fault_in t ≡ None)
+DoingFits c t trial (Tells x) = may_be_told c x ≡ true
 
-pub going : (c : Option CallKind) (t : Task) → is_proper t ≡ true → kind_in t ≡ c → is_begun t ≡ false → fault_in t ≡ None → GoesOn c t
+pub going : {trial : Trial} (c : Option CallKind) (t : Task) → is_proper t trial ≡ true → kind_in t ≡ c → is_begun t ≡ false → fault_in t ≡ None → GoesOn c t trial
 going c t p k b f = record { proper = p; kind = k; stepped = b; sound = f }
 
 -- what no move changes
@@ -74,6 +78,9 @@ on_statements s n st w = record { login = w.login; ended = w.ended; alive = w.al
 
 pub on_status : (s n : Seen) (status : TxStatus) → IsOn s n → IsOn s (with_status n status)
 on_status s n status w = record { login = w.login; ended = w.ended; alive = w.alive }
+
+pub on_trial : (s n : Seen) (trial : Trial) → IsOn s n → IsOn s (with_trial n trial)
+on_trial s n trial w = record { login = w.login; ended = w.ended; alive = w.alive }
 
 pub on_fell : (s n : Seen) → IsOn s n → IsOn s (fell n)
 on_fell s n w = record { login = w.login; ended = w.ended; alive = λ e. let no : true ≡ false = e in cc }
@@ -100,7 +107,7 @@ OwnDoing ended Needs = Unit {0}
 OwnDoing ended (Tells t) = OwnTold ended t
 
 pub record MoveFits (c : Option CallKind) (s : Seen) (m : Move) : Type 0 where
-  pub fits : DoingFits c m.seen.task m.does
+  pub fits : DoingFits c m.seen.task m.seen.trial m.does
   pub is_on : IsOn s m.seen
   pub own : fault_in s.task ≡ None → OwnDoing s.ended m.does
 

@@ -1,5 +1,5 @@
 -- What a task plans fits its call.
-use Rattle.std.proofs.Common.{◌≡◌, ℕ, suc, List, Bool, true, false, Option, Some, None, refl, subst}
+use Rattle.std.proofs.Common.{◌≡◌, ℕ, suc, List, Bool, true, false, Option, Some, None, refl, sym, ap, ◌∙◌, subst}
 use Rattle.my_frame.specs.Front.{front_at}
 use Rattle.my_command.specs.declared.client.ClientPacket.TheVariants as packets
 use Rattle.my_command.specs.Client.Packet.{client_bytes as packet_bytes}
@@ -17,9 +17,9 @@ use Rattle.my_reading.specs.Executions.{Values, Fitting, Unfitting, values_for}
 use Rattle.my_reading.specs.Facts.{prepared_by}
 use Rattle.my_reading.specs.Statements.{held_in, is_mixed_text, known_in, leaving, names_of, query_of, statement_with}
 use Rattle.my_reading.specs.declared.call.CallKind.{CallKind}
-use Rattle.my_reading.specs.declared.call.CallKind.TheVariants.{Connect, Query, Prepare, Execute, Batch, CloseStmt, NextRow, DropResult, TakeSet, SkipTaken, Ping, Reset, Begin, Rollback, ForgetTransaction, Quit}
+use Rattle.my_reading.specs.declared.call.CallKind.TheVariants.{Connect, Query, Prepare, Execute, Batch, CloseStmt, NextRow, DropResult, TakeSet, SkipTaken, Ping, Reset, Begin, Commit, Rollback, ForgetTransaction, Quit}
 use Rattle.my_session.specs.declared.task.Task.{Task}
-use Rattle.my_session.specs.declared.task.Task.TheVariants.{Nothing, Begun, Cleaning, Undoing, Cleaned, Own, Giving, Arranging, Running, Finishing, Clearing, Asking, Reading, Dropping, Taking, Skipping, Leaving, Failing}
+use Rattle.my_session.specs.declared.task.Task.TheVariants.{Nothing, Begun, Cleaning, Undoing, Cleaned, Own, Giving, Arranging, Running, Finishing, Clearing, Asking, Backing, Reverting, Reading, Dropping, Taking, Skipping, Leaving, Failing}
 use Rattle.my_session.specs.declared.tables.Plan.{Plan}
 use Rattle.my_session.specs.declared.tables.Plan.TheVariants as plans
 use Rattle.my_reading.specs.Calls.{asks, call_of, id_in, opts_in, params_in, statement_in, text_in, lists_in}
@@ -28,14 +28,17 @@ use Rattle.my_reading.specs.Commands.{closing, command_of, connecting, execution
 use Rattle.my_session.specs.Fits.{may_be_told, is_begun}
 use Rattle.my_reading.specs.Told.{ToldReady, ToldEnd, ToldNone, ToldStatement}
 use Rattle.my_reading.specs.declared.transaction.TxStatus.TheVariants as txs
-use Rattle.my_reading.specs.Transactions.{begin_refusal, is_given_up, rollback_text}
+use Rattle.my_reading.specs.declared.transaction.Trial.{Trial}
+use Rattle.my_reading.specs.declared.transaction.Trial.TheVariants as trials
+use Rattle.my_session.specs.Stands.{is_refused_trial}
+use Rattle.my_reading.specs.Transactions.{begin_refusal, is_given_up, rollback_text, rolled_back}
 use Rattle.my_reading.specs.Versions.{can_reset}
 use Rattle.my_handshake.specs.Version.{version_of}
-use Rattle.my_session.specs.Machine.{Goes, Sends, Move, next_terms, unless_exceeds, unless_refused, refusal, refused_by, looked, with_kept, kept, asked, batched, ran, arranged, offered, undone, done, queried_by, admitted, queued, planned, with_task}
+use Rattle.my_session.specs.Machine.{Goes, Sends, Move, next_terms, unless_exceeds, unless_refused, refusal, refused_by, looked, with_kept, kept, asked, batched, ran, arranged, offered, undone, done, queried_by, admitted, queued, planned, returned, reverted, with_status, with_task}
 use Rattle.my_session.specs.Queries.{has_queries, queries_of}
 use Rattle.my_session.specs.Seen.{Seen}
 use Rattle.my_session.specs.Tables.{plan_of, clean_plan, leave_plan, ask_plan, run_plan, own_plan, query_plan, execute_plan, prepare_plan, read_plan, drop_plan, take_plan, skip_plan, first_plan}
-use Rattle.my_session.proofs.Fits.Moves.{is_proper, GoesOn, going, IsOn, on_here, on_task, on_taken, on_statements, on_status, on_fell, MoveFits, any_error, failed_fits}
+use Rattle.my_session.proofs.Fits.Moves.{is_proper, GoesOn, going, IsOn, on_here, on_task, on_taken, on_statements, on_status, on_trial, on_fell, MoveFits, any_error, failed_fits}
 use Rattle.my_session.proofs.Fits.Reacts.{reading_fits}
 use Rattle.my_session.proofs.CallKinds.{of_queries, of_unrefused}
 use Rattle.my_session.proofs.Refusals.{refusal_own, values_own, begin_own}
@@ -73,6 +76,7 @@ asked_fits s SkipTaken a o r = cc
 asked_fits s Ping a o r = begins_if s s (Some Ping) (Own Ping) (Asked (next_terms s) (packet_bytes packets.Ping)) _ (on_here s) refl refl
 asked_fits s Reset a o r = begins_if s s (Some Reset) (Own Reset) (Asked (next_terms s) (packet_bytes packets.ResetConnection)) _ (on_here s) refl refl
 asked_fits s Begin a o r = cc
+asked_fits s Commit a o r = cc
 asked_fits s Rollback a o r = cc
 asked_fits s ForgetTransaction a o r = cc
 asked_fits s Quit a o r = begins_if s s (Some Quit) (Own Quit) (Silent (next_terms s) (packet_bytes packets.Quit)) _ (on_here s) refl refl
@@ -109,7 +113,8 @@ offered_fits s false = record { fits = refl; is_on = on_task s s Nothing s.untol
 done_fits : (s : Seen) (c : CallKind) → has_queries c ≡ true → MoveFits (Some c) s (done s c)
 done_fits s c own = of_queries (λ x. MoveFits (Some x) s (done s x))
     (record { fits = refl; is_on = on_task s s Nothing s.untold (on_here s); own = λ _. tt })
-    (record { fits = refl; is_on = on_status s (with_task s Nothing s.untold) txs.InTransaction (on_task s s Nothing s.untold (on_here s)); own = λ _. tt })
+    (record { fits = refl; is_on = on_trial s (with_status (with_task s Nothing s.untold) txs.InTransaction) trials.Off (on_status s (with_task s Nothing s.untold) txs.InTransaction (on_task s s Nothing s.untold (on_here s))); own = λ _. tt })
+    (record { fits = refl; is_on = on_trial s (with_status (with_task s Nothing s.untold) txs.None) trials.Off (on_status s (with_task s Nothing s.untold) txs.None (on_task s s Nothing s.untold (on_here s))); own = λ _. tt })
     c own
 
 queried_fits : (s : Seen) (c : CallKind) (n : ℕ) (o : Option (List ℕ)) → has_queries c ≡ true → MoveFits (Some c) s (queried_by s c n o)
@@ -126,10 +131,24 @@ undone_fits : (s : Seen) (c : CallKind) (b : Bool) → asks c ≡ true → MoveF
 undone_fits s c true a = begins_if s s (Some c) (Undoing c) (queried (next_terms s) rollback_text) _ (on_here s) refl refl
 undone_fits s c false a = record { fits = going (Some c) (Cleaned c) a refl refl refl; is_on = on_task s s (Cleaned c) s.untold (on_here s); own = λ _. tt }
 
+-- so is one that couldn't be committed, and then the call returns why
+reverted_fits : (s : Seen) (c : CallKind) (b : Bool) → is_refused_trial s.trial ≡ true → MoveFits (Some c) s (reverted s c b)
+reverted_fits s c true a = begins_if s s (Some c) (Reverting c) (queried (next_terms s) rollback_text) _ (on_here s) refl refl
+reverted_fits s c false a = record { fits = going (Some c) (Reverting c) a refl refl refl; is_on = on_task s s (Reverting c) s.untold (on_here s); own = λ _. tt }
+
+returned_fits : (s : Seen) (c : Option CallKind) (trial : Trial) → is_refused_trial trial ≡ true → MoveFits c s (returned s trial)
+returned_fits s c trials.Off a = cc
+returned_fits s c trials.On a = cc
+returned_fits s c (trials.Refused first) a = record {
+  fits = any_error c _;
+  is_on = on_trial s (with_status (with_task s Nothing s.untold) (rolled_back s.status)) trials.Off (on_status s (with_task s Nothing s.untold) (rolled_back s.status) (on_task s s Nothing s.untold (on_here s)));
+  own = λ _. tt;
+}
+
 -- what a task may plan
 abbrev PlanFits : Task → Option CallKind → Plan → Type 0
 PlanFits t c plans.Reads = is_begun t ≡ false
-PlanFits t c (plans.Starts u) = GoesOn c u
+PlanFits t c (plans.Starts u) = (trial : Trial) → GoesOn c u trial
 PlanFits t c plans.Hears = is_begun t ≡ false
 PlanFits t c (plans.Asks d) = (asks d ≡ true) × (ask_plan d ≡ plans.Asks d) × (Some d ≡ c)
 PlanFits t c (plans.Runs n) = Some Batch ≡ c
@@ -142,6 +161,9 @@ PlanFits t c (plans.Queries d n) = (has_queries d ≡ true) × (Some d ≡ c)
 PlanFits t c (plans.Undoes d) = (asks d ≡ true) × (Some d ≡ c)
 PlanFits t c (plans.Settles d) = (asks d ≡ true) × (Some d ≡ c)
 PlanFits t c plans.Admits = Some Begin ≡ c
+PlanFits t c plans.Tries = Some Commit ≡ c
+PlanFits t c (plans.Reverts d) = (t ≡ Backing d) × (Some d ≡ c)
+PlanFits t c plans.Returns = (d : CallKind) × (t ≡ Reverting d)
 PlanFits t c plans.GivesUp = Some Rollback ≡ c
 PlanFits t c plans.Forsakes = may_be_told c ToldReady ≡ true
 PlanFits t c plans.Readies = may_be_told c ToldReady ≡ true
@@ -158,9 +180,9 @@ PlanFits t c plans.Dropped = may_be_told c ToldReady ≡ true
 PlanFits t c plans.Ends = may_be_told c ToldEnd ≡ true
 PlanFits t c plans.NoMore = may_be_told c ToldNone ≡ true
 
-pub planned_fits : (s : Seen) (p : Plan) → is_proper s.task ≡ true → fault_in s.task ≡ None → PlanFits s.task (kind_in s.task) p → MoveFits (kind_in s.task) s (planned s p)
+pub planned_fits : (s : Seen) (p : Plan) → is_proper s.task s.trial ≡ true → fault_in s.task ≡ None → PlanFits s.task (kind_in s.task) p → MoveFits (kind_in s.task) s (planned s p)
 planned_fits s plans.Reads a e f = reading_fits s (front_at s.number s.context.terms.limit s.unread) a f e
-planned_fits s (plans.Starts t) a e f = record { fits = f; is_on = on_task s s t s.untold (on_here s); own = λ _. tt }
+planned_fits s (plans.Starts t) a e f = record { fits = f s.trial; is_on = on_task s s t s.untold (on_here s); own = λ _. tt }
 planned_fits s plans.Hears a e f = record { fits = going (kind_in s.task) s.task a refl f e; is_on = on_task s s s.task false (on_here s); own = λ _. tt }
 planned_fits s plans.Finds a e f = subst (λ (k : Option CallKind). MoveFits k s (looked s (is_mixed_text (text_in s.call)) (held_in s.statements (query_of (text_in s.call))))) f (looked_fits s (is_mixed_text (text_in s.call)) (held_in s.statements (query_of (text_in s.call))))
 planned_fits s plans.Checks a e f = refusal_fits s (kind_in s.task) Execute (refusal Execute s.call) (record { seen = with_task s (Cleaning Execute) s.untold; does = Goes }) refl (λ _. record { fits = going (kind_in s.task) (Cleaning Execute) refl f refl refl; is_on = on_task s s (Cleaning Execute) s.untold (on_here s); own = λ _. tt })
@@ -176,7 +198,10 @@ planned_fits s (plans.Queries c n) a e f = subst (λ (k : Option CallKind). Move
 planned_fits s (plans.Undoes c) a e f = subst (λ (k : Option CallKind). MoveFits k s (undone s c (is_given_up s.status))) f.1 (undone_fits s c (is_given_up s.status) f.0)
 planned_fits s (plans.Settles c) a e f = record { fits = going (kind_in s.task) (Cleaned c) f.0 f.1 refl refl; is_on = on_status s (with_task s (Cleaned c) s.untold) _ (on_task s s (Cleaned c) s.untold (on_here s)); own = λ _. tt }
 planned_fits s plans.Admits a e f = subst (λ (k : Option CallKind). MoveFits k s (admitted s (begin_refusal (opts_in s.call) (version_of s.facts.version) s.status))) f (admitted_fits s (begin_refusal (opts_in s.call) (version_of s.facts.version) s.status) refl)
-planned_fits s plans.GivesUp a e f = record { fits = going (kind_in s.task) (Cleaning Rollback) refl f refl refl; is_on = on_status s (with_task s (Cleaning Rollback) s.untold) _ (on_task s s (Cleaning Rollback) s.untold (on_here s)); own = λ _. tt }
+planned_fits s plans.Tries a e f = record { fits = going (kind_in s.task) (Cleaning Commit) refl f refl refl; is_on = on_trial s (with_task s (Cleaning Commit) s.untold) _ (on_task s s (Cleaning Commit) s.untold (on_here s)); own = λ _. tt }
+planned_fits s (plans.Reverts c) a e f = subst (λ (k : Option CallKind). MoveFits k s (reverted s c (is_given_up s.status))) f.1 (reverted_fits s c (is_given_up s.status) (sym (ap (λ (x : Task). is_proper x s.trial) f.0) ∙ a))
+planned_fits s plans.Returns a e f = returned_fits s (kind_in s.task) s.trial (sym (ap (λ (x : Task). is_proper x s.trial) f.1) ∙ a)
+planned_fits s plans.GivesUp a e f = record { fits = going (kind_in s.task) (Cleaning Rollback) refl f refl refl; is_on = on_trial s (with_status (with_task s (Cleaning Rollback) s.untold) txs.RequiresRollback) _ (on_status s (with_task s (Cleaning Rollback) s.untold) _ (on_task s s (Cleaning Rollback) s.untold (on_here s))); own = λ _. tt }
 planned_fits s plans.Forsakes a e f = record { fits = f; is_on = on_status s (with_task s Nothing s.untold) _ (on_task s s Nothing s.untold (on_here s)); own = λ _. tt }
 planned_fits s plans.Readies a e f = record { fits = f; is_on = on_task s s Nothing s.untold (on_here s); own = λ _. tt }
 planned_fits s plans.Learns a e f = record { fits = f; is_on = on_statements s (with_task s Nothing s.untold) _ (on_task s s Nothing s.untold (on_here s)); own = λ _. tt }
@@ -190,22 +215,23 @@ planned_fits s plans.Ends a e f = record { fits = f; is_on = on_task s s Nothing
 planned_fits s plans.NoMore a e f = record { fits = f; is_on = on_task s s Nothing s.untold (on_here s); own = λ _. tt }
 
 first_plan_fits : (t : Task) (c : CallKind) → PlanFits t (Some c) (first_plan c)
-first_plan_fits t Connect = going (Some Connect) (Own Connect) refl refl refl refl
-first_plan_fits t Query = going (Some Query) (Cleaning Query) refl refl refl refl
+first_plan_fits t Connect = λ _. going (Some Connect) (Own Connect) refl refl refl refl
+first_plan_fits t Query = λ _. going (Some Query) (Cleaning Query) refl refl refl refl
 first_plan_fits t Prepare = refl
 first_plan_fits t Execute = refl
 first_plan_fits t Batch = refl
 first_plan_fits t CloseStmt = refl
-first_plan_fits t NextRow = going (Some NextRow) Reading refl refl refl refl
-first_plan_fits t DropResult = going (Some DropResult) Dropping refl refl refl refl
-first_plan_fits t TakeSet = going (Some TakeSet) Taking refl refl refl refl
-first_plan_fits t SkipTaken = going (Some SkipTaken) Skipping refl refl refl refl
-first_plan_fits t Ping = going (Some Ping) (Cleaning Ping) refl refl refl refl
+first_plan_fits t NextRow = λ _. going (Some NextRow) Reading refl refl refl refl
+first_plan_fits t DropResult = λ _. going (Some DropResult) Dropping refl refl refl refl
+first_plan_fits t TakeSet = λ _. going (Some TakeSet) Taking refl refl refl refl
+first_plan_fits t SkipTaken = λ _. going (Some SkipTaken) Skipping refl refl refl refl
+first_plan_fits t Ping = λ _. going (Some Ping) (Cleaning Ping) refl refl refl refl
 first_plan_fits t Reset = refl
-first_plan_fits t Begin = going (Some Begin) (Cleaning Begin) refl refl refl refl
+first_plan_fits t Begin = λ _. going (Some Begin) (Cleaning Begin) refl refl refl refl
+first_plan_fits t Commit = refl
 first_plan_fits t Rollback = refl
 first_plan_fits t ForgetTransaction = refl
-first_plan_fits t Quit = going (Some Quit) (Cleaning Quit) refl refl refl refl
+first_plan_fits t Quit = λ _. going (Some Quit) (Cleaning Quit) refl refl refl refl
 
 clean_plan_fits : (t : Task) (c : Option CallKind) (p : Plan) → is_begun t ≡ false → PlanFits t c p → (spot : Spot) (untold : Bool) → PlanFits t c (clean_plan p spot untold)
 clean_plan_fits t c p n f spots.Idle true = n
@@ -286,6 +312,7 @@ own_plan_fits SkipTaken spot = refl
 own_plan_fits Ping spot = refl
 own_plan_fits Reset spot = refl
 own_plan_fits Begin spot = refl
+own_plan_fits Commit spot = refl
 own_plan_fits Rollback spot = refl
 own_plan_fits ForgetTransaction spot = refl
 own_plan_fits Quit spot = refl
@@ -368,6 +395,7 @@ ask_plan_fits t SkipTaken a = (a, refl, refl)
 ask_plan_fits t Ping a = (a, refl, refl)
 ask_plan_fits t Reset a = (a, refl, refl)
 ask_plan_fits t Begin a = refl
+ask_plan_fits t Commit a = (refl, refl)
 ask_plan_fits t Rollback a = refl
 ask_plan_fits t ForgetTransaction a = (a, refl, refl)
 ask_plan_fits t Quit a = (a, refl, refl)
@@ -388,26 +416,28 @@ run_plan_fits n (spots.ParametersEnd columns) = refl
 run_plan_fits n (spots.Fields left) = refl
 run_plan_fits n spots.FieldsEnd = refl
 
-pub plan_fits : (t : Task) (spot : Spot) (untold : Bool) → is_proper t ≡ true → fault_in t ≡ None → PlanFits t (kind_in t) (plan_of t spot untold)
-plan_fits Nothing spot untold a e = refl
-plan_fits (Begun c) spot untold a e = first_plan_fits (Begun c) c
-plan_fits (Cleaning c) spot untold a e = clean_plan_fits (Cleaning c) (Some c) (plans.Undoes c) refl (a, refl) spot untold
-plan_fits (Undoing c) spot untold a e = clean_plan_fits (Undoing c) (Some c) (plans.Settles c) refl (a, refl) spot untold
-plan_fits (Cleaned c) spot untold a e = ask_plan_fits (Cleaned c) c a
-plan_fits (Own c) spot untold a e = own_plan_fits c spot
-plan_fits Giving spot untold a e = refl
-plan_fits (Arranging n) spot untold a e = clean_plan_fits (Arranging n) (Some Connect) (plans.Arranges n) refl refl spot untold
-plan_fits (Running n) spot untold a e = run_plan_fits n spot
-plan_fits (Finishing n) spot untold a e = clean_plan_fits (Finishing n) (Some Batch) (plans.Runs n) refl refl spot untold
-plan_fits Clearing spot untold a e = refl
-plan_fits (Asking c n) spot untold a e = clean_plan_fits (Asking c n) (Some c) (plans.Queries c n) refl (a, refl) spot untold
-plan_fits Reading spot true a e = refl
-plan_fits Reading spot false a e = read_plan_fits spot
-plan_fits Dropping spot true a e = refl
-plan_fits Dropping spot false a e = drop_plan_fits spot
-plan_fits Taking spot true a e = refl
-plan_fits Taking spot false a e = take_plan_fits spot
-plan_fits Skipping spot true a e = refl
-plan_fits Skipping spot false a e = skip_plan_fits spot
-plan_fits (Leaving c) spot untold a e = of_unrefused (λ x. PlanFits (Leaving x) (Some x) (leave_plan x)) refl refl c a
-plan_fits (Failing c fault) spot untold a e = cc
+pub plan_fits : (t : Task) (spot : Spot) (untold : Bool) (trial : Trial) → is_proper t trial ≡ true → fault_in t ≡ None → PlanFits t (kind_in t) (plan_of t spot untold)
+plan_fits Nothing spot untold trial a e = refl
+plan_fits (Begun c) spot untold trial a e = first_plan_fits (Begun c) c
+plan_fits (Cleaning c) spot untold trial a e = clean_plan_fits (Cleaning c) (Some c) (plans.Undoes c) refl (a, refl) spot untold
+plan_fits (Undoing c) spot untold trial a e = clean_plan_fits (Undoing c) (Some c) (plans.Settles c) refl (a, refl) spot untold
+plan_fits (Cleaned c) spot untold trial a e = ask_plan_fits (Cleaned c) c a
+plan_fits (Own c) spot untold trial a e = own_plan_fits c spot
+plan_fits Giving spot untold trial a e = refl
+plan_fits (Arranging n) spot untold trial a e = clean_plan_fits (Arranging n) (Some Connect) (plans.Arranges n) refl refl spot untold
+plan_fits (Running n) spot untold trial a e = run_plan_fits n spot
+plan_fits (Finishing n) spot untold trial a e = clean_plan_fits (Finishing n) (Some Batch) (plans.Runs n) refl refl spot untold
+plan_fits Clearing spot untold trial a e = refl
+plan_fits (Asking c n) spot untold trial a e = clean_plan_fits (Asking c n) (Some c) (plans.Queries c n) refl (a, refl) spot untold
+plan_fits (Backing c) spot untold trial a e = (refl, refl)
+plan_fits (Reverting c) spot untold trial a e = clean_plan_fits (Reverting c) (Some c) plans.Returns refl (c, refl) spot untold
+plan_fits Reading spot true trial a e = refl
+plan_fits Reading spot false trial a e = read_plan_fits spot
+plan_fits Dropping spot true trial a e = refl
+plan_fits Dropping spot false trial a e = drop_plan_fits spot
+plan_fits Taking spot true trial a e = refl
+plan_fits Taking spot false trial a e = take_plan_fits spot
+plan_fits Skipping spot true trial a e = refl
+plan_fits Skipping spot false trial a e = skip_plan_fits spot
+plan_fits (Leaving c) spot untold trial a e = of_unrefused (λ x. PlanFits (Leaving x) (Some x) (leave_plan x)) refl refl c a
+plan_fits (Failing c fault) spot untold trial a e = cc

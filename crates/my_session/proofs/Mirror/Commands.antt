@@ -19,30 +19,32 @@ use Rattle.my_grammar.specs.Talk.{Talk, Asked, Preparing, Queried, Silent, comma
 use Rattle.my_reading.specs.declared.call.Call.{Call}
 use Rattle.my_reading.specs.declared.call.Call.TheVariants as calls
 use Rattle.my_reading.specs.declared.call.CallKind.{CallKind}
-use Rattle.my_reading.specs.declared.call.CallKind.TheVariants.{Connect, Query, Prepare, Execute, Batch, CloseStmt, NextRow, DropResult, TakeSet, SkipTaken, Ping, Reset, Begin, Rollback, ForgetTransaction, Quit}
+use Rattle.my_reading.specs.declared.call.CallKind.TheVariants.{Connect, Query, Prepare, Execute, Batch, CloseStmt, NextRow, DropResult, TakeSet, SkipTaken, Ping, Reset, Begin, Commit, Rollback, ForgetTransaction, Quit}
 use Rattle.my_reading.specs.Calls.{kind_of, call_of, asks, id_in, lists_in, opts_in, params_in, statement_in, text_in}
 use Rattle.my_reading.specs.Commands.{arranging, arranging_texts, closing, command_of, connecting, execution, opening, queried}
 use Rattle.my_reading.specs.Course as course
 use Rattle.my_reading.specs.Course.{Part, All, Head, Command, Check, Run, Reply, Keep, Give, Learn, Clear, Text, Flag, Refuse, Settle, unless_refused as unless_refused_at, Goes, step, return, first_above, unless_long, with_command, checked, reads, parts_of_lists, parts_of_texts, is_greeting}
 use Rattle.my_reading.specs.Leads.{Here, Then}
-use Rattle.my_reading.specs.Place.{Place, exchanges, connects_in, next_exchange, terms_of, with_exchange, with_status, without_end}
+use Rattle.my_reading.specs.Place.{Place, exchanges, connects_in, next_exchange, terms_of, with_exchange, with_status, with_trial, without_end}
 use Rattle.my_reading.specs.Told.{ToldReady, closes}
-use Rattle.my_reading.specs.Transactions.{begin_refusal}
+use Rattle.my_reading.specs.Transactions.{begin_refusal, commit_text}
 use Rattle.my_reading.specs.declared.facts.Facts.{Facts}
+use Rattle.my_reading.specs.declared.transaction.Trial.TheVariants as trials
+use Rattle.my_reading.specs.declared.transaction.TxStatus.{TxStatus}
 use Rattle.my_reading.specs.declared.transaction.TxStatus.TheVariants as txs
 use Rattle.my_handshake.specs.Version.{version_of}
 use Rattle.my_session.specs.declared.tables.Plan.TheVariants as plans
 use Rattle.my_session.specs.declared.task.Task.{Task}
 use Rattle.my_session.specs.declared.task.Task.TheVariants as tasks
 use Rattle.my_session.specs.Machine as machine
-use Rattle.my_session.specs.Machine.{Sends, Tells, queued, begins, unless_exceeds, unless_refused, refused_by, asked, executed, ran, arranged, queried_by, admitted, planned, with_task, next_terms}
+use Rattle.my_session.specs.Machine.{Sends, Tells, queued, begins, unless_exceeds, unless_refused, refused_by, asked, executed, ran, arranged, queried_by, admitted, planned, with_status as with_seen_status, with_task, with_trial as with_seen_trial, next_terms}
 use Rattle.my_session.specs.Queries.{has_queries, queries_of}
 use Rattle.my_session.specs.Mirror.{Mirrors, MoveReads, StandsAt, TaskStandsAt, ask_parts, last_parts, parts_left, parts_of_own, parts_of_runs, refusal_at, refusal_of, refused_at}
 use Rattle.my_session.specs.Seen.{Seen}
 use Rattle.my_session.specs.Stands.{owes, call_with}
 use Rattle.my_session.specs.Tables.{ask_plan}
 use Rattle.my_session.specs.Tasks.{kind_in, fault_in}
-use Rattle.my_session.proofs.Mirror.Fields.{Knows, mirrors_asked, mirrors_with_status, step_here, owes_here, terms_here}
+use Rattle.my_session.proofs.Mirror.Fields.{Knows, mirrors_asked, mirrors_with_status, mirrors_with_trial, step_here, owes_here, terms_here}
 use Rattle.my_session.proofs.Mirror.Payloads.{fallen_at}
 use Rattle.my_session.proofs.CallKinds.{of_queries, queries_ask}
 use Rattle.my_session.proofs.Refusals.{values_close, begin_stays}
@@ -122,12 +124,14 @@ module _ (s : Seen) (call : Call) (p : Place) (m : Mirrors s.context s.number s.
                 settled = λ no. let stop : true ≡ false = sym owe ∙ no in cc;
                 statements_are = λ _. known_are.0;
                 status_is = λ _. known_are.1;
+                trial_is = λ _. known_are.2;
                 checked = checks;
               };
               alive = alive;
               sound = sound;
               call_is = ap (λ c. call_with c s.call) same ∙ call_is;
               parts_are = left;
+              tries = λ e. same ∙ known_are.3 e;
             },
           );
         }
@@ -239,7 +243,7 @@ module _ (s : Seen) (call : Call) (p : Place) (m : Mirrors s.context s.number s.
 
   -- the call ends, and the session rests
   pub rests_here : StandsAt (with_task s tasks.Nothing s.untold) p
-  rests_here = record { mirrors = m; end_is = λ _ _. none_left ∙ sym (ap (λ b. b && true) told); taken_is = marked; own_end = λ no. cc; task_at = tt; settled = λ _. nothing; statements_are = λ _. known_are.0; status_is = λ _. known_are.1; checked = refl }
+  rests_here = record { mirrors = m; end_is = λ _ _. none_left ∙ sym (ap (λ b. b && true) told); taken_is = marked; own_end = λ no. cc; task_at = tt; settled = λ _. nothing; statements_are = λ _. known_are.0; status_is = λ _. known_are.1; trial_is = λ _. known_are.2; checked = refl }
 
   pub ends_here : closes ToldReady (kind_of call) ≡ false → MoveReads s call [] p (record { seen = with_task s tasks.Nothing s.untold; does = Tells ToldReady })
   ends_here stays_open = record {
@@ -287,19 +291,19 @@ module _ (s : Seen) (call : Call) (p : Place) (m : Mirrors s.context s.number s.
       (is ∙ ap (λ t. with_command call rest p (Some (queried t text))) (terms_here s.context s.number s.unread s.owed s.closed s.facts s.login p m))
 
   -- after the last of a call's own queries it is done
-  begins_so : call ≡ call_of Begin s.call → MoveReads s call (Settle txs.InTransaction ∷ []) p (machine.done s Begin)
-  begins_so is =
-      let q : Place = with_status txs.InTransaction p in
-      let w = mirrors_with_status s.context s.number s.unread s.owed s.closed s.facts s.login p txs.InTransaction m in
+  settles_so : (status : TxStatus) → closes ToldReady (kind_of call) ≡ false → MoveReads s call (Settle status ∷ []) p (record { seen = with_seen_trial (with_seen_status (with_task s tasks.Nothing s.untold) status) trials.Off; does = Tells ToldReady })
+  settles_so status stays_open =
+      let q : Place = with_trial trials.Off (with_status status p) in
+      let w = mirrors_with_trial s.context s.number s.unread s.owed s.closed s.facts s.login (with_status status p) trials.Off (mirrors_with_status s.context s.number s.unread s.owed s.closed s.facts s.login p status m) in
       record {
         rest = [];
         place = q;
-        leads = Then (Settle txs.InTransaction ∷ []) p [] q [] q (step_here s.context s.number s.unread s.owed s.closed s.facts s.login p call (Settle txs.InTransaction ∷ []) alive m nothing) (Here [] q);
+        leads = Then (Settle status ∷ []) p [] q [] q (step_here s.context s.number s.unread s.owed s.closed s.facts s.login p call (Settle status ∷ []) alive m nothing) (Here [] q);
         comes = inl (record {
           place = q;
           stops = step_here s.context s.number s.unread s.owed s.closed s.facts s.login q call [] alive w nothing;
-          at = record { mirrors = w; end_is = λ _ _. none_left ∙ sym (ap (λ b. b && true) told); taken_is = marked; own_end = λ no. cc; task_at = tt; settled = λ _. nothing; statements_are = λ _. known_are.0; status_is = λ _. refl; checked = refl };
-          closed_is = alive ∙ sym (ap (λ c. closes ToldReady (kind_of c)) is);
+          at = record { mirrors = w; end_is = λ _ _. none_left ∙ sym (ap (λ b. b && true) told); taken_is = marked; own_end = λ no. cc; task_at = tt; settled = λ _. nothing; statements_are = λ _. known_are.0; status_is = λ _. refl; trial_is = λ _. refl; checked = refl };
+          closed_is = alive ∙ sym stays_open;
         });
       }
 
@@ -317,7 +321,7 @@ module _ (s : Seen) (call : Call) (p : Place) (m : Mirrors s.context s.number s.
   }
 
   done_reads : (c : CallKind) → has_queries c ≡ true → call ≡ call_of c s.call → MoveReads s call (last_parts c) p (machine.done s c)
-  done_reads c own is = of_queries (λ x. call ≡ call_of x s.call → MoveReads s call (last_parts x) p (machine.done s x)) (λ _. resets_so) begins_so c own is
+  done_reads c own is = of_queries (λ x. call ≡ call_of x s.call → MoveReads s call (last_parts x) p (machine.done s x)) (λ _. resets_so) (λ x. settles_so txs.InTransaction (ap (λ c. closes ToldReady (kind_of c)) x)) (λ x. settles_so txs.None (ap (λ c. closes ToldReady (kind_of c)) x)) c own is
 
   -- the next query of the call's own is sent, or none is left
   pub queries_reads : (c : CallKind) (n : ℕ) → has_queries c ≡ true → kind_in s.task ≡ Some c → call ≡ call_of c s.call → (o : Option (List ℕ)) → slice_get (queries_of s.login c s.call) n ≡ o
@@ -407,6 +411,9 @@ module _ (s : Seen) (call : Call) (p : Place) (m : Mirrors s.context s.number s.
       begun (tasks.Own Reset) (All ∷ Clear ∷ parts_of_own Reset (queries_of s.login Reset s.call)) talk (opens_own Reset talk is (λ _ _ _. refl) refl) (ap kind_in (sym task)) refl refl refl refl refl (record { kinds = tt; within = tt }) refl refl refl
       (some_bytes (packet_bytes packets.ResetConnection) 0) refl
   asks_reads Begin task sends is fit = admits_reads task is (begin_refusal (opts_in s.call) (version_of s.facts.version) s.status) refl
+  asks_reads Commit task sends is fit =
+      query_reads (tasks.Asking Commit 1) (parts_of_own Commit []) commit_text (Text commit_text ∷ parts_of_own Commit []) (ap kind_in (sym task)) refl refl refl refl (refl, refl, refl)
+      (step_here s.context s.number s.unread s.owed s.closed s.facts s.login p call (Text commit_text ∷ parts_of_own Commit []) alive m nothing)
   asks_reads Rollback task sends is fit = ends_here (ap (λ c. closes ToldReady (kind_of c)) is)
   asks_reads ForgetTransaction task sends is fit = cc
   asks_reads Quit task sends is fit =

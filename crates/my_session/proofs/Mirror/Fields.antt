@@ -1,5 +1,5 @@
 -- What moves do to what a session knows, and how its next step of the reading is found.
-use Rattle.std.proofs.Common.{◌≡◌, ℕ, ◌≤◌, List, [], ◌∷◌, ◌++◌, length, take, drop, Bool, true, false, refl, sym, ap, ◌∙◌, subst}
+use Rattle.std.proofs.Common.{◌≡◌, ℕ, ◌≤◌, List, [], ◌∷◌, ◌++◌, length, take, drop, Bool, true, false, Some, refl, sym, ap, ◌∙◌, subst}
 use Rattle.std.proofs.lemmas.List.{append_assoc, append-nil, take-append-drop, drop_at}
 use Rattle.my_frame.specs.Front.{front_at}
 use Rattle.my_frame.specs.FrontLaws.{IsWhole}
@@ -17,20 +17,24 @@ use Rattle.my_grammar.specs.Talk.{Talk, Server, turns, number_of, client_bytes, 
 use Rattle.my_grammar.proofs.Growth.{grows, reads}
 use Rattle.my_reading.specs.declared.call.Call.{Call}
 use Rattle.my_reading.specs.declared.facts.Facts.{Facts}
+use Rattle.my_reading.specs.declared.call.CallKind.TheVariants.{Commit}
+use Rattle.my_reading.specs.declared.transaction.Trial.{Trial}
 use Rattle.my_reading.specs.declared.transaction.TxStatus.{TxStatus}
 use Rattle.my_reading.specs.Course.{Part, Stops, Owes, step, step_of, unless_owed, is_greeting}
 use Rattle.my_reading.specs.Facts.{facts_after, facts_by}
-use Rattle.my_reading.specs.Place.{Place, exchanges, facts_at, facts_of, client_side, owed, terms_of, with_bytes, without_end, with_end, with_statements, with_status, with_taken, with_talk, with_exchange}
+use Rattle.my_reading.specs.Place.{Place, exchanges, facts_at, facts_of, client_side, owed, terms_of, with_bytes, without_end, with_end, with_statements, with_status, with_trial, with_taken, with_talk, with_exchange}
 use Rattle.my_reading.specs.Statements.{Statements}
 use Rattle.my_session.specs.Machine.{reply_to, reply_bytes, reply_number}
 use Rattle.my_session.specs.Mirror.{Mirrors}
 use Rattle.my_session.specs.Seen.{Seen}
+use Rattle.my_session.specs.Stands.{is_off}
+use Rattle.my_session.specs.Tasks.{kind_in}
 use Rattle.my_session.proofs.Stands.Spots.{not_greeting}
 use Rattle.my_session.proofs.Stands.Wired.{reply_is, next_is, limit_is}
 
--- what the session knows beside the exchanges
+-- what the session knows beside the exchanges; only a call that commits has a trial
 abbrev pub Knows : Seen → Place → Type 0
-Knows s p = (s.statements ≡ p.statements) × (s.status ≡ p.status)
+Knows s p = (s.statements ≡ p.statements) × (s.status ≡ p.status) × (s.trial ≡ p.trial) × (is_off s.trial ≡ false → kind_in s.task ≡ Some Commit)
 
 module _ (context : Context) (number : ℕ) (unread bytes_owed : List ℕ) (closed : Bool) (facts : Facts) (login : Login) (p : Place) where
   -- the session is closed
@@ -96,6 +100,21 @@ module _ (context : Context) (number : ℕ) (unread bytes_owed : List ℕ) (clos
   -- nor how a transaction stands
   pub mirrors_with_status : (status : TxStatus) → Mirrors context number unread bytes_owed closed facts login p → Mirrors context number unread bytes_owed closed facts login (with_status status p)
   mirrors_with_status status m = record {
+    context_is = m.context_is;
+    number_is = m.number_is;
+    unread_is = m.unread_is;
+    facts_are = m.facts_are;
+    login_is = m.login_is;
+    fits = m.fits;
+    unsent = m.unsent;
+    all_is = m.all_is;
+    owed_is = m.owed_is;
+    first = m.first;
+  }
+
+  -- nor whether it is being committed
+  pub mirrors_with_trial : (trial : Trial) → Mirrors context number unread bytes_owed closed facts login p → Mirrors context number unread bytes_owed closed facts login (with_trial trial p)
+  mirrors_with_trial trial m = record {
     context_is = m.context_is;
     number_is = m.number_is;
     unread_is = m.unread_is;

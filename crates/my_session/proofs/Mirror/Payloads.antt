@@ -23,15 +23,20 @@ use Rattle.my_grammar.specs.Response.{response}
 use Rattle.my_grammar.specs.Talk.{context_of}
 use Rattle.my_reading.specs.declared.call.Call.{Call}
 use Rattle.my_reading.specs.declared.call.CallKind.{CallKind}
-use Rattle.my_reading.specs.declared.call.CallKind.TheVariants.{Connect, Prepare, NextRow, TakeSet, SkipTaken, Ping, Reset}
+use Rattle.my_reading.specs.declared.call.CallKind.TheVariants.{Connect, Prepare, NextRow, TakeSet, SkipTaken, Ping, Reset, Commit}
+use Rattle.my_reading.specs.declared.call.Call.TheVariants as calls
 use Rattle.my_reading.specs.declared.error.Error.TheVariants as errors
+use Rattle.my_reading.specs.declared.error.ServerError.{ServerError}
+use Rattle.my_reading.specs.declared.transaction.Trial.{Trial}
+use Rattle.my_reading.specs.declared.transaction.Trial.TheVariants as trials
+use Rattle.my_reading.specs.declared.transaction.TxStatus.TheVariants as txs
 use Rattle.my_reading.specs.declared.facts.Facts.{Facts}
 use Rattle.my_reading.specs.Calls.{kind_of as call_kind, id_in, is_connect}
 use Rattle.my_reading.specs.Commands.{arranging_texts}
-use Rattle.my_reading.specs.Course.{Part, All, Head, Item, Set, Rest, Reply, Keep, Give, Learn, Clear, Step, Goes, step, step_of, unless_cached, failure, unfit, return, with_front, reads, after_payload, parts_of_texts, is_rows, is_greeting}
+use Rattle.my_reading.specs.Course.{Part, All, Head, Item, Set, Rest, Reply, Keep, Give, Learn, Clear, Undo, Back, Step, Goes, step, step_of, unless_cached, failure, unfit, return, with_front, reads, refused_at, after_payload, parts_of_texts, is_rows, is_greeting}
 use Rattle.my_reading.specs.Errors.{codec_error, invalid_data, server_error}
 use Rattle.my_reading.specs.Leads.{Leads, Here, Then}
-use Rattle.my_reading.specs.Place.{Place, exchanges, facts_at, facts_of, connects_in, with_end, with_statements as place_with, with_taken, with_talk}
+use Rattle.my_reading.specs.Place.{Place, exchanges, facts_at, facts_of, connects_in, with_end, with_statements as place_with, with_status as place_as, with_trial as place_tried, with_taken, with_talk}
 use Rattle.my_reading.specs.Rows.{row_at, row_or}
 use Rattle.my_reading.specs.Statements.{with_columns}
 use Rattle.my_reading.specs.Told.{Told, ToldReady, ToldRow, ToldEnd, ToldError, closes}
@@ -39,17 +44,17 @@ use Rattle.my_session.specs.declared.reactions.Reaction.{Reaction}
 use Rattle.my_session.specs.declared.reactions.Reaction.TheVariants as reactions
 use Rattle.my_session.specs.declared.task.Task.{Task}
 use Rattle.my_session.specs.declared.task.Task.TheVariants as tasks
-use Rattle.my_session.specs.Machine.{Goes as MachineGoes, Passes, Tells, Move, advanced, fell, failed_by, with_task, with_taken as with_mark, refused, gave, passed, reacted, above, unless_above, reply_to, reply_bytes}
+use Rattle.my_session.specs.Machine.{Goes as MachineGoes, Passes, Tells, Move, advanced, fell, failed_by, backing, with_status, with_task, with_trial, with_taken as with_mark, refused, refused_by_server, gave, passed, reacted, above, unless_above, reply_to, reply_bytes}
 use Rattle.my_session.specs.Mirror.{Mirrors, StandsAt, OpenAt, MoveReads, TaskStandsAt, own_parts, parts_left, parts_of_own, refusal_at}
 use Rattle.my_session.specs.Queries.{queries_of}
 use Rattle.my_session.specs.Seen.{Seen}
-use Rattle.my_session.specs.Stands.{owes, call_with, is_shaking}
+use Rattle.my_session.specs.Stands.{owes, call_with, is_off, is_shaking}
 use Rattle.my_session.specs.Tables.{react, react_head, react_single, react_whole, is_breaking, is_connecting}
 use Rattle.my_session.specs.Tasks.{kind_in, fault_in}
 use Rattle.my_session.proofs.Faults.Payloads.{row_reads}
 use Rattle.my_reading.proofs.Described.{told_columns}
-use Rattle.my_session.proofs.Mirror.Fields.{Knows, mirrors_fallen, mirrors_read, mirrors_with_end, mirrors_with_taken, step_here, front_here, kind_here, place_here}
-use Rattle.my_session.proofs.Stands.Spots.{is_known, known, row_spot, end_spot, not_greeting}
+use Rattle.my_session.proofs.Mirror.Fields.{Knows, mirrors_fallen, mirrors_read, mirrors_with_end, mirrors_with_status, mirrors_with_taken, mirrors_with_trial, step_here, front_here, kind_here, place_here}
+use Rattle.my_session.proofs.Stands.Spots.{failed_idle, is_known, known, row_spot, end_spot, not_greeting}
 use Rattle.my_session.proofs.Stands.Wired.{silent, limit_is}
 
 -- a closed session stands where it stood
@@ -63,6 +68,7 @@ fallen_at s q n m marked = record {
   settled = λ _. refl;
   statements_are = λ no. cc;
   status_is = λ no. cc;
+  trial_is = λ no. cc;
   checked = refl;
 }
 
@@ -77,6 +83,7 @@ resting_at s q shut nothing at = record {
   settled = λ _. nothing;
   statements_are = at.statements_are;
   status_is = at.status_is;
+  trial_is = at.trial_is;
   checked = refl;
 }
 
@@ -226,11 +233,12 @@ module _ (s : Seen) (call : Call) (p : Place) (m : Mirrors s.context s.number s.
       → TaskStandsAt t (spot_by k) (connects_in (exchanges p)) → (owes t ≡ false → not_greets k ≡ true)
       → OpenAt (with_task (following k) t false) call (parts_left s.login s.call t) (new k)
   goes_to t k checks e good same sound stands quiet = record {
-    at = record { mirrors = mirrors_new k e good; end_is = λ _ _. refl; taken_is = taken_new k e good; own_end = λ _. refl; task_at = stands; settled = λ no. none_owed k (quiet no); statements_are = λ _. known_are.0; status_is = λ _. known_are.1; checked = checks };
+    at = record { mirrors = mirrors_new k e good; end_is = λ _ _. refl; taken_is = taken_new k e good; own_end = λ _. refl; task_at = stands; settled = λ no. none_owed k (quiet no); statements_are = λ _. known_are.0; status_is = λ _. known_are.1; trial_is = λ _. known_are.2; checked = checks };
     alive = alive;
     sound = sound;
     call_is = ap (λ c. call_with c s.call) same ∙ call_is;
     parts_are = refl;
+    tries = λ e. same ∙ known_are.3 e;
   }
 
   -- the session goes on with its task
@@ -243,7 +251,7 @@ module _ (s : Seen) (call : Call) (p : Place) (m : Mirrors s.context s.number s.
 
   -- the call ends, and the session rests
   rests_at : (k : Kind) → kind_there s.context s.facts.columns payload ≡ k → is_bad k ≡ false → not_greets k ≡ true → StandsAt (with_task (following k) tasks.Nothing false) (new k)
-  rests_at k e good quiet = record { mirrors = mirrors_new k e good; end_is = λ _ _. refl; taken_is = taken_new k e good; own_end = λ _. refl; task_at = tt; settled = λ _. none_owed k quiet; statements_are = λ _. known_are.0; status_is = λ _. known_are.1; checked = refl }
+  rests_at k e good quiet = record { mirrors = mirrors_new k e good; end_is = λ _ _. refl; taken_is = taken_new k e good; own_end = λ _. refl; task_at = tt; settled = λ _. none_owed k quiet; statements_are = λ _. known_are.0; status_is = λ _. known_are.1; trial_is = λ _. known_are.2; checked = refl }
 
   one : (parts more : List Part) (q : Place) → step s.login call parts p ≡ Goes more q → Leads s.login call parts p more q
   one parts more q e = Then parts p more q more q e (Here more q)
@@ -268,6 +276,48 @@ module _ (s : Seen) (call : Call) (p : Place) (m : Mirrors s.context s.number s.
         → MoveReads s call parts p (record { seen = n; does = Tells t })
     returns t n q e stands closing = record { rest = parts; place = p; leads = Here parts p; comes = inl (record { place = q; stops = e; at = stands; closed_is = closing }) }
 
+    -- an ERR while a transaction is being committed
+    backs : (x : ServerError) → kind_there s.context s.facts.columns payload ≡ kinds.Failed → s.trial ≡ trials.On → (k : Option CallKind) → kind_in s.task ≡ k
+        → step s.login call parts p ≡ Goes (Undo ∷ Back ∷ []) (place_tried (trials.Refused x) (place_as txs.RequiresRollback (new kinds.Failed)))
+        → MoveReads s call parts p (record { seen = with_trial (with_status (with_task (following kinds.Failed) (backing k) false) txs.RequiresRollback) (trials.Refused x); does = MachineGoes })
+    backs x k on None none stepped = let stop : None ≡ Some call = sym (ap (λ c. call_with c s.call) none) ∙ call_is in cc
+    backs x k on (Some c) open_kind stepped =
+        let q : Place = place_as txs.RequiresRollback (new kinds.Failed) in
+        let n : Seen = following kinds.Failed in
+        let commits : Some c ≡ Some Commit = sym open_kind ∙ known_are.3 (ap is_off on) in
+        let same : c ≡ Commit = cc in
+        record {
+          rest = Undo ∷ Back ∷ [];
+          place = place_tried (trials.Refused x) q;
+          leads = one parts (Undo ∷ Back ∷ []) (place_tried (trials.Refused x) q) stepped;
+          comes = record {
+            at = record {
+              mirrors = mirrors_with_trial n.context n.number rest n.owed s.closed n.facts s.login q (trials.Refused x)
+                  (mirrors_with_status n.context n.number rest n.owed s.closed n.facts s.login (new kinds.Failed) txs.RequiresRollback (mirrors_new kinds.Failed k refl));
+              end_is = λ _ _. refl;
+              taken_is = taken_new kinds.Failed k refl;
+              own_end = λ _. refl;
+              task_at = (same, failed_idle s.context.spot (deprecates_eof s.context.terms.kept) (knows kinds.Failed k));
+              settled = λ _. none_owed kinds.Failed refl;
+              statements_are = λ _. known_are.0;
+              status_is = λ _. refl;
+              trial_is = λ _. refl;
+              checked = refl;
+            };
+            alive = alive;
+            sound = refl;
+            call_is = ap (λ c. call_with c s.call) (sym open_kind) ∙ call_is;
+            parts_are = refl;
+            tries = λ _. commits;
+          };
+        }
+
+    -- a call that has a trial isn't connecting
+    not_connecting : is_off s.trial ≡ false → is_connect (call_kind call) ≡ false
+    not_connecting on =
+        let commits : Some call ≡ Some calls.Commit = sym call_is ∙ ap (λ c. call_with c s.call) (known_are.3 on) in
+        let same : call ≡ calls.Commit = cc in ap (λ c. is_connect (call_kind c)) same
+
     -- an ERR
     errs : (x : Option ErrPacket) → err_at (is_greeting s.context.spot) payload ≡ x → kind_there s.context s.facts.columns payload ≡ kinds.Failed
         → (b : Bool) → is_connecting s.task ≡ b → is_connect (call_kind call) ≡ b
@@ -277,15 +327,37 @@ module _ (s : Seen) (call : Call) (p : Place) (m : Mirrors s.context s.number s.
       where
         by_err : (x : Option ErrPacket) → err_at (is_greeting (context_of p.talk).spot) payload ≡ x → MoveReads s call parts p (refused s (following kinds.Failed) x)
         by_err None i = unfits (e ∙ rw i refl)
-        by_err (Some packet) i = closing_by b connecting connect
+        by_err (Some packet) i = by_trial s.trial refl (e ∙ rw i refl ∙ ap (λ (tr : Trial). refused_at tr (new kinds.Failed) (server_error packet)) (sym known_are.2))
           where
-            closing_by : (b : Bool) → is_connecting s.task ≡ b → is_connect (call_kind call) ≡ b → MoveReads s call parts p (refused s (following kinds.Failed) (Some packet))
-            closing_by true on c =
-                rw on (returns (ToldError (errors.Server (server_error packet))) (fell (following kinds.Failed)) (new kinds.Failed) (e ∙ rw i refl)
-                (fallen_at s (new kinds.Failed) (following kinds.Failed) (mirrors_new kinds.Failed k refl) (taken_new kinds.Failed k refl)) (sym c))
-            closing_by false off c =
-                rw off (returns (ToldError (errors.Server (server_error packet))) (with_task (following kinds.Failed) tasks.Nothing false) (new kinds.Failed) (e ∙ rw i refl)
-                (rests_at kinds.Failed k refl refl) (alive ∙ sym c))
+            by_trial : (tr : Trial) → s.trial ≡ tr → step s.login call parts p ≡ refused_at s.trial (new kinds.Failed) (server_error packet) → MoveReads s call parts p (refused_by_server s (following kinds.Failed) tr (server_error packet))
+            by_trial trials.Off tr stepped = closing_by b connecting connect (stepped ∙ ap (λ (x : Trial). refused_at x (new kinds.Failed) (server_error packet)) tr)
+              where
+                closing_by : (b : Bool) → is_connecting s.task ≡ b → is_connect (call_kind call) ≡ b → step s.login call parts p ≡ failure (new kinds.Failed) (errors.Server (server_error packet)) → MoveReads s call parts p (refused_by_server s (following kinds.Failed) trials.Off (server_error packet))
+                closing_by true on c at_end =
+                    rw on (returns (ToldError (errors.Server (server_error packet))) (fell (following kinds.Failed)) (new kinds.Failed) at_end
+                    (fallen_at s (new kinds.Failed) (following kinds.Failed) (mirrors_new kinds.Failed k refl) (taken_new kinds.Failed k refl)) (sym c))
+                closing_by false off c at_end =
+                    rw off (returns (ToldError (errors.Server (server_error packet))) (with_task (following kinds.Failed) tasks.Nothing false) (new kinds.Failed) at_end
+                    (rests_at kinds.Failed k refl refl) (alive ∙ sym c))
+            by_trial trials.On tr stepped = backs (server_error packet) k tr (kind_in s.task) refl (stepped ∙ ap (λ (x : Trial). refused_at x (new kinds.Failed) (server_error packet)) tr)
+            by_trial (trials.Refused first) tr stepped =
+                let w = rests_at kinds.Failed k refl refl in
+                let n : Seen = following kinds.Failed in
+                returns (ToldError (errors.Server first)) (with_trial (with_task n tasks.Nothing false) trials.Off) (place_tried trials.Off (new kinds.Failed))
+                (stepped ∙ ap (λ (x : Trial). refused_at x (new kinds.Failed) (server_error packet)) tr)
+                (record {
+                  mirrors = mirrors_with_trial n.context n.number rest n.owed s.closed n.facts s.login (new kinds.Failed) trials.Off w.mirrors;
+                  end_is = w.end_is;
+                  taken_is = w.taken_is;
+                  own_end = w.own_end;
+                  task_at = tt;
+                  settled = w.settled;
+                  statements_are = w.statements_are;
+                  status_is = w.status_is;
+                  trial_is = λ _. refl;
+                  checked = refl;
+                })
+                (alive ∙ sym (not_connecting (ap is_off tr)))
 
     -- a greeting where none may come
     no_greeting : (c : CapabilityFlags) → is_greeting s.context.spot ≡ false → kind_there s.context s.facts.columns payload ≡ kinds.Greets c → ⊥
@@ -341,6 +413,34 @@ module _ (s : Seen) (call : Call) (p : Place) (m : Mirrors s.context s.number s.
       comes = subst (λ xs. OpenAt (following k) call (All ∷ xs) (new k)) (sym none)
           (stays tasks.Dropping k refl task e good refl (not_greeting s.context.spot (deprecates_eof s.context.terms.kept) k) (λ _. quiet));
     }
+
+  -- the response to the ROLLBACK of a transaction that couldn't be committed
+  module _ (reading : step s.login call (Back ∷ []) p ≡ reads s.login Back [] p) (c : CallKind) (task : s.task ≡ tasks.Reverting c) (commits : c ≡ Commit) (past : is_greeting s.context.spot ≡ false) (other : is_connect (call_kind call) ≡ false) where
+    back_is : (k : Kind) → kind_there s.context s.facts.columns payload ≡ k → step s.login call (Back ∷ []) p ≡ after_payload s.login Back [] p (new k) payload k
+    back_is k e = reading ∙ reads_it Back [] k e
+
+    back_goes : (k : Kind) → kind_there s.context s.facts.columns payload ≡ k → is_bad k ≡ false → not_greets k ≡ true → step s.login call (Back ∷ []) p ≡ Goes (Back ∷ []) (new k)
+        → MoveReads s call (Back ∷ []) p (record { seen = with_task (following k) (tasks.Reverting c) false; does = MachineGoes })
+    back_goes k e good quiet stepped = record {
+      rest = Back ∷ [];
+      place = new k;
+      leads = one (Back ∷ []) (Back ∷ []) (new k) stepped;
+      comes = goes_to (tasks.Reverting c) k refl e good (ap kind_in (sym task)) refl (commits, not_greeting s.context.spot (deprecates_eof s.context.terms.kept) k) (λ _. quiet);
+    }
+
+    pub reverting_reads : (k : Kind) → kind_there s.context s.facts.columns payload ≡ k → MoveReads s call (Back ∷ []) p (move_at (tasks.Reverting c) k)
+    reverting_reads (kinds.Greets n) e = absurd (no_greeting [] n past e)
+    reverting_reads (kinds.Good status) e = back_goes (kinds.Good status) e refl refl (back_is (kinds.Good status) e)
+    reverting_reads kinds.Failed e = errs (Back ∷ []) (err_at (is_greeting s.context.spot) payload) refl e false (ap is_connecting task) other (back_is kinds.Failed e)
+    reverting_reads (kinds.Count n) e = back_goes (kinds.Count n) e refl refl (back_is (kinds.Count n) e)
+    reverting_reads kinds.Column e = back_goes kinds.Column e refl refl (back_is kinds.Column e)
+    reverting_reads kinds.ColumnsDone e = back_goes kinds.ColumnsDone e refl refl (back_is kinds.ColumnsDone e)
+    reverting_reads kinds.Row e = back_goes kinds.Row e refl refl (back_is kinds.Row e)
+    reverting_reads (kinds.End status) e = back_goes (kinds.End status) e refl refl (back_is (kinds.End status) e)
+    reverting_reads (kinds.Prepared params columns) e = back_goes (kinds.Prepared params columns) e refl refl (back_is (kinds.Prepared params columns) e ∙ alone params columns e _)
+    reverting_reads kinds.Parameter e = back_goes kinds.Parameter e refl refl (back_is kinds.Parameter e)
+    reverting_reads kinds.Field e = back_goes kinds.Field e refl refl (back_is kinds.Field e)
+    reverting_reads kinds.Bad e = unfits (Back ∷ []) (back_is kinds.Bad e)
 
   -- a payload that is a row reads as one
   row_there : kind_there s.context s.facts.columns payload ≡ kinds.Row → (row : RowParts) × (row_at s.context.rows s.facts.columns payload ≡ Some row)
@@ -578,7 +678,7 @@ module _ (s : Seen) (call : Call) (p : Place) (m : Mirrors s.context s.number s.
       comes = inl (record {
         place = ended;
         stops = lone_here [];
-        at = record { mirrors = lone_mirrors; end_is = λ _ _. refl; taken_is = taken_new lone e refl; own_end = λ no. cc; task_at = tt; settled = λ _. none_owed lone refl; statements_are = λ _. known_are.0; status_is = λ _. known_are.1; checked = refl };
+        at = record { mirrors = lone_mirrors; end_is = λ _ _. refl; taken_is = taken_new lone e refl; own_end = λ no. cc; task_at = tt; settled = λ _. none_owed lone refl; statements_are = λ _. known_are.0; status_is = λ _. known_are.1; trial_is = λ _. known_are.2; checked = refl };
         closed_is = alive ∙ sym stays_open ∙ ap (closes ToldReady) (sym is);
       });
     }
@@ -694,7 +794,7 @@ module _ (s : Seen) (call : Call) (p : Place) (m : Mirrors s.context s.number s.
         let w = mirrors_with_end n.context n.number rest n.owed s.closed n.facts s.login (new k) (not_greeting s.context.spot (deprecates_eof s.context.terms.kept) k) (mirrors_new k e refl) in
         let v = mirrors_with_taken n.context n.number rest n.owed s.closed n.facts s.login (with_end (new k)) w in
         returns (Set ∷ []) ToldReady (with_mark (with_task n tasks.Nothing true)) (with_taken (with_end (new k))) (set_is k e)
-        (record { mirrors = v; end_is = λ _ _. refl; taken_is = refl; own_end = λ no. cc; task_at = tt; settled = λ _. none_owed k refl; statements_are = λ _. known_are.0; status_is = λ _. known_are.1; checked = refl })
+        (record { mirrors = v; end_is = λ _ _. refl; taken_is = refl; own_end = λ no. cc; task_at = tt; settled = λ _. none_owed k refl; statements_are = λ _. known_are.0; status_is = λ _. known_are.1; trial_is = λ _. known_are.2; checked = refl })
         (alive ∙ ap (closes ToldReady) (sym take))
 
     pub taking_reads : (k : Kind) → kind_there s.context s.facts.columns payload ≡ k → MoveReads s call (Set ∷ []) p (move_at tasks.Taking k)

@@ -12,7 +12,7 @@ use Rattle.my_grammar.specs.Talk.{context_of}
 use Rattle.my_flags.specs.Sets.{deprecates_eof}
 use Rattle.my_reading.specs.declared.call.Call.{Call}
 use Rattle.my_reading.specs.declared.call.CallKind.{CallKind}
-use Rattle.my_reading.specs.declared.call.CallKind.TheVariants.{Connect, Query, Prepare, Execute, Batch, CloseStmt, NextRow, DropResult, TakeSet, SkipTaken, Ping, Reset, Begin, Rollback, ForgetTransaction, Quit}
+use Rattle.my_reading.specs.declared.call.CallKind.TheVariants.{Connect, Query, Prepare, Execute, Batch, CloseStmt, NextRow, DropResult, TakeSet, SkipTaken, Ping, Reset, Begin, Commit, Rollback, ForgetTransaction, Quit}
 use Rattle.my_reading.specs.Calls.{kind_of, call_of, is_connect, is_quit, lists_in, params_in, statement_in, text_in}
 use Rattle.my_reading.specs.Commands.{arranging_texts}
 use Rattle.my_reading.specs.Executions.{values_for}
@@ -43,7 +43,7 @@ use Rattle.my_session.proofs.Mirror.Commands.{after_rest, rest_first, asks_reads
 use Rattle.my_session.proofs.Stands.Spots.{not_greeting}
 use Rattle.my_session.proofs.Mirror.Opened.{and_false, and_true, asks_not, call_here, kind_here_is, end_at, known_here, goes_at, rests_at, quiet_mirrors, here, all_here, item_here, head_here, reads_front, starts, cleans_now}
 use Rattle.my_session.proofs.Mirror.Resets.{offered_reads, clears_reads}
-use Rattle.my_session.proofs.Mirror.Transactions.{undoes_reads, settles_reads, gives_up, forsakes}
+use Rattle.my_session.proofs.Mirror.Transactions.{attempts, backing_reads, reverting_by, undoes_reads, settles_reads, gives_up, forsakes}
 use Rattle.my_session.proofs.Mirror.Prepared.{looked_reads, checked_reads, batched_reads, forgets, running_by, execution_by, prepare_by, gives_reads}
 
 module _ (s : Seen) (call : Call) (p : Place) (o : OpenAt s call (parts_left s.login s.call s.task) p) (nothing : s.owed ≡ []) (bytes : AreBytes s.unread) where
@@ -69,6 +69,7 @@ module _ (s : Seen) (call : Call) (p : Place) (o : OpenAt s call (parts_left s.l
   begun_reads Ping task at = cleans_now s call p o nothing bytes Ping task refl refl at
   begun_reads Reset task at = offered_reads s call p o nothing bytes task at (can_reset (version_of s.facts.version)) refl
   begun_reads Begin task at = cleans_now s call p o nothing bytes Begin task refl refl at
+  begun_reads Commit task at = attempts s call p o nothing bytes task at
   begun_reads Rollback task at = gives_up s call p o nothing bytes task at
   begun_reads ForgetTransaction task at = forsakes s call p o nothing bytes task
   begun_reads Quit task at = cleans_now s call p o nothing bytes Quit task refl refl at
@@ -244,6 +245,7 @@ module _ (s : Seen) (call : Call) (p : Place) (o : OpenAt s call (parts_left s.l
           settled = λ _. nothing;
           statements_are = λ _. (known_here s call p o nothing bytes).0;
           status_is = o.at.status_is;
+          trial_is = o.at.trial_is;
           checked = refl;
         };
         closed_is = o.alive ∙ ap (closes ToldReady) (sym (kind_here_is s call p o nothing bytes TakeSet (ap kind_in task)));
@@ -431,6 +433,7 @@ module _ (s : Seen) (call : Call) (p : Place) (o : OpenAt s call (parts_left s.l
       (λ payload rest next e whole single k kind. reset_reads s call p o.at.mirrors o.at.taken_is (known_here s call p o nothing bytes) o.alive nothing o.call_is payload rest next e whole single (all_here s call p o nothing bytes parts none on) task at (kind_here_is s call p o nothing bytes Reset (ap kind_in task)) k kind)
       (ap (parts_left s.login s.call) (sym task))
   own_reads Begin task at none = absurd at
+  own_reads Commit task at none = absurd at
   own_reads Rollback task at none = absurd at
   own_reads ForgetTransaction task at none = absurd at
   own_reads Quit task at none = record {
@@ -502,6 +505,8 @@ module _ (s : Seen) (call : Call) (p : Place) (o : OpenAt s call (parts_left s.l
       (λ k. (at.0, not_greeting s.context.spot (deprecates_eof s.context.terms.kept) k, at.2)) at (λ _. refl) false (ap is_connecting task)
       (ap is_connect (kind_here_is s call p o nothing bytes c (ap kind_in task)) ∙ asks_not c at.0) (plans.Queries c n)
       (λ told none idle. queries_reads s call p o.at.mirrors o.at.taken_is (known_here s call p o nothing bytes) o.alive nothing o.call_is told none idle c n at.2 (ap kind_in task) (call_here s call p o nothing bytes c (ap kind_in task)) (slice_get (queries_of s.login c s.call) n) refl) s.context.spot refl)
+  plan_reads (tasks.Backing c) task at = backing_reads s call p o nothing bytes c task at.0 at.1 (is_given_up s.status) refl
+  plan_reads (tasks.Reverting c) task at = reverting_by s call p o nothing bytes c task at.0 at.1 s.context.spot refl
   plan_reads tasks.Reading task at = items task at s.untold refl
   plan_reads tasks.Dropping task at = drops task at s.untold refl
   plan_reads tasks.Taking task at = takes task at s.untold refl

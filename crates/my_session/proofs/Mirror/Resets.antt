@@ -38,7 +38,7 @@ module _ (s : Seen) (call : Call) (p : Place) (o : OpenAt s call (parts_left s.l
         ∙ ap (course.offered resetting p) is
 
     pub offered_reads : (b : Bool) → can_reset (version_of s.facts.version) ≡ b → MoveReads s call (Offered ∷ resetting) p (offered s b)
-    offered_reads true is = cleans_first s call p o nothing bytes Reset task refl past refl (Offered ∷ resetting) p s.statements s.status (Then (Offered ∷ resetting) p resetting p resetting p (offers true is) (Here resetting p)) o.at.mirrors o.at.taken_is refl (known_here s call p o nothing bytes) s.untold refl
+    offered_reads true is = cleans_first s call p o nothing bytes Reset task refl past refl (Offered ∷ resetting) p s.statements s.status s.trial (Then (Offered ∷ resetting) p resetting p resetting p (offers true is) (Here resetting p)) o.at.mirrors o.at.taken_is refl (known_here s call p o nothing bytes) s.untold refl
     offered_reads false is = record {
       rest = Offered ∷ resetting;
       place = p;
@@ -73,11 +73,13 @@ module _ (s : Seen) (call : Call) (p : Place) (o : OpenAt s call (parts_left s.l
             settled = λ _. nothing;
             statements_are = λ _. refl;
             status_is = o.at.status_is;
+            trial_is = o.at.trial_is;
             checked = refl;
           };
           alive = o.alive;
           sound = refl;
           call_is = ap (λ k. call_with k s.call) (ap kind_in (sym task)) ∙ o.call_is;
           parts_are = refl;
+          tries = λ e. ap kind_in (sym task) ∙ o.tries e;
         };
       }

@@ -8,11 +8,11 @@ use Rattle.my_grammar.specs.Talk.{Start}
 use Rattle.my_reading.specs.declared.call.Call.{Call}
 use Rattle.my_reading.specs.declared.call.Call.TheVariants as calls
 use Rattle.my_reading.specs.declared.call.CallKind.{CallKind}
-use Rattle.my_reading.specs.declared.call.CallKind.TheVariants.{Connect, Query, Prepare, Execute, Batch, CloseStmt, NextRow, DropResult, TakeSet, SkipTaken, Ping, Reset, Begin, Rollback, ForgetTransaction, Quit}
+use Rattle.my_reading.specs.declared.call.CallKind.TheVariants.{Connect, Query, Prepare, Execute, Batch, CloseStmt, NextRow, DropResult, TakeSet, SkipTaken, Ping, Reset, Begin, Commit, Rollback, ForgetTransaction, Quit}
 use Rattle.my_session.specs.declared.task.LinkFault.{LinkFault}
 use Rattle.my_session.specs.declared.task.LinkFault.TheVariants.{NoMemory}
 use Rattle.my_session.specs.declared.task.Task.{Task}
-use Rattle.my_session.specs.declared.task.Task.TheVariants.{Nothing, Begun, Cleaning, Undoing, Cleaned, Own, Giving, Arranging, Running, Finishing, Clearing, Asking, Reading, Dropping, Taking, Skipping, Leaving, Failing}
+use Rattle.my_session.specs.declared.task.Task.TheVariants.{Nothing, Begun, Cleaning, Undoing, Cleaned, Own, Giving, Arranging, Running, Finishing, Clearing, Asking, Backing, Reverting, Reading, Dropping, Taking, Skipping, Leaving, Failing}
 use Rattle.my_reading.specs.Calls.{kind_of, call_of, is_unrefused}
 use Rattle.my_reading.specs.Statements.{first_statements}
 use Rattle.my_session.specs.Tasks.{kind_in, is_open}
@@ -22,24 +22,26 @@ use Rattle.my_reading.specs.Told.{ToldError, Dropped}
 use Rattle.my_session.specs.History.{History, Made, beginning, began, answered, took, gone, ending, losing, is_idle, has_closed}
 use Rattle.my_session.specs.Machine.{fell, with_task, dropped, is_greeting}
 use Rattle.my_session.specs.Seen.{Seen}
-use Rattle.my_session.specs.Stands.{Stands, TaskIs, TieIs, BegunAt, call_with, begun_of, is_reading, keeps, owes}
+use Rattle.my_session.specs.Stands.{Stands, TaskIs, TieIs, BegunAt, call_with, begun_of, is_reading, keeps, owes, trial_at}
 use Rattle.my_session.specs.Steps.{is_settled, AtBegun, is_refused, fresh, begun, with_owed, with_unread, with_end, failing, with_failing, with_loss}
 use Rattle.my_session.specs.Tables.{closes_when_cancelled, awaits_head}
 use Rattle.my_session.proofs.Stands.Reacts.{falls}
 use Rattle.my_session.proofs.Stands.Spots.{settled_reads, settled_not_greeting}
 use Rattle.my_session.proofs.Stands.Ties.{answered_stands, kind_there_is, closed_tie, quiet_more, arranged_more}
+use Rattle.my_session.proofs.Stands.Trials.{kept_off}
 use Rattle.my_session.proofs.Stands.Wired.{wire_took, wire_gone, wire_fell}
 
 pub fresh_stands : (login : Login) → Stands (fresh login) beginning
 fresh_stands login = record {
-  newest = record { call = calls.Connect; talk = Start login; given = None };
+  newest = record { call = calls.Connect; talk = Start login; given = None; hushed = false };
   older = [];
   wire = record { taken_is = refl; gone = []; cut = []; sent_is = refl; all_is = refl; owed_is = λ _. refl; dropped = λ no. cc; answered = λ _. refl; number_is = refl; context_is = refl; login_is = refl; fits = record { kinds = tt; within = tt }; done = tt; facts_are = refl; table = (inl (first_statements login, refl), tt) };
-  heard = record { pending_is = refl; closed_is = refl; alive = λ no. cc; given_is = refl; errors = refl; each = (tt, tt); lone = λ no. cc; fresh = λ _ _ no. cc; at = λ _. refl; first = λ _. (refl, refl); tie = tt };
+  heard = record { pending_is = refl; closed_is = refl; alive = λ no. cc; given_is = refl; errors = refl; trying = λ _. refl; each = (tt, tt); lone = λ no. cc; fresh = λ _ _ no. cc; at = λ _. refl; first = λ _. (refl, refl); tie = tt };
   arranged = λ no. cc;
   ended_is = refl;
   settled = λ _. refl;
   cleans = tt;
+  tried = record { trial_is = λ no. cc; hushed = (λ no. cc, tt) };
 }
 
 pub took_stands : (s : Seen) (h : History) (bytes : List ℕ) → Stands s h → Stands (with_unread s (s.unread ++ bytes)) (took h bytes)
@@ -52,6 +54,7 @@ took_stands s h bytes st = record {
   ended_is = st.ended_is;
   settled = st.settled;
   cleans = st.cleans;
+  tried = st.tried;
 }
 
 nothing_dropped : (n : ℕ) (owed : List ℕ) → owed ≡ [] → drop n owed ≡ []
@@ -67,10 +70,11 @@ gone_stands s h n st = record {
   ended_is = st.ended_is;
   settled = λ o. nothing_dropped n s.owed (st.settled o);
   cleans = st.cleans;
+  tried = st.tried;
 }
 
 pub ended_stands : (s : Seen) (h : History) → Stands s h → Stands (with_end s) (ending h)
-ended_stands s h st = record { newest = st.newest; older = st.older; wire = st.wire; heard = st.heard; arranged = st.arranged; ended_is = refl; settled = st.settled; cleans = st.cleans }
+ended_stands s h st = record { newest = st.newest; older = st.older; wire = st.wire; heard = st.heard; arranged = st.arranged; ended_is = refl; settled = st.settled; cleans = st.cleans; tried = st.tried }
 
 -- a call that begins is the one that is open
 call_is : (call : Call) → call ≡ call_of (kind_of call) call
@@ -87,6 +91,7 @@ call_is calls.SkipTaken = refl
 call_is calls.Ping = refl
 call_is calls.Reset = refl
 call_is (calls.Begin opts) = refl
+call_is calls.Commit = refl
 call_is calls.Rollback = refl
 call_is calls.ForgetTransaction = refl
 call_is calls.Quit = refl
@@ -113,6 +118,7 @@ begun_at SkipTaken spot connected e at = later_at spot connected e at
 begun_at Ping spot connected e at = later_at spot connected e at
 begun_at Reset spot connected e at = later_at spot connected e at
 begun_at Begin spot connected e at = later_at spot connected e at
+begun_at Commit spot connected e at = later_at spot connected e at
 begun_at Rollback spot connected e at = later_at spot connected e at
 begun_at ForgetTransaction spot connected e at = later_at spot connected e at
 begun_at Quit spot connected e at = later_at spot connected e at
@@ -129,8 +135,11 @@ module _ (s : Seen) (h : History) (st : Stands s h) (task : s.task ≡ Nothing) 
   rests : TaskIs Nothing s.context.spot s.closed (has_connected h.calls) (connecting_in (st.newest ∷ st.older)) st.newest
   rests = subst (λ (t : Task). TaskIs t s.context.spot s.closed (has_connected h.calls) (connecting_in (st.newest ∷ st.older)) st.newest) task st.heard.at
 
+  off_at_rest : s.closed ≡ false → trial_at Nothing s.trial ≡ true
+  off_at_rest e = subst (λ (t : Task). trial_at t s.trial ≡ true) task (st.heard.trying e)
+
   abbrev begun_as : Call → Bool → Seen
-  begun_as call closed = record { context = s.context; task = cond closed (Leaving (kind_of call)) (Begun (kind_of call)); call = call; untold = s.untold; taken = s.taken; closed = s.closed; ended = s.ended; number = s.number; unread = s.unread; owed = s.owed; facts = s.facts; statements = s.statements; status = s.status; login = s.login }
+  begun_as call closed = record { context = s.context; task = cond closed (Leaving (kind_of call)) (Begun (kind_of call)); call = call; untold = s.untold; taken = s.taken; closed = s.closed; ended = s.ended; number = s.number; unread = s.unread; owed = s.owed; facts = s.facts; statements = s.statements; status = s.status; trial = s.trial; login = s.login }
 
   by_closed : (call : Call) (closed : Bool) → s.closed ≡ closed → (s.closed ≡ false → AtBegun (kind_of call) s.context.spot) → is_refused closed (kind_of call) ≡ false → Stands (begun_as call closed) (began h call)
   by_closed call true e order free = record {
@@ -143,6 +152,7 @@ module _ (s : Seen) (h : History) (st : Stands s h) (task : s.task ≡ Nothing) 
       alive = λ no. cc;
       given_is = st.heard.given_is;
       errors = st.heard.errors;
+      trying = off_at_rest;
       each = st.heard.each;
       lone = st.heard.lone;
       fresh = λ _ no _. cc;
@@ -154,6 +164,7 @@ module _ (s : Seen) (h : History) (st : Stands s h) (task : s.task ≡ Nothing) 
     ended_is = st.ended_is;
     settled = λ _. st.settled (ap owes task);
     cleans = tt;
+    tried = st.tried;
   }
   by_closed call false e order free = record {
     newest = st.newest;
@@ -165,6 +176,7 @@ module _ (s : Seen) (h : History) (st : Stands s h) (task : s.task ≡ Nothing) 
       alive = λ _. e;
       given_is = st.heard.given_is;
       errors = st.heard.errors;
+      trying = off_at_rest;
       each = st.heard.each;
       lone = st.heard.lone;
       fresh = λ x _ left. st.heard.fresh x (ap keeps task) left;
@@ -176,6 +188,7 @@ module _ (s : Seen) (h : History) (st : Stands s h) (task : s.task ≡ Nothing) 
     ended_is = st.ended_is;
     settled = λ _. st.settled (ap owes task);
     cleans = tt;
+    tried = st.tried;
   }
 
   pub begins : (call : Call) → (s.closed ≡ false → AtBegun (kind_of call) s.context.spot) → is_refused s.closed (kind_of call) ≡ false → Stands (begun s call) (began h call)
@@ -193,6 +206,7 @@ module _ (s : Seen) (h : History) (st : Stands s h) (task : s.task ≡ Nothing) 
       alive = st.heard.alive;
       given_is = st.heard.given_is;
       errors = st.heard.errors;
+      trying = st.heard.trying;
       each = st.heard.each;
       lone = st.heard.lone;
       fresh = st.heard.fresh;
@@ -204,6 +218,7 @@ module _ (s : Seen) (h : History) (st : Stands s h) (task : s.task ≡ Nothing) 
     ended_is = st.ended_is;
     settled = st.settled;
     cleans = st.cleans;
+    tried = st.tried;
   }
 
 or_true : (b : Bool) → true ≡ b || true
@@ -224,6 +239,8 @@ fails_as (Running n) c fault e = let same : Batch ≡ c = cc in ap (λ (x : Call
 fails_as (Finishing n) c fault e = let same : Batch ≡ c = cc in ap (λ (x : CallKind). Failing x fault) same
 fails_as Clearing c fault e = let same : Reset ≡ c = cc in ap (λ (x : CallKind). Failing x fault) same
 fails_as (Asking d n) c fault e = let same : d ≡ c = cc in ap (λ (x : CallKind). Failing x fault) same
+fails_as (Backing d) c fault e = let same : d ≡ c = cc in ap (λ (x : CallKind). Failing x fault) same
+fails_as (Reverting d) c fault e = let same : d ≡ c = cc in ap (λ (x : CallKind). Failing x fault) same
 fails_as Reading c fault e = let same : NextRow ≡ c = cc in ap (λ (x : CallKind). Failing x fault) same
 fails_as Dropping c fault e = let same : DropResult ≡ c = cc in ap (λ (x : CallKind). Failing x fault) same
 fails_as Taking c fault e = let same : TakeSet ≡ c = cc in ap (λ (x : CallKind). Failing x fault) same
@@ -231,7 +248,7 @@ fails_as Skipping c fault e = let same : SkipTaken ≡ c = cc in ap (λ (x : Cal
 fails_as (Leaving d) c fault e = let same : d ≡ c = cc in ap (λ (x : CallKind). Failing x fault) same
 fails_as (Failing d old) c fault e = let same : d ≡ c = cc in ap (λ (x : CallKind). Failing x fault) same
 
-fail_tie : (t : Task) (c : CallKind) (fault : LinkFault) (opened : Call) (spot : Spot) (made : List Made) (call : Call) (older : List Entry) → kind_in t ≡ Some c → TieIs t opened spot made call older → TieIs (Failing c fault) opened spot made call older
+pub fail_tie : (t : Task) (c : CallKind) (fault : LinkFault) (opened : Call) (spot : Spot) (made : List Made) (call : Call) (older : List Entry) → kind_in t ≡ Some c → TieIs t opened spot made call older → TieIs (Failing c fault) opened spot made call older
 fail_tie Nothing c fault opened spot made call older e t = cc
 fail_tie (Begun d) c fault opened spot made call older e t = inr t
 fail_tie (Cleaning d) c fault opened spot made call older e t = inr t
@@ -249,6 +266,8 @@ fail_tie (Running n) c fault opened spot made call older e t = let same : Batch 
 fail_tie (Finishing n) c fault opened spot made call older e t = let same : Batch ≡ c = cc in inl (subst (λ (x : CallKind). OwnsFirst (call_of x opened) (call ∷ calls_in older) (IsTied made)) same t)
 fail_tie Clearing c fault opened spot made call older e t = let same : Reset ≡ c = cc in inl (subst (λ (x : CallKind). OwnsFirst (call_of x opened) (call ∷ calls_in older) (IsTied made)) same t)
 fail_tie (Asking d n) c fault opened spot made call older e t = let same : d ≡ c = cc in inl (subst (λ (x : CallKind). OwnsFirst (call_of x opened) (call ∷ calls_in older) (IsTied made)) same t)
+fail_tie (Backing d) c fault opened spot made call older e t = let same : d ≡ c = cc in subst (λ (x : CallKind). TieIs (Failing x fault) opened spot made call older) same t
+fail_tie (Reverting d) c fault opened spot made call older e t = let same : d ≡ c = cc in inl (subst (λ (x : CallKind). OwnsFirst (call_of x opened) (call ∷ calls_in older) (IsTied made)) same t)
 fail_tie Reading c fault opened spot made call older e t = inr t
 fail_tie Dropping c fault opened spot made call older e t = inr t
 fail_tie Taking c fault opened spot made call older e t = inr t
@@ -259,7 +278,7 @@ fail_tie (Failing d old) c fault opened spot made call older e t = let same : d 
 pub failing_stands : (s : Seen) (h : History) (fault : LinkFault) → is_open s.task ≡ true → Stands s h → Stands (with_failing s fault) h
 failing_stands s h fault op st =
     let c = kind_there_is s.task op in
-    subst (λ (t : Task). Stands (record { context = s.context; task = t; call = s.call; untold = s.untold; taken = s.taken; closed = s.closed; ended = s.ended; number = s.number; unread = s.unread; owed = s.owed; facts = s.facts; statements = s.statements; status = s.status; login = s.login }) h) (sym (fails_as s.task c.0 fault c.1))
+    subst (λ (t : Task). Stands (record { context = s.context; task = t; call = s.call; untold = s.untold; taken = s.taken; closed = s.closed; ended = s.ended; number = s.number; unread = s.unread; owed = s.owed; facts = s.facts; statements = s.statements; status = s.status; trial = s.trial; login = s.login }) h) (sym (fails_as s.task c.0 fault c.1))
     (record {
       newest = st.newest;
       older = st.older;
@@ -270,6 +289,7 @@ failing_stands s h fault op st =
         alive = λ no. cc;
         given_is = st.heard.given_is;
         errors = st.heard.errors;
+        trying = λ _. refl;
         each = st.heard.each;
         lone = st.heard.lone;
         fresh = λ _ no _. cc;
@@ -281,6 +301,7 @@ failing_stands s h fault op st =
       ended_is = st.ended_is;
       settled = λ no. cc;
       cleans = tt;
+      tried = st.tried;
     })
 
 -- bytes were received for which there is no memory
@@ -301,6 +322,7 @@ lost_idle s h task st =
         alive = λ no. cc;
         given_is = st.heard.given_is;
         errors = st.heard.errors;
+        trying = λ no. cc;
         each = st.heard.each;
         lone = st.heard.lone;
         fresh = λ no _ _. cc;
@@ -312,6 +334,7 @@ lost_idle s h task st =
       ended_is = st.ended_is;
       settled = λ _. refl;
       cleans = tt;
+      tried = st.tried;
     })
 
 pub no_task : (t : Task) → is_open t ≡ false → t ≡ Nothing
@@ -327,6 +350,8 @@ no_task (Running n) e = cc
 no_task (Finishing n) e = cc
 no_task Clearing e = cc
 no_task (Asking c n) e = cc
+no_task (Backing c) e = cc
+no_task (Reverting c) e = cc
 no_task Reading e = cc
 no_task Dropping e = cc
 no_task Taking e = cc
@@ -375,6 +400,7 @@ begun_rests SkipTaken spot connected at = rest_as spot connected at.0 at.1
 begun_rests Ping spot connected at = rest_as spot connected at.0 at.1
 begun_rests Reset spot connected at = rest_as spot connected at.0 at.1
 begun_rests Begin spot connected at = rest_as spot connected at.0 at.1
+begun_rests Commit spot connected at = rest_as spot connected at.0 at.1
 begun_rests Rollback spot connected at = rest_as spot connected at.0 at.1
 begun_rests ForgetTransaction spot connected at = rest_as spot connected at.0 at.1
 begun_rests Quit spot connected at = rest_as spot connected at.0 at.1
@@ -392,6 +418,8 @@ task_rests (Running n) spot closed connected count newest off at e = cc
 task_rests (Finishing n) spot closed connected count newest off at e = cc
 task_rests Clearing spot closed connected count newest off at e = cc
 task_rests (Asking c n) spot closed connected count newest off at e = cc
+task_rests (Backing c) spot closed connected count newest off at e = cc
+task_rests (Reverting c) spot closed connected count newest off at e = cc
 task_rests Reading spot closed connected count newest off at e = rest_as spot connected at.0 (settled_by spot at.1 off)
 task_rests Dropping spot closed connected count newest off at e = rest_as spot connected at.0 (settled_by spot at.1 off)
 task_rests Taking spot closed connected count newest off at e = rest_as spot connected at.0 (settled_by spot at.1 off)
@@ -412,6 +440,8 @@ task_keeps (Running n) spot closed connected count newest off at e op = cc
 task_keeps (Finishing n) spot closed connected count newest off at e op = cc
 task_keeps Clearing spot closed connected count newest off at e op = cc
 task_keeps (Asking c n) spot closed connected count newest off at e op = cc
+task_keeps (Backing c) spot closed connected count newest off at e op = cc
+task_keeps (Reverting c) spot closed connected count newest off at e op = cc
 task_keeps Reading spot closed connected count newest off at e op = refl
 task_keeps Dropping spot closed connected count newest off at e op = refl
 task_keeps Taking spot closed connected count newest off at e op = refl
@@ -432,6 +462,8 @@ task_owes (Running n) spot off = cc
 task_owes (Finishing n) spot off = cc
 task_owes Clearing spot off = refl
 task_owes (Asking c n) spot off = cc
+task_owes (Backing c) spot off = cc
+task_owes (Reverting c) spot off = cc
 task_owes Reading spot off = refl
 task_owes Dropping spot off = refl
 task_owes Taking spot off = refl
@@ -454,6 +486,7 @@ cancel_by s h false e op st =
         alive = λ no. cc;
         given_is = hd.given_is;
         errors = hd.errors;
+        trying = λ x. kept_off s.task s.trial (task_keeps s.task s.context.spot s.closed (has_connected h.calls) (connecting_in (st.newest ∷ st.older)) st.newest e hd.at x op) (hd.trying x);
         each = hd.each;
         lone = hd.lone;
         fresh = λ x _ left. hd.fresh x (task_keeps s.task s.context.spot s.closed (has_connected h.calls) (connecting_in (st.newest ∷ st.older)) st.newest e hd.at x op) left;
@@ -465,6 +498,7 @@ cancel_by s h false e op st =
       ended_is = st.ended_is;
       settled = λ _. st.settled (task_owes s.task s.context.spot e);
       cleans = tt;
+      tried = st.tried;
     })
 
 pub cancels_stand : (s : Seen) (h : History) → is_open s.task ≡ true → Stands s h → Stands (dropped s) (answered h (Dropped (closes_when_cancelled s.task s.context.spot)))

@@ -16,11 +16,11 @@ use Rattle.my_grammar.specs.Talk.{Talk, Start, Unwelcome, Greeted, Settled, Aske
 use Rattle.my_params.specs.declared.params.Params.{Params}
 use Rattle.my_reading.specs.declared.call.Call.TheVariants as calls
 use Rattle.my_reading.specs.declared.call.CallKind.{CallKind}
-use Rattle.my_reading.specs.declared.call.CallKind.TheVariants.{Connect, Query, Prepare, Execute, Batch, CloseStmt, NextRow, DropResult, TakeSet, SkipTaken, Ping, Reset, Begin, Rollback, ForgetTransaction, Quit}
+use Rattle.my_reading.specs.declared.call.CallKind.TheVariants.{Connect, Query, Prepare, Execute, Batch, CloseStmt, NextRow, DropResult, TakeSet, SkipTaken, Ping, Reset, Begin, Commit, Rollback, ForgetTransaction, Quit}
 use Rattle.my_session.specs.declared.task.LinkFault.{LinkFault}
 use Rattle.my_session.specs.declared.task.LinkFault.TheVariants as faults
 use Rattle.my_session.specs.declared.task.Task.{Task}
-use Rattle.my_session.specs.declared.task.Task.TheVariants.{Nothing, Begun, Cleaning, Undoing, Cleaned, Own, Giving, Arranging, Running, Finishing, Clearing, Asking, Reading, Dropping, Taking, Skipping, Leaving, Failing}
+use Rattle.my_session.specs.declared.task.Task.TheVariants.{Nothing, Begun, Cleaning, Undoing, Cleaned, Own, Giving, Arranging, Running, Finishing, Clearing, Asking, Backing, Reverting, Reading, Dropping, Taking, Skipping, Leaving, Failing}
 use Rattle.my_reading.specs.declared.error.Error.{Error}
 use Rattle.my_session.specs.declared.tables.Plan.{Plan}
 use Rattle.my_session.specs.declared.tables.Plan.TheVariants as plans
@@ -36,24 +36,27 @@ use Rattle.my_session.specs.LinkErrors.{link_error}
 use Rattle.my_session.specs.Groups.{Group, groups, with_stop, stop_given, given, given_after}
 use Rattle.my_reading.specs.Told.{Told, ToldReady, ToldEnd, ToldNone, ToldStatement, ToldFlag, ToldError, closes, closes_by}
 use Rattle.my_session.specs.History.{History, Made, answered, noted, has_closed}
-use Rattle.my_session.specs.Machine.{Move, Goes, Needs, is_doubled, looked, with_kept, kept, batched, offered, undone, refusal, refused_by, advanced, with_task, with_status, failed_by, reply_to, above, unless_above, reacted, read_by, reading, planned, when_owed, next_by, next, is_greeting}
+use Rattle.my_session.specs.Machine.{Move, Goes, Needs, is_doubled, looked, with_kept, kept, batched, offered, undone, refusal, refused_by, advanced, with_task, with_status, with_trial, failed_by, reply_to, above, unless_above, reacted, read_by, reading, planned, when_owed, next_by, next, is_greeting}
+use Rattle.my_reading.specs.declared.transaction.Trial.{Trial}
+use Rattle.my_reading.specs.declared.transaction.Trial.TheVariants as trials
 use Rattle.my_reading.specs.declared.transaction.TxStatus.{TxStatus}
 use Rattle.my_reading.specs.declared.transaction.TxStatus.TheVariants as txs
 use Rattle.my_reading.specs.Transactions.{given_up, is_given_up, rolled_back}
 use Rattle.my_reading.specs.Versions.{can_reset}
 use Rattle.my_handshake.specs.Version.{version_of}
 use Rattle.my_session.specs.Seen.{Seen}
-use Rattle.my_session.specs.ServerErrors.{errors_told, with_told}
-use Rattle.my_session.specs.Stands.{Stands, Heard, TaskIs, TieIs, CleansAt, call_with, is_rollback, begun_of, is_first, is_left, is_shaking, is_lone, keeps, known_part, is_alive}
+use Rattle.my_session.specs.ServerErrors.{errors_told, with_pending, with_told}
+use Rattle.my_session.specs.Stands.{Stands, Heard, TaskIs, TieIs, CleansAt, call_with, is_rollback, begun_of, is_first, is_left, is_shaking, is_lone, keeps, known_part, is_alive, is_off, is_refused_trial, trial_at}
 use Rattle.my_session.specs.Steps.{is_settled}
 use Rattle.my_session.specs.Tables.{react, is_breaking, plan_of, run_plan, clean_plan, leave_plan, own_plan, query_plan, execute_plan, prepare_plan, read_plan, drop_plan, take_plan, skip_plan, first_plan}
 use Rattle.my_session.proofs.CallKinds.{of_unrefused}
-use Rattle.my_session.proofs.Stands.Asking.{asks_keep, runs_keep, queries_keep, undoes_keep, arranges_keep, refused_or, values_or, closes_keep}
+use Rattle.my_session.proofs.Stands.Asking.{asks_keep, runs_keep, queries_keep, undoes_keep, reverts_keep, returns_keep, arranges_keep, refused_or, values_or, closes_keep}
 use Rattle.my_session.proofs.Stands.Keeps.{Keeps, is_reader, react_keeps}
 use Rattle.my_session.proofs.Stands.Reacts.{falls, fell_stands}
 use Rattle.my_session.proofs.Stands.Spots.{settled_reads, settled_not_greeting, heading_not_greeting}
 use Rattle.my_session.proofs.Stands.Ties.{answered_stands, noted_stands, taken_stands, known_stands, status_stands, owns_all, closed_tie, at_greeting, quiet_more, arranged_more, first_count}
 use Rattle.my_session.proofs.Stands.Firsts.{given_first, first_groups}
+use Rattle.my_session.proofs.Stands.Trials.{kept_off, off_unrefused, trial_as, tried_given, unpending}
 use Rattle.my_session.proofs.Stands.Views.{given_all}
 
 -- the end of a lone OK is all that wasn't given
@@ -102,25 +105,27 @@ left_false true b e = cc
 left_false false b e = refl
 
 -- once the end of a lone OK is dropped, a call that has cleaned has none left
-none_untold : (t : Task) (untold : Bool) (status : TxStatus) → CleansAt t untold status → CleansAt t false status
-none_untold Nothing untold status w = tt
-none_untold (Begun c) untold status w = tt
-none_untold (Cleaning c) untold status w = w
-none_untold (Undoing c) untold status w = tt
-none_untold (Cleaned c) untold status w = refl
-none_untold (Own c) untold status w = tt
-none_untold Giving untold status w = tt
-none_untold (Arranging n) untold status w = tt
-none_untold (Running n) untold status w = tt
-none_untold (Finishing n) untold status w = tt
-none_untold Clearing untold status w = tt
-none_untold (Asking c n) untold status w = tt
-none_untold Reading untold status w = tt
-none_untold Dropping untold status w = tt
-none_untold Taking untold status w = tt
-none_untold Skipping untold status w = tt
-none_untold (Leaving c) untold status w = tt
-none_untold (Failing c fault) untold status w = tt
+none_untold : (t : Task) (untold : Bool) (status : TxStatus) (hushed : Bool) → CleansAt t untold status hushed → CleansAt t false status hushed
+none_untold Nothing untold status hushed w = tt
+none_untold (Begun c) untold status hushed w = tt
+none_untold (Cleaning c) untold status hushed w = w
+none_untold (Undoing c) untold status hushed w = tt
+none_untold (Cleaned c) untold status hushed w = refl
+none_untold (Own c) untold status hushed w = tt
+none_untold Giving untold status hushed w = tt
+none_untold (Arranging n) untold status hushed w = tt
+none_untold (Running n) untold status hushed w = tt
+none_untold (Finishing n) untold status hushed w = tt
+none_untold Clearing untold status hushed w = tt
+none_untold (Asking c n) untold status hushed w = tt
+none_untold (Backing c) untold status hushed w = w
+none_untold (Reverting c) untold status hushed w = w
+none_untold Reading untold status hushed w = tt
+none_untold Dropping untold status hushed w = tt
+none_untold Taking untold status hushed w = tt
+none_untold Skipping untold status hushed w = tt
+none_untold (Leaving c) untold status hushed w = tt
+none_untold (Failing c fault) untold status hushed w = tt
 
 -- a call that only rolls back has a transaction to roll back
 none_to_roll : (rollback given : Bool) → given ≡ false → (rollback ≡ true → given ≡ true) → rollback ≡ false
@@ -134,7 +139,7 @@ not_untold false lone f e = refl
 
 module _ (s : Seen) (h : History) (st : Stands s h) (open_still : s.closed ≡ false) (nothing : s.owed ≡ []) (op : is_open s.task ≡ true) where
   abbrev HeardAs : Task → Type 0
-  HeardAs t = Heard t s.call s.context.spot s.untold s.closed h.lost h.calls h.pending st.newest st.older
+  HeardAs t = Heard t s.call s.context.spot s.untold s.closed h.lost h.calls h.pending st.newest st.older s.trial
 
   fails : (e : Error) → ((c : CallKind) → closes_by e c ≡ true) → Keeps (failed_by s e) h
   fails e fatal = fell_stands s h e fatal op st
@@ -164,32 +169,36 @@ module _ (s : Seen) (h : History) (st : Stands s h) (open_still : s.closed ≡ f
   not_reader t task off on = let stop : true ≡ false = sym on ∙ ap is_reader task ∙ off in cc
 
   -- the first task of a call
-  starts_at : (c : CallKind) (u : Task) (status : TxStatus) → HeardAs (Begun c) → kind_in u ≡ Some c → CleansAt u s.untold status → TaskIs u s.context.spot s.closed (has_connected h.calls) (connecting_in (st.newest ∷ st.older)) st.newest → TieIs u s.call s.context.spot h.calls st.newest.call st.older → Stands (with_status (with_task s u s.untold) status) h
-  starts_at c u status hd same clean at tie = record {
-    newest = st.newest;
-    older = st.older;
-    wire = st.wire;
-    heard = record {
-      pending_is = hd.pending_is ∙ ap (λ k. call_with k s.call) (sym same);
-      closed_is = hd.closed_is;
-      alive = λ _. open_still;
-      given_is = hd.given_is;
-      errors = hd.errors;
-      each = hd.each;
-      lone = hd.lone;
-      fresh = λ e _ left. hd.fresh e refl left;
-      at = at;
-      first = hd.first;
-      tie = tie;
-    };
-    arranged = st.arranged;
-    ended_is = st.ended_is;
-    settled = λ _. nothing;
-    cleans = clean;
-  }
+  starts_at : (c : CallKind) (u : Task) (status : TxStatus) (trial : Trial) → HeardAs (Begun c) → kind_in u ≡ Some c → is_refused_trial trial ≡ false → trial_at u trial ≡ true → CleansAt u s.untold status st.newest.hushed → TaskIs u s.context.spot s.closed (has_connected h.calls) (connecting_in (st.newest ∷ st.older)) st.newest → TieIs u s.call s.context.spot h.calls st.newest.call st.older → Stands (with_trial (with_status (with_task s u s.untold) status) trial) h
+  starts_at c u status trial hd same free try clean at tie =
+      let unrefused : is_refused_trial s.trial ≡ false = off_unrefused s.trial (hd.trying open_still) in
+      record {
+        newest = st.newest;
+        older = st.older;
+        wire = st.wire;
+        heard = record {
+          pending_is = hd.pending_is ∙ ap (λ k. call_with k s.call) (sym same);
+          closed_is = hd.closed_is;
+          alive = λ _. open_still;
+          given_is = hd.given_is;
+          errors = unpending trial (errors_told h.calls) free ∙ sym (unpending s.trial (errors_told h.calls) unrefused) ∙ hd.errors;
+          trying = λ _. try;
+          each = hd.each;
+          lone = hd.lone;
+          fresh = λ e _ left. hd.fresh e refl left;
+          at = at;
+          first = hd.first;
+          tie = tie;
+        };
+        arranged = st.arranged;
+        ended_is = st.ended_is;
+        settled = λ _. nothing;
+        cleans = clean;
+        tried = record { trial_is = trial_as s.trial trial s.context.spot st.newest st.older unrefused free st.tried.trial_is; hushed = st.tried.hushed };
+      }
 
-  starts : (c : CallKind) (u : Task) → HeardAs (Begun c) → kind_in u ≡ Some c → CleansAt u s.untold s.status → TaskIs u s.context.spot s.closed (has_connected h.calls) (connecting_in (st.newest ∷ st.older)) st.newest → TieIs u s.call s.context.spot h.calls st.newest.call st.older → Keeps (planned s (plans.Starts u)) h
-  starts c u hd same clean at tie = starts_at c u s.status hd same clean at tie
+  starts : (c : CallKind) (u : Task) → HeardAs (Begun c) → kind_in u ≡ Some c → trial_at u s.trial ≡ true → CleansAt u s.untold s.status st.newest.hushed → TaskIs u s.context.spot s.closed (has_connected h.calls) (connecting_in (st.newest ∷ st.older)) st.newest → TieIs u s.call s.context.spot h.calls st.newest.call st.older → Keeps (planned s (plans.Starts u)) h
+  starts c u hd same try clean at tie = starts_at c u s.status s.trial hd same (off_unrefused s.trial (hd.trying open_still)) try clean at tie
 
   rest_at : has_connected h.calls ≡ true → is_settled s.context.spot ≡ true → s.closed ≡ false → cond (has_connected h.calls) (is_settled s.context.spot) (is_greeting s.context.spot) ≡ true
   rest_at made e _ = subst (λ b. cond b (is_settled s.context.spot) (is_greeting s.context.spot) ≡ true) (sym made) e
@@ -205,7 +214,8 @@ module _ (s : Seen) (h : History) (st : Stands s h) (open_still : s.closed ≡ f
       closed_is = hd.closed_is ∙ ap (λ b. (b || has_closed h.calls) || h.lost) (sym still);
       alive = λ no. cc;
       given_is = none ∙ hd.given_is;
-      errors = silent ∙ hd.errors;
+      errors = ap (with_pending s.trial) silent ∙ hd.errors;
+      trying = λ e. kept_off t s.trial kept (hd.trying e);
       each = hd.each;
       lone = hd.lone;
       fresh = λ e _ left. hd.fresh e kept left;
@@ -217,12 +227,13 @@ module _ (s : Seen) (h : History) (st : Stands s h) (open_still : s.closed ≡ f
     ended_is = st.ended_is;
     settled = λ _. nothing;
     cleans = tt;
+    tried = st.tried;
   })
 
   -- the cached statement of a text is looked for
   looked_keeps : HeardAs (Begun Prepare) → (mixed : Bool) (o : Option Held) → Keeps (looked s mixed o) h
   looked_keeps hd true o = quiet (Begun Prepare) Prepare (ToldError mixed_params) hd refl refl refl refl refl refl refl hd.at.0 hd.at.1 hd.tie
-  looked_keeps hd false None = starts Prepare (Cleaning Prepare) hd refl (λ no. cc) (refl, hd.at.0, settled_not_greeting s.context.spot (settled_reads s.context.spot hd.at.1)) hd.tie
+  looked_keeps hd false None = starts Prepare (Cleaning Prepare) hd refl (hd.trying open_still) (λ no. cc) (refl, hd.at.0, settled_not_greeting s.context.spot (settled_reads s.context.spot hd.at.1)) hd.tie
   looked_keeps hd false (Some x) =
       let found : Told = ToldStatement (statement_with x.stmt (names_of (text_in s.call))) in
       known_stands (with_task s Nothing s.untold) (answered h found) (with_fetched (query_of (text_in s.call)) s.statements) (quiet (Begun Prepare) Prepare found hd refl refl refl refl refl refl refl hd.at.0 hd.at.1 hd.tie)
@@ -231,32 +242,33 @@ module _ (s : Seen) (h : History) (st : Stands s h) (open_still : s.closed ≡ f
   batched_keeps : HeardAs (Begun Batch) → (o : Option Params) → slice_get (lists_in s.call) 0 ≡ o → Keeps (batched s o) h
   batched_keeps hd None at = quiet (Begun Batch) Batch ToldReady hd refl refl refl (ap (λ o. not (is_some o)) at) refl refl refl hd.at.0 hd.at.1 hd.tie
   batched_keeps hd (Some params) at = values_or s h st open_still nothing op params (refused_by (values_for (statement_in s.call) params)) (record { seen = with_task s (Cleaning Batch) s.untold; does = Goes }) refl
-      (λ _. starts Batch (Cleaning Batch) hd refl (λ no. cc) (refl, hd.at.0, settled_not_greeting s.context.spot (settled_reads s.context.spot hd.at.1)) hd.tie)
+      (λ _. starts Batch (Cleaning Batch) hd refl (hd.trying open_still) (λ no. cc) (refl, hd.at.0, settled_not_greeting s.context.spot (settled_reads s.context.spot hd.at.1)) hd.tie)
 
   -- a reset begins, where the server can
   offered_keeps : HeardAs (Begun Reset) → (b : Bool) → Keeps (offered s b) h
-  offered_keeps hd true = starts Reset (Cleaning Reset) hd refl (λ no. cc) (refl, hd.at.0, settled_not_greeting s.context.spot (settled_reads s.context.spot hd.at.1)) hd.tie
+  offered_keeps hd true = starts Reset (Cleaning Reset) hd refl (hd.trying open_still) (λ no. cc) (refl, hd.at.0, settled_not_greeting s.context.spot (settled_reads s.context.spot hd.at.1)) hd.tie
   offered_keeps hd false = quiet (Begun Reset) Reset (ToldFlag false) hd refl refl refl refl refl refl refl hd.at.0 hd.at.1 hd.tie
 
   first_keeps : (c : CallKind) → HeardAs (Begun c) → Keeps (planned s (first_plan c)) h
-  first_keeps Connect hd = starts Connect (Own Connect) hd refl tt (hd.at.0, ap is_shaking hd.at.1, first_count st.newest st.older (hd.first (ap is_greeting hd.at.1)).0 (hd.first (ap is_greeting hd.at.1)).1) (sym (hd.first (ap is_greeting hd.at.1)).0, inl (at_greeting s.context.spot h.calls st.newest.call st.older (ap is_greeting hd.at.1) hd.tie))
-  first_keeps Query hd = starts Query (Cleaning Query) hd refl (λ no. cc) (refl, hd.at.0, settled_not_greeting s.context.spot (settled_reads s.context.spot hd.at.1)) hd.tie
+  first_keeps Connect hd = starts Connect (Own Connect) hd refl (hd.trying open_still) tt (hd.at.0, ap is_shaking hd.at.1, first_count st.newest st.older (hd.first (ap is_greeting hd.at.1)).0 (hd.first (ap is_greeting hd.at.1)).1) (sym (hd.first (ap is_greeting hd.at.1)).0, inl (at_greeting s.context.spot h.calls st.newest.call st.older (ap is_greeting hd.at.1) hd.tie))
+  first_keeps Query hd = starts Query (Cleaning Query) hd refl (hd.trying open_still) (λ no. cc) (refl, hd.at.0, settled_not_greeting s.context.spot (settled_reads s.context.spot hd.at.1)) hd.tie
   first_keeps Prepare hd = looked_keeps hd (is_mixed_text (text_in s.call)) (held_in s.statements (query_of (text_in s.call)))
   first_keeps Execute hd = refused_or s h st open_still nothing op Execute (refusal Execute s.call) (record { seen = with_task s (Cleaning Execute) s.untold; does = Goes }) refl
-      (λ _. starts Execute (Cleaning Execute) hd refl (λ no. cc) (refl, hd.at.0, settled_not_greeting s.context.spot (settled_reads s.context.spot hd.at.1)) hd.tie)
+      (λ _. starts Execute (Cleaning Execute) hd refl (hd.trying open_still) (λ no. cc) (refl, hd.at.0, settled_not_greeting s.context.spot (settled_reads s.context.spot hd.at.1)) hd.tie)
   first_keeps Batch hd = batched_keeps hd (slice_get (lists_in s.call) 0) refl
   first_keeps CloseStmt hd = known_stands (with_task s (Cleaning CloseStmt) s.untold) h (without_statement (id_in s.call) s.statements)
-      (starts CloseStmt (Cleaning CloseStmt) hd refl (λ no. cc) (refl, hd.at.0, settled_not_greeting s.context.spot (settled_reads s.context.spot hd.at.1)) hd.tie)
-  first_keeps NextRow hd = starts NextRow Reading hd refl tt (hd.at.0, settled_reads s.context.spot hd.at.1) hd.tie
-  first_keeps DropResult hd = starts DropResult Dropping hd refl tt (hd.at.0, settled_reads s.context.spot hd.at.1) hd.tie
-  first_keeps TakeSet hd = starts TakeSet Taking hd refl tt (hd.at.0, settled_reads s.context.spot hd.at.1) hd.tie
-  first_keeps SkipTaken hd = starts SkipTaken Skipping hd refl tt hd.at hd.tie
-  first_keeps Ping hd = starts Ping (Cleaning Ping) hd refl (λ no. cc) (refl, hd.at.0, settled_not_greeting s.context.spot (settled_reads s.context.spot hd.at.1)) hd.tie
+      (starts CloseStmt (Cleaning CloseStmt) hd refl (hd.trying open_still) (λ no. cc) (refl, hd.at.0, settled_not_greeting s.context.spot (settled_reads s.context.spot hd.at.1)) hd.tie)
+  first_keeps NextRow hd = starts NextRow Reading hd refl (hd.trying open_still) tt (hd.at.0, settled_reads s.context.spot hd.at.1) hd.tie
+  first_keeps DropResult hd = starts DropResult Dropping hd refl (hd.trying open_still) tt (hd.at.0, settled_reads s.context.spot hd.at.1) hd.tie
+  first_keeps TakeSet hd = starts TakeSet Taking hd refl (hd.trying open_still) tt (hd.at.0, settled_reads s.context.spot hd.at.1) hd.tie
+  first_keeps SkipTaken hd = starts SkipTaken Skipping hd refl (hd.trying open_still) tt hd.at hd.tie
+  first_keeps Ping hd = starts Ping (Cleaning Ping) hd refl (hd.trying open_still) (λ no. cc) (refl, hd.at.0, settled_not_greeting s.context.spot (settled_reads s.context.spot hd.at.1)) hd.tie
   first_keeps Reset hd = offered_keeps hd (can_reset (version_of s.facts.version))
-  first_keeps Begin hd = starts Begin (Cleaning Begin) hd refl (λ no. cc) (refl, hd.at.0, settled_not_greeting s.context.spot (settled_reads s.context.spot hd.at.1)) hd.tie
-  first_keeps Rollback hd = starts_at Rollback (Cleaning Rollback) txs.RequiresRollback hd refl (λ _. refl) (refl, hd.at.0, settled_not_greeting s.context.spot (settled_reads s.context.spot hd.at.1)) hd.tie
-  first_keeps ForgetTransaction hd = status_stands (with_task s Nothing s.untold) (answered h ToldReady) (given_up s.status) tt (quiet (Begun ForgetTransaction) ForgetTransaction ToldReady hd refl refl refl refl refl refl refl hd.at.0 hd.at.1 hd.tie)
-  first_keeps Quit hd = starts Quit (Cleaning Quit) hd refl (λ no. cc) (refl, hd.at.0, settled_not_greeting s.context.spot (settled_reads s.context.spot hd.at.1)) hd.tie
+  first_keeps Begin hd = starts Begin (Cleaning Begin) hd refl (hd.trying open_still) (λ no. cc) (refl, hd.at.0, settled_not_greeting s.context.spot (settled_reads s.context.spot hd.at.1)) hd.tie
+  first_keeps Commit hd = starts_at Commit (Cleaning Commit) s.status trials.On hd refl refl refl (λ no. cc) (refl, hd.at.0, settled_not_greeting s.context.spot (settled_reads s.context.spot hd.at.1)) hd.tie
+  first_keeps Rollback hd = starts_at Rollback (Cleaning Rollback) txs.RequiresRollback trials.Off hd refl refl refl (λ _. refl) (refl, hd.at.0, settled_not_greeting s.context.spot (settled_reads s.context.spot hd.at.1)) hd.tie
+  first_keeps ForgetTransaction hd = status_stands (with_task s Nothing s.untold) (answered h ToldReady) (given_up s.status) (λ _. tt) (quiet (Begun ForgetTransaction) ForgetTransaction ToldReady hd refl refl refl refl refl refl refl hd.at.0 hd.at.1 hd.tie)
+  first_keeps Quit hd = starts Quit (Cleaning Quit) hd refl (hd.trying open_still) (λ no. cc) (refl, hd.at.0, settled_not_greeting s.context.spot (settled_reads s.context.spot hd.at.1)) hd.tie
 
   -- the end of a lone OK is dropped
   hears : (t : Task) → s.task ≡ t → keeps t ≡ false → Keeps (planned s plans.Hears) h
@@ -270,6 +282,7 @@ module _ (s : Seen) (h : History) (st : Stands s h) (open_still : s.closed ≡ f
       alive = λ _. open_still;
       given_is = st.heard.given_is;
       errors = st.heard.errors;
+      trying = st.heard.trying;
       each = st.heard.each;
       lone = λ no. cc;
       fresh = λ _ kept _. let stop : true ≡ false = sym kept ∙ ap keeps task ∙ lost in cc;
@@ -280,7 +293,8 @@ module _ (s : Seen) (h : History) (st : Stands s h) (open_still : s.closed ≡ f
     arranged = st.arranged;
     ended_is = st.ended_is;
     settled = λ _. nothing;
-    cleans = none_untold s.task s.untold s.status st.cleans;
+    cleans = none_untold s.task s.untold s.status st.newest.hushed st.cleans;
+    tried = st.tried;
   }
 
   cleans : AreBytes s.unread → (t : Task) → s.task ≡ t → is_reader t ≡ false → keeps t ≡ false → (p : Plan) → (s.untold ≡ false → s.context.spot ≡ spots.Idle → Keeps (planned s p) h) → (spot : Spot) → s.context.spot ≡ spot → (untold : Bool) → s.untold ≡ untold → Keeps (planned s (clean_plan p spot untold)) h
@@ -303,7 +317,7 @@ module _ (s : Seen) (h : History) (st : Stands s h) (open_still : s.closed ≡ f
   -- a call is answered, after the head of its first set
   readied : (c : CallKind) → HeardAs (Own c) → (has_connected h.calls ≡ true) × (st.newest.given ≡ None) × (is_first (sets_of st.newest.talk) ≡ true) → ((gs : List (List Group)) → given_after ToldReady (kind_of (call_of c s.call)) gs ≡ [] ∷ gs) → closes ToldReady (kind_of (call_of c s.call)) ≡ false → connects ToldReady (kind_of (call_of c s.call)) ≡ false → s.context.spot ≡ spots.Rows → Keeps (planned s plans.Readies) h
   readied c hd at opens still con rows = answered_stands (with_task s Nothing s.untold) h (call_of c s.call) ToldReady hd.pending_is (record {
-    newest = record { call = st.newest.call; talk = st.newest.talk; given = Some [] };
+    newest = record { call = st.newest.call; talk = st.newest.talk; given = Some []; hushed = st.newest.hushed };
     older = st.older;
     wire = st.wire;
     heard = record {
@@ -312,6 +326,7 @@ module _ (s : Seen) (h : History) (st : Stands s h) (open_still : s.closed ≡ f
       alive = λ no. cc;
       given_is = opens (given h.calls) ∙ ap (λ gs. [] ∷ gs) (hd.given_is ∙ ap (λ o. onto o (givens st.older)) at.1);
       errors = hd.errors;
+      trying = hd.trying;
       each = (given_first st.newest.talk st.wire.fits at.2, hd.each.1);
       lone = hd.lone;
       fresh = λ _ _ _. ap Some (sym (first_groups s.untold (sets_of st.newest.talk) at.2));
@@ -323,6 +338,7 @@ module _ (s : Seen) (h : History) (st : Stands s h) (open_still : s.closed ≡ f
     ended_is = st.ended_is;
     settled = λ _. nothing;
     cleans = tt;
+    tried = tried_given s.login s.context.spot st.newest st.older s.trial (Some []) st.tried;
   })
 
   -- so is an execution, whose columns are known then
@@ -330,8 +346,8 @@ module _ (s : Seen) (h : History) (st : Stands s h) (open_still : s.closed ≡ f
   learns hd rows = known_stands (with_task s Nothing s.untold) (answered h ToldReady) (with_columns (id_in (call_of Execute s.call)) s.facts.columns s.statements) (readied Execute hd hd.at (λ gs. refl) refl refl rows)
 
   -- the call goes on with another task, which keeps nothing for reads
-  goes_to : (t u : Task) (status : TxStatus) → HeardAs t → kind_in u ≡ kind_in t → keeps u ≡ false → TaskIs u s.context.spot s.closed (has_connected h.calls) (connecting_in (st.newest ∷ st.older)) st.newest → TieIs u s.call s.context.spot h.calls st.newest.call st.older → CleansAt u s.untold status → Stands (with_status (with_task s u s.untold) status) h
-  goes_to t u status hd same lost at tie clean = record {
+  goes_to : (t u : Task) (status : TxStatus) → HeardAs t → kind_in u ≡ kind_in t → keeps u ≡ false → TaskIs u s.context.spot s.closed (has_connected h.calls) (connecting_in (st.newest ∷ st.older)) st.newest → TieIs u s.call s.context.spot h.calls st.newest.call st.older → CleansAt u s.untold status st.newest.hushed → trial_at u s.trial ≡ true → Stands (with_status (with_task s u s.untold) status) h
+  goes_to t u status hd same lost at tie clean try = record {
     newest = st.newest;
     older = st.older;
     wire = st.wire;
@@ -341,6 +357,7 @@ module _ (s : Seen) (h : History) (st : Stands s h) (open_still : s.closed ≡ f
       alive = λ _. open_still;
       given_is = hd.given_is;
       errors = hd.errors;
+      trying = λ _. try;
       each = hd.each;
       lone = hd.lone;
       fresh = λ _ kept _. let stop : true ≡ false = sym kept ∙ lost in cc;
@@ -352,26 +369,27 @@ module _ (s : Seen) (h : History) (st : Stands s h) (open_still : s.closed ≡ f
     ended_is = st.ended_is;
     settled = λ _. nothing;
     cleans = clean;
+    tried = st.tried;
   }
 
   -- the rows of an execution of a batch are read whole
   known_now : (n : ℕ) → s.task ≡ Running n → HeardAs (Running n) → Keeps (planned s (plans.Notes n)) h
   known_now n task hd = known_stands (with_task s (Finishing n) s.untold) h (with_columns (id_in (call_of Batch s.call)) s.facts.columns s.statements)
-      (goes_to (Running n) (Finishing n) s.status hd refl refl (hd.at.0, heading_not_greeting s.context.spot hd.at.1) hd.tie tt)
+      (goes_to (Running n) (Finishing n) s.status hd refl refl (hd.at.0, heading_not_greeting s.context.spot hd.at.1) hd.tie tt (hd.trying open_still))
 
   -- after a reset no statement is cached any more
   clears : HeardAs Clearing → Keeps (planned s plans.Clears) h
-  clears hd = known_stands (with_task s (Asking Reset 0) s.untold) h (cleared s.statements) (goes_to Clearing (Asking Reset 0) s.status hd refl refl (refl, hd.at.0, ap is_greeting hd.at.1) hd.tie tt)
+  clears hd = known_stands (with_task s (Asking Reset 0) s.untold) h (cleared s.statements) (goes_to Clearing (Asking Reset 0) s.status hd refl refl (refl, hd.at.0, ap is_greeting hd.at.1) hd.tie tt (hd.trying open_still))
 
   -- a transaction that was given up is rolled back, and then there is none
   undone_keeps : (c : CallKind) → s.task ≡ Cleaning c → HeardAs (Cleaning c) → s.untold ≡ false → s.context.spot ≡ spots.Idle → (b : Bool) → is_given_up s.status ≡ b → Keeps (undone s c b) h
   undone_keeps c task hd told idle true is = undoes_keep s h st open_still nothing op c hd idle
   undone_keeps c task hd told idle false is =
-      let clean : CleansAt (Cleaning c) s.untold s.status = subst (λ (t : Task). CleansAt t s.untold s.status) task st.cleans in
-      goes_to (Cleaning c) (Cleaned c) s.status hd refl refl (hd.at.0, hd.at.1, idle) (inr (none_to_roll (is_rollback c) (is_given_up s.status) is clean, hd.tie)) told
+      let clean : CleansAt (Cleaning c) s.untold s.status st.newest.hushed = subst (λ (t : Task). CleansAt t s.untold s.status st.newest.hushed) task st.cleans in
+      goes_to (Cleaning c) (Cleaned c) s.status hd refl refl (hd.at.0, hd.at.1, idle) (inr (none_to_roll (is_rollback c) (is_given_up s.status) is clean, hd.tie)) told (hd.trying open_still)
 
   settles_keep : (c : CallKind) → HeardAs (Undoing c) → s.untold ≡ false → s.context.spot ≡ spots.Idle → Keeps (planned s (plans.Settles c)) h
-  settles_keep c hd told idle = goes_to (Undoing c) (Cleaned c) (rolled_back s.status) hd refl refl (hd.at.0, hd.at.1, idle) (inl hd.tie) told
+  settles_keep c hd told idle = goes_to (Undoing c) (Cleaned c) (rolled_back s.status) hd refl refl (hd.at.0, hd.at.1, idle) (inl hd.tie) told (hd.trying open_still)
 
   runs : AreBytes s.unread → (n : ℕ) → s.task ≡ Running n → HeardAs (Running n) → (spot : Spot) → Keeps (planned s (run_plan n spot)) h
   runs bytes n task hd spots.Idle = reads bytes (not_reader (Running n) task refl)
@@ -404,6 +422,7 @@ module _ (s : Seen) (h : History) (st : Stands s h) (open_still : s.closed ≡ f
           alive = λ no. cc;
           given_is = hd.given_is;
           errors = hd.errors;
+          trying = hd.trying;
           each = hd.each;
           lone = hd.lone;
           fresh = λ _ _ left. let no : false ≡ true = sym (ap (λ b. b || is_left s.context.spot) told ∙ ap is_left idle) ∙ left in cc;
@@ -415,6 +434,7 @@ module _ (s : Seen) (h : History) (st : Stands s h) (open_still : s.closed ≡ f
         ended_is = st.ended_is;
         settled = λ _. nothing;
         cleans = tt;
+        tried = st.tried;
       })
 
   -- a statement that was prepared is kept
@@ -429,6 +449,7 @@ module _ (s : Seen) (h : History) (st : Stands s h) (open_still : s.closed ≡ f
       alive = λ _. open_still;
       given_is = hd.given_is;
       errors = hd.errors;
+      trying = hd.trying;
       each = hd.each;
       lone = λ no. cc;
       fresh = λ _ no _. cc;
@@ -440,8 +461,9 @@ module _ (s : Seen) (h : History) (st : Stands s h) (open_still : s.closed ≡ f
     ended_is = st.ended_is;
     settled = λ no. cc;
     cleans = tt;
+    tried = st.tried;
   }
-  kept_keeps hd idle (Some id) = closes_keep (with_kept s) h (record { newest = st.newest; older = st.older; wire = st.wire; heard = st.heard; arranged = st.arranged; ended_is = st.ended_is; settled = st.settled; cleans = st.cleans }) open_still nothing op id hd idle
+  kept_keeps hd idle (Some id) = closes_keep (with_kept s) h (record { newest = st.newest; older = st.older; wire = st.wire; heard = st.heard; arranged = st.arranged; ended_is = st.ended_is; settled = st.settled; cleans = st.cleans; tried = st.tried }) open_still nothing op id hd idle
 
   -- and returned
   gives_it : HeardAs Giving → Keeps (planned s plans.Gives) h
@@ -458,6 +480,7 @@ module _ (s : Seen) (h : History) (st : Stands s h) (open_still : s.closed ≡ f
           alive = λ no. cc;
           given_is = hd.given_is;
           errors = hd.errors;
+          trying = hd.trying;
           each = hd.each;
           lone = λ no. cc;
           fresh = λ _ _ left. let no : false ≡ true = sym (ap is_left idle) ∙ left in cc;
@@ -469,6 +492,7 @@ module _ (s : Seen) (h : History) (st : Stands s h) (open_still : s.closed ≡ f
         ended_is = st.ended_is;
         settled = λ _. nothing;
         cleans = tt;
+        tried = st.tried;
       })
 
   queries : AreBytes s.unread → s.task ≡ Own Query → HeardAs (Own Query) → (spot : Spot) → s.context.spot ≡ spot → Keeps (planned s (query_plan spot)) h
@@ -533,17 +557,18 @@ module _ (s : Seen) (h : History) (st : Stands s h) (open_still : s.closed ≡ f
   owns bytes Ping task hd = reads bytes (not_reader (Own Ping) task refl)
   owns bytes Reset task hd = reads bytes (not_reader (Own Reset) task refl)
   owns bytes Begin task hd = absurd hd.at
+  owns bytes Commit task hd = absurd hd.at
   owns bytes Rollback task hd = absurd hd.at
   owns bytes ForgetTransaction task hd = absurd hd.at
   owns bytes Quit task hd = falls s h ToldReady Quit (ap kind_in task) refl refl refl refl st
 
   -- the end of a lone OK is returned, or passed over
-  end_shown : (t u : Task) (c : CallKind) → HeardAs t → s.untold ≡ true → kind_in t ≡ Some c → keeps t ≡ true → closes ToldEnd (kind_of (call_of c s.call)) ≡ false → CleansAt u false s.status → has_connected h.calls ≡ true → IsTied h.calls (begun_of s.context.spot st.newest.call st.older) → TaskIs u s.context.spot s.closed (has_connected h.calls) (connecting_in (st.newest ∷ st.older)) (record { call = st.newest.call; talk = st.newest.talk; given = Some (groups (sets_of st.newest.talk)) }) → ((m : List Made) → IsTied m (begun_of s.context.spot st.newest.call st.older) → TieIs u s.call s.context.spot m st.newest.call st.older) → Stands (with_task s u false) (record { sent = h.sent; taken = h.taken; calls = record { call = call_of c s.call; what = ToldEnd } ∷ h.calls; pending = call_with (kind_in u) s.call; ended = h.ended; lost = h.lost })
-  end_shown t u c hd untold call kept still clean made tie at tied =
+  end_shown : (t u : Task) (c : CallKind) → HeardAs t → s.untold ≡ true → kind_in t ≡ Some c → keeps t ≡ true → closes ToldEnd (kind_of (call_of c s.call)) ≡ false → CleansAt u false s.status st.newest.hushed → (is_off s.trial ≡ true → trial_at u s.trial ≡ true) → has_connected h.calls ≡ true → IsTied h.calls (begun_of s.context.spot st.newest.call st.older) → TaskIs u s.context.spot s.closed (has_connected h.calls) (connecting_in (st.newest ∷ st.older)) (record { call = st.newest.call; talk = st.newest.talk; given = Some (groups (sets_of st.newest.talk)); hushed = st.newest.hushed }) → ((m : List Made) → IsTied m (begun_of s.context.spot st.newest.call st.older) → TieIs u s.call s.context.spot m st.newest.call st.older) → Stands (with_task s u false) (record { sent = h.sent; taken = h.taken; calls = record { call = call_of c s.call; what = ToldEnd } ∷ h.calls; pending = call_with (kind_in u) s.call; ended = h.ended; lost = h.lost })
+  end_shown t u c hd untold call kept still clean try made tie at tied =
       let x = sets_of st.newest.talk in
       let now : st.newest.given ≡ Some (groups (known_part true x)) = subst (λ b. b || is_left s.context.spot ≡ true → st.newest.given ≡ Some (groups (known_part b x))) untold (hd.fresh open_still kept) refl in
       record {
-        newest = record { call = st.newest.call; talk = st.newest.talk; given = Some (groups x) };
+        newest = record { call = st.newest.call; talk = st.newest.talk; given = Some (groups x); hushed = st.newest.hushed };
         older = st.older;
         wire = st.wire;
         heard = record {
@@ -552,6 +577,7 @@ module _ (s : Seen) (h : History) (st : Stands s h) (open_still : s.closed ≡ f
           alive = λ _. open_still;
           given_is = ap stop_given (hd.given_is ∙ ap (λ o. onto o (givens st.older)) now) ∙ ap (λ gs. gs ∷ givens st.older) (lone_groups x (hd.lone untold));
           errors = hd.errors;
+          trying = λ _. try (kept_off t s.trial kept (hd.trying open_still));
           each = (given_all st.newest.talk st.wire.fits, hd.each.1);
           lone = λ no. cc;
           fresh = λ _ _ _. refl;
@@ -563,6 +589,7 @@ module _ (s : Seen) (h : History) (st : Stands s h) (open_still : s.closed ≡ f
         ended_is = st.ended_is;
         settled = λ _. nothing;
         cleans = clean;
+        tried = tried_given s.login s.context.spot st.newest st.older s.trial (Some (groups x)) st.tried;
       }
 
   -- where the end of a lone OK is still to be returned, the session rests
@@ -639,12 +666,12 @@ module _ (s : Seen) (h : History) (st : Stands s h) (open_still : s.closed ≡ f
 
   reading_plan : AreBytes s.unread → s.task ≡ Reading → HeardAs Reading → (untold : Bool) → s.untold ≡ untold → Keeps (planned s (cond untold plans.Ends (read_plan s.context.spot))) h
   reading_plan bytes task hd true e = answered_stands (with_task s Nothing false) h calls.NextRow ToldEnd hd.pending_is
-      (end_shown Reading Nothing NextRow hd e refl refl refl tt hd.at.0 hd.tie (rest_at hd.at.0 (lone_rests e st.heard)) (λ m t. t))
+      (end_shown Reading Nothing NextRow hd e refl refl refl tt (λ o. o) hd.at.0 hd.tie (rest_at hd.at.0 (lone_rests e st.heard)) (λ m t. t))
   reading_plan bytes task hd false e = reads_rest bytes task hd e s.context.spot refl
 
   dropping_plan : AreBytes s.unread → s.task ≡ Dropping → HeardAs Dropping → (untold : Bool) → s.untold ≡ untold → Keeps (planned s (cond untold plans.Passes (drop_plan s.context.spot))) h
   dropping_plan bytes task hd true e = subst (λ (t : Task). Stands (with_task s t false) (noted h ToldEnd)) (sym task)
-      (noted_stands (with_task s Dropping false) h calls.DropResult ToldEnd hd.pending_is (end_shown Dropping Dropping DropResult hd e refl refl refl tt hd.at.0 hd.tie hd.at (λ m t. t)))
+      (noted_stands (with_task s Dropping false) h calls.DropResult ToldEnd hd.pending_is (end_shown Dropping Dropping DropResult hd e refl refl refl tt (λ o. o) hd.at.0 hd.tie hd.at (λ m t. t)))
   dropping_plan bytes task hd false e = drops_rest bytes task hd e s.context.spot refl
 
   taking_plan : AreBytes s.unread → s.task ≡ Taking → HeardAs Taking → (untold : Bool) → s.untold ≡ untold → Keeps (planned s (cond untold plans.Takes (take_plan s.context.spot))) h
@@ -653,7 +680,7 @@ module _ (s : Seen) (h : History) (st : Stands s h) (open_still : s.closed ≡ f
 
   skipping_plan : AreBytes s.unread → s.task ≡ Skipping → HeardAs Skipping → (untold : Bool) → s.untold ≡ untold → Keeps (planned s (cond untold plans.Passes (skip_plan s.context.spot))) h
   skipping_plan bytes task hd true e = subst (λ (t : Task). Stands (with_task s t false) (noted h ToldEnd)) (sym task)
-      (noted_stands (with_task s Skipping false) h calls.SkipTaken ToldEnd hd.pending_is (end_shown Skipping Skipping SkipTaken hd e refl refl refl tt hd.at.0 hd.tie hd.at (λ m t. t)))
+      (noted_stands (with_task s Skipping false) h calls.SkipTaken ToldEnd hd.pending_is (end_shown Skipping Skipping SkipTaken hd e refl refl refl tt (λ o. o) hd.at.0 hd.tie hd.at (λ m t. t)))
   skipping_plan bytes task hd false e = skips_rest bytes task hd e s.context.spot refl
 
   plan_keeps : AreBytes s.unread → fault_in s.task ≡ None → (t : Task) → s.task ≡ t → HeardAs t → Keeps (planned s (plan_of t s.context.spot s.untold)) h
@@ -661,7 +688,7 @@ module _ (s : Seen) (h : History) (st : Stands s h) (open_still : s.closed ≡ f
   plan_keeps bytes sound (Begun c) task hd = first_keeps c hd
   plan_keeps bytes sound (Cleaning c) task hd = cleans bytes (Cleaning c) task refl refl (plans.Undoes c) (λ told idle. undone_keeps c task hd told idle (is_given_up s.status) refl) s.context.spot refl s.untold refl
   plan_keeps bytes sound (Undoing c) task hd = cleans bytes (Undoing c) task refl refl (plans.Settles c) (settles_keep c hd) s.context.spot refl s.untold refl
-  plan_keeps bytes sound (Cleaned c) task hd = asks_keep s h st open_still nothing op c hd (subst (λ (t : Task). CleansAt t s.untold s.status) task st.cleans)
+  plan_keeps bytes sound (Cleaned c) task hd = asks_keep s h st open_still nothing op c hd (subst (λ (t : Task). CleansAt t s.untold s.status st.newest.hushed) task st.cleans)
   plan_keeps bytes sound (Own c) task hd = owns bytes c task hd
   plan_keeps bytes sound Giving task hd = gives_it hd
   plan_keeps bytes sound (Arranging n) task hd = cleans bytes (Arranging n) task refl refl (plans.Arranges n) (arranges_keep s h st open_still nothing op n hd) s.context.spot refl s.untold refl
@@ -669,6 +696,8 @@ module _ (s : Seen) (h : History) (st : Stands s h) (open_still : s.closed ≡ f
   plan_keeps bytes sound (Finishing n) task hd = cleans bytes (Finishing n) task refl refl (plans.Runs n) (runs_keep s h st open_still nothing op n hd) s.context.spot refl s.untold refl
   plan_keeps bytes sound Clearing task hd = clears hd
   plan_keeps bytes sound (Asking c n) task hd = cleans bytes (Asking c n) task refl refl (plans.Queries c n) (queries_keep s h st open_still nothing op c n hd) s.context.spot refl s.untold refl
+  plan_keeps bytes sound (Backing c) task hd = reverts_keep s h st open_still nothing op c hd (subst (λ (t : Task). CleansAt t s.untold s.status st.newest.hushed) task st.cleans) (is_given_up s.status) refl
+  plan_keeps bytes sound (Reverting c) task hd = cleans bytes (Reverting c) task refl refl plans.Returns (returns_keep s h st open_still nothing op c hd) s.context.spot refl s.untold refl
   plan_keeps bytes sound Reading task hd = reading_plan bytes task hd s.untold refl
   plan_keeps bytes sound Dropping task hd = dropping_plan bytes task hd s.untold refl
   plan_keeps bytes sound Taking task hd = taking_plan bytes task hd s.untold refl
@@ -696,6 +725,7 @@ module _ (s : Seen) (h : History) (st : Stands s h) (bytes : AreBytes s.unread) 
           alive = λ no. cc;
           given_is = hd.given_is;
           errors = hd.errors;
+          trying = λ alive. let no : true ≡ false = sym shut ∙ alive in cc;
           each = hd.each;
           lone = hd.lone;
           fresh = λ alive _ _. let no : true ≡ false = sym shut ∙ alive in cc;
@@ -707,6 +737,7 @@ module _ (s : Seen) (h : History) (st : Stands s h) (bytes : AreBytes s.unread) 
         ended_is = st.ended_is;
         settled = λ _. nothing;
         cleans = tt;
+        tried = st.tried;
       })
 
   -- a call that has nothing to do there
@@ -731,6 +762,8 @@ module _ (s : Seen) (h : History) (st : Stands s h) (bytes : AreBytes s.unread) 
   alive_or (Finishing n) task sound = inl (st.heard.alive (ap is_alive task))
   alive_or Clearing task sound = inl (st.heard.alive (ap is_alive task))
   alive_or (Asking c n) task sound = inl (st.heard.alive (ap is_alive task))
+  alive_or (Backing c) task sound = inl (st.heard.alive (ap is_alive task))
+  alive_or (Reverting c) task sound = inl (st.heard.alive (ap is_alive task))
   alive_or Reading task sound = inl (st.heard.alive (ap is_alive task))
   alive_or Dropping task sound = inl (st.heard.alive (ap is_alive task))
   alive_or Taking task sound = inl (st.heard.alive (ap is_alive task))

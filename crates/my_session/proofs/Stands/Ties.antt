@@ -5,7 +5,7 @@ use Rattle.my_grammar.specs.declared.spot.Spot.{Spot}
 use Rattle.my_reading.specs.declared.call.Call.{Call}
 use Rattle.my_reading.specs.declared.call.Call.TheVariants as calls
 use Rattle.my_reading.specs.declared.call.CallKind.{CallKind}
-use Rattle.my_reading.specs.declared.call.CallKind.TheVariants.{Connect, Query, Prepare, Execute, Batch, CloseStmt, NextRow, DropResult, TakeSet, SkipTaken, Ping, Reset, Begin, Rollback, ForgetTransaction, Quit}
+use Rattle.my_reading.specs.declared.call.CallKind.TheVariants.{Connect, Query, Prepare, Execute, Batch, CloseStmt, NextRow, DropResult, TakeSet, SkipTaken, Ping, Reset, Begin, Commit, Rollback, ForgetTransaction, Quit}
 use Rattle.my_session.specs.declared.task.Task.{Task}
 use Rattle.my_session.specs.declared.task.Task.TheVariants as tasks
 use Rattle.my_reading.specs.Calls.{kind_of, call_of, is_connect, asks}
@@ -29,15 +29,15 @@ noted_stands s h c t e st = subst (λ (o : Option Call). Stands s (record { sent
 
 -- no history tells whether a stream took the set
 pub taken_stands : (s : Seen) (h : History) → Stands s h → Stands (with_taken s) h
-taken_stands s h st = record { newest = st.newest; older = st.older; wire = st.wire; heard = st.heard; arranged = st.arranged; ended_is = st.ended_is; settled = st.settled; cleans = st.cleans }
+taken_stands s h st = record { newest = st.newest; older = st.older; wire = st.wire; heard = st.heard; arranged = st.arranged; ended_is = st.ended_is; settled = st.settled; cleans = st.cleans; tried = st.tried }
 
 -- nor which prepared statements are known
 pub known_stands : (s : Seen) (h : History) (known : Statements) → Stands s h → Stands (with_statements s known) h
-known_stands s h known st = record { newest = st.newest; older = st.older; wire = st.wire; heard = st.heard; arranged = st.arranged; ended_is = st.ended_is; settled = st.settled; cleans = st.cleans }
+known_stands s h known st = record { newest = st.newest; older = st.older; wire = st.wire; heard = st.heard; arranged = st.arranged; ended_is = st.ended_is; settled = st.settled; cleans = st.cleans; tried = st.tried }
 
 -- nor how a transaction stands, but where one is rolled back
-pub status_stands : (s : Seen) (h : History) (status : TxStatus) → CleansAt s.task s.untold status → Stands s h → Stands (with_status s status) h
-status_stands s h status cleans st = record { newest = st.newest; older = st.older; wire = st.wire; heard = st.heard; arranged = st.arranged; ended_is = st.ended_is; settled = st.settled; cleans = cleans }
+pub status_stands : (s : Seen) (h : History) (status : TxStatus) → ((hushed : Bool) → CleansAt s.task s.untold status hushed) → Stands s h → Stands (with_status s status) h
+status_stands s h status cleans st = record { newest = st.newest; older = st.older; wire = st.wire; heard = st.heard; arranged = st.arranged; ended_is = st.ended_is; settled = st.settled; cleans = cleans st.newest.hushed; tried = st.tried }
 
 pub kind_there_is : (t : Task) → is_open t ≡ true → (c : CallKind) × (kind_in t ≡ Some c)
 kind_there_is tasks.Nothing e = cc
@@ -52,6 +52,8 @@ kind_there_is (tasks.Running n) e = (Batch, refl)
 kind_there_is (tasks.Finishing n) e = (Batch, refl)
 kind_there_is tasks.Clearing e = (Reset, refl)
 kind_there_is (tasks.Asking c n) e = (c, refl)
+kind_there_is (tasks.Backing c) e = (c, refl)
+kind_there_is (tasks.Reverting c) e = (c, refl)
 kind_there_is tasks.Reading e = (NextRow, refl)
 kind_there_is tasks.Dropping e = (DropResult, refl)
 kind_there_is tasks.Taking e = (TakeSet, refl)
@@ -73,6 +75,7 @@ asks_not SkipTaken opened e = cc
 asks_not Ping opened e = refl
 asks_not Reset opened e = refl
 asks_not Begin opened e = refl
+asks_not Commit opened e = refl
 asks_not Rollback opened e = refl
 asks_not ForgetTransaction opened e = cc
 asks_not Quit opened e = refl
@@ -114,6 +117,13 @@ closed_tie (tasks.Running n) c opened spot made call older m k e lack t = let sa
 closed_tie (tasks.Finishing n) c opened spot made call older m k e lack t = let same : Batch ≡ c = cc in owned_tie Batch c opened spot made call older m same e lack t
 closed_tie tasks.Clearing c opened spot made call older m k e lack t = let same : Reset ≡ c = cc in owned_tie Reset c opened spot made call older m same e lack t
 closed_tie (tasks.Asking d n) c opened spot made call older m k e lack t = let same : d ≡ c = cc in owned_tie d c opened spot made call older m same e lack t
+closed_tie (tasks.Backing d) c opened spot made call older m k e lack t =
+    let same : d ≡ c = cc in
+    elim t as (λ _. IsTied (m ∷ made) (begun_of spot call older)) [
+      | inl w ↦ owned_tie d c opened spot made call older m same e lack w
+      | inr w ↦ inl (lack, w)
+    ]
+closed_tie (tasks.Reverting d) c opened spot made call older m k e lack t = let same : d ≡ c = cc in owned_tie d c opened spot made call older m same e lack t
 closed_tie tasks.Reading c opened spot made call older m k e lack t = inl (lack, t)
 closed_tie tasks.Dropping c opened spot made call older m k e lack t = inl (lack, t)
 closed_tie tasks.Taking c opened spot made call older m k e lack t = inl (lack, t)
@@ -161,6 +171,7 @@ closes_unmade ToldReady SkipTaken e = refl
 closes_unmade ToldReady Ping e = refl
 closes_unmade ToldReady Reset e = refl
 closes_unmade ToldReady Begin e = refl
+closes_unmade ToldReady Commit e = refl
 closes_unmade ToldReady Rollback e = refl
 closes_unmade ToldReady ForgetTransaction e = refl
 closes_unmade ToldReady Quit e = refl

@@ -14,7 +14,10 @@ use Rattle.my_reading.specs.Calls.{call_of, opts_in, text_in, lists_in, statemen
 use Rattle.my_reading.specs.Commands.{closing, command_of, connecting, execution, queried}
 use Rattle.my_reading.specs.Facts.{prepared_by}
 use Rattle.my_reading.specs.Statements.{held_in, is_mixed_text, leaving, query_of}
-use Rattle.my_reading.specs.Errors.{invalid_data, unexpected_eof}
+use Rattle.my_reading.specs.declared.error.ServerError.{ServerError}
+use Rattle.my_reading.specs.declared.transaction.Trial.{Trial}
+use Rattle.my_reading.specs.declared.transaction.Trial.TheVariants as trials
+use Rattle.my_reading.specs.Errors.{invalid_data, server_error, unexpected_eof}
 use Rattle.my_reading.specs.Rows.{row_at}
 use Rattle.my_reading.specs.Transactions.{begin_refusal, is_given_up, rollback_text}
 use Rattle.my_reading.specs.Versions.{can_reset}
@@ -28,9 +31,9 @@ use Rattle.my_session.specs.declared.reactions.Reaction.{Reaction}
 use Rattle.my_session.specs.declared.reactions.Reaction.TheVariants as reactions
 use Rattle.my_session.specs.declared.task.LinkFault.{LinkFault}
 use Rattle.my_session.specs.declared.task.Task.{Task}
-use Rattle.my_session.specs.declared.task.Task.TheVariants.{Nothing, Cleaning, Undoing, Own, Giving, Arranging, Running, Asking}
+use Rattle.my_session.specs.declared.task.Task.TheVariants.{Nothing, Cleaning, Undoing, Own, Giving, Arranging, Running, Asking, Reverting}
 use Rattle.my_session.specs.Machine as machine
-use Rattle.my_session.specs.Machine.{Move, Sends, Needs, Does, advanced, reply_to, above, unless_above, refused, gave, passed, reacted, read_by, reading, next_terms, unless_exceeds, unless_refused, refusal, is_doubled, looked, with_kept, kept, asked, arranged, offered, undone, queried_by, admitted, planned, when_owed, next_by, next, refused_by, batched, ran}
+use Rattle.my_session.specs.Machine.{Move, Sends, Needs, Does, advanced, reply_to, above, unless_above, refused, refused_by_server, returned, reverted, gave, passed, reacted, read_by, reading, next_terms, unless_exceeds, unless_refused, refusal, is_doubled, looked, with_kept, kept, asked, arranged, offered, undone, queried_by, admitted, planned, when_owed, next_by, next, refused_by, batched, ran}
 use Rattle.my_session.specs.Seen.{Seen}
 use Rattle.my_session.specs.Steps.{Steps, last_tick, moved}
 use Rattle.my_session.specs.Tables.{is_breaking, is_connecting, plan_of, react}
@@ -49,9 +52,14 @@ module _ (s : Seen) where
   refused_if true n few = few
   refused_if false n few = few
 
+  refused_by_fewer : (n : Seen) (trial : Trial) (e : ServerError) → length n.unread ≤ length s.unread → Fewer (refused_by_server s n trial e)
+  refused_by_fewer n trials.Off e few = refused_if (is_connecting s.task) n few
+  refused_by_fewer n trials.On e few = few
+  refused_by_fewer n (trials.Refused first) e few = few
+
   refused_fewer : (n : Seen) (e : Option ErrPacket) → length n.unread ≤ length s.unread → Fewer (refused s n e)
   refused_fewer n None few = omega arith
-  refused_fewer n (Some e) few = refused_if (is_connecting s.task) n few
+  refused_fewer n (Some e) few = refused_by_fewer n s.trial (server_error e) few
 
   gave_fewer : (n : Seen) (row : Option RowParts) → length n.unread ≤ length s.unread → Fewer (gave s n row)
   gave_fewer n None few = omega arith
@@ -136,6 +144,15 @@ module _ (s : Seen) where
   undone_fewer c true = begins_if s (Undoing c) (queried (next_terms s) rollback_text) _ (omega arith)
   undone_fewer c false = omega arith
 
+  reverted_fewer : (c : CallKind) (b : Bool) → Fewer (reverted s c b)
+  reverted_fewer c true = begins_if s (Reverting c) (queried (next_terms s) rollback_text) _ (omega arith)
+  reverted_fewer c false = omega arith
+
+  returned_fewer : (trial : Trial) → Fewer (returned s trial)
+  returned_fewer trials.Off = omega arith
+  returned_fewer trials.On = omega arith
+  returned_fewer (trials.Refused first) = omega arith
+
   looked_fewer : (mixed : Bool) (o : Option Held) → Fewer (looked s mixed o)
   looked_fewer true o = omega arith
   looked_fewer false None = omega arith
@@ -161,6 +178,9 @@ module _ (s : Seen) where
   plan_fewer (plans.Undoes c) = undone_fewer c (is_given_up s.status)
   plan_fewer (plans.Settles c) = omega arith
   plan_fewer plans.Admits = admitted_fewer (begin_refusal (opts_in s.call) (version_of s.facts.version) s.status)
+  plan_fewer plans.Tries = omega arith
+  plan_fewer (plans.Reverts c) = reverted_fewer c (is_given_up s.status)
+  plan_fewer plans.Returns = returned_fewer s.trial
   plan_fewer plans.GivesUp = omega arith
   plan_fewer plans.Forsakes = omega arith
   plan_fewer (plans.Asks c) = unless_refused_fewer (refusal c s.call) (asked s (Own c) (command_of (next_terms s) s.statements (call_of c s.call))) (asked_fewer (Own c) (command_of (next_terms s) s.statements (call_of c s.call)))

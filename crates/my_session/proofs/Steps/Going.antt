@@ -27,10 +27,10 @@ use Rattle.my_reading.specs.Facts.{prepared_by}
 use Rattle.my_reading.specs.Statements.{held_in, is_mixed_text, known_in, leaving, query_of}
 use Rattle.my_grammar.proofs.Cutting.Fronts.{takes_whole}
 use Rattle.my_reading.specs.declared.call.CallKind.{CallKind}
-use Rattle.my_reading.specs.declared.call.CallKind.TheVariants.{Connect, Query, Prepare, Execute, Batch, CloseStmt, NextRow, DropResult, TakeSet, SkipTaken, Ping, Reset, Begin, Rollback, ForgetTransaction, Quit}
+use Rattle.my_reading.specs.declared.call.CallKind.TheVariants.{Connect, Query, Prepare, Execute, Batch, CloseStmt, NextRow, DropResult, TakeSet, SkipTaken, Ping, Reset, Begin, Commit, Rollback, ForgetTransaction, Quit}
 use Rattle.my_session.specs.declared.task.LinkFault.{LinkFault}
 use Rattle.my_session.specs.declared.task.Task.{Task}
-use Rattle.my_session.specs.declared.task.Task.TheVariants.{Nothing, Begun, Cleaning, Undoing, Cleaned, Own, Giving, Arranging, Running, Finishing, Clearing, Asking, Reading, Dropping, Taking, Skipping, Leaving, Failing}
+use Rattle.my_session.specs.declared.task.Task.TheVariants.{Nothing, Begun, Cleaning, Undoing, Cleaned, Own, Giving, Arranging, Running, Finishing, Clearing, Asking, Backing, Reverting, Reading, Dropping, Taking, Skipping, Leaving, Failing}
 use Rattle.my_reading.specs.declared.error.Error.{Error}
 use Rattle.my_reading.specs.declared.error.Error.TheVariants as errors
 use Rattle.my_session.specs.declared.tables.Plan.{Plan}
@@ -42,9 +42,13 @@ use Rattle.my_session.specs.declared.answer.Tick.TheVariants as ticks
 use Rattle.my_reading.specs.Calls.{call_of, id_in, is_quit, opts_in, params_in, statement_in, text_in, lists_in}
 use Rattle.my_session.specs.Tasks.{is_open, fault_in}
 use Rattle.my_reading.specs.Commands.{arranging, arranging_texts, closing, command_of, execution, queried}
-use Rattle.my_reading.specs.Errors.{invalid_data, unexpected_eof}
+use Rattle.my_reading.specs.declared.error.ServerError.{ServerError}
+use Rattle.my_reading.specs.declared.transaction.Trial.{Trial}
+use Rattle.my_reading.specs.declared.transaction.Trial.TheVariants as trials
+use Rattle.my_reading.specs.declared.transaction.TxStatus.TheVariants as txs
+use Rattle.my_reading.specs.Errors.{invalid_data, server_error, unexpected_eof}
 use Rattle.my_session.specs.Machine as machine
-use Rattle.my_session.specs.Machine.{Move, Doing, Goes, Sends, Needs, Tells, Did, Does, FaultIs, fell, with_task, advanced, reply_to, above, unless_above, refused, gave, passed, reacted, read_by, read_kind, reading, next_terms, unless_exceeds, unless_refused, refusal, is_doubled, looked, with_kept, kept, asked, arranged, offered, begins, undone, queried_by, admitted, planned, when_owed, next_by, next, doing, refused_by, batched, ran}
+use Rattle.my_session.specs.Machine.{Move, Doing, Goes, Sends, Needs, Tells, Did, Does, FaultIs, fell, with_status, with_task, with_trial, advanced, reply_to, above, unless_above, backing, refused, refused_by_server, returned, reverted, gave, passed, reacted, read_by, read_kind, reading, next_terms, unless_exceeds, unless_refused, refusal, is_doubled, looked, with_kept, kept, asked, arranged, offered, begins, undone, queried_by, admitted, planned, when_owed, next_by, next, doing, refused_by, batched, ran}
 use Rattle.my_reading.specs.Rows.{row_at}
 use Rattle.my_reading.specs.Transactions.{begin_refusal, is_given_up, rollback_text}
 use Rattle.my_reading.specs.Versions.{can_reset}
@@ -54,6 +58,7 @@ use Rattle.my_session.specs.Seen.{Seen}
 use Rattle.my_session.specs.Steps.{rank, left_to_do, TickIs}
 use Rattle.my_session.specs.Tables.{plan_of, react, react_whole, react_connect, react_own, react_single, is_breaking, is_connecting, first_plan, clean_plan, own_plan, query_plan, execute_plan, prepare_plan, read_plan, drop_plan, take_plan, skip_plan, ask_plan, run_plan, react_head}
 use Rattle.my_params.specs.declared.params.Params.{Params}
+use Rattle.my_session.proofs.Stands.Ties.{kind_there_is}
 
 -- what a move leaves
 abbrev pub MoveIs : Seen → Seen → Doing → Type 0
@@ -138,6 +143,7 @@ own_goes SkipTaken k = tt
 own_goes Ping k = single_goes (reactions.Readies false) k tt
 own_goes Reset k = single_goes (reactions.Goes Clearing) k (refl, omega arith)
 own_goes Begin k = tt
+own_goes Commit k = tt
 own_goes Rollback k = tt
 own_goes ForgetTransaction k = tt
 own_goes Quit k = tt
@@ -155,6 +161,8 @@ react_goes (Running n) k = head_goes (reactions.Goes (Finishing n)) (Running n) 
 react_goes (Finishing n) k = whole_goes (Finishing n) refl (omega arith) k
 react_goes Clearing k = tt
 react_goes (Asking c n) k = whole_goes (Asking c n) refl (omega arith) k
+react_goes (Backing c) k = tt
+react_goes (Reverting c) k = whole_goes (Reverting c) refl (omega arith) k
 react_goes Reading (kinds.Greets n) = tt
 react_goes Reading (kinds.Good status) = tt
 react_goes Reading kinds.Failed = tt
@@ -208,6 +216,8 @@ rank_false (Running n) untold = omega arith
 rank_false (Finishing n) untold = omega arith
 rank_false Clearing untold = omega arith
 rank_false (Asking c n) untold = omega arith
+rank_false (Backing c) untold = omega arith
+rank_false (Reverting c) untold = omega arith
 rank_false Reading untold = omega arith
 rank_false Dropping untold = omega arith
 rank_false Taking untold = omega arith
@@ -225,9 +235,17 @@ fell_or : (b : Bool) (n : Seen) → (cond b (fell n) (with_task n Nothing n.unto
 fell_or true n = refl
 fell_or false n = refl
 
-refused_is : (s n : Seen) (e : Option ErrPacket) → MoveIs s (refused s n e).seen (refused s n e).does
-refused_is s n None = refl
-refused_is s n (Some e) = fell_or (is_connecting s.task) n
+refused_by_is : (s n : Seen) (trial : Trial) (e : ServerError) → is_open s.task ≡ true → IsPassedOn s n → MoveIs s (refused_by_server s n trial e).seen (refused_by_server s n trial e).does
+refused_by_is s n trials.Off e op b = fell_or (is_connecting s.task) n
+refused_by_is s n trials.On e op b =
+    let less = b.less in
+    let c = kind_there_is s.task op in
+    subst (λ (o : Option CallKind). MoveIs s (with_trial (with_status (with_task n (backing o) n.untold) txs.RequiresRollback) (trials.Refused e)) Goes) (sym c.1) (refl, omega (arith, less))
+refused_by_is s n (trials.Refused first) e op b = refl
+
+refused_is : (s n : Seen) (e : Option ErrPacket) → is_open s.task ≡ true → IsPassedOn s n → MoveIs s (refused s n e).seen (refused s n e).does
+refused_is s n None op b = refl
+refused_is s n (Some e) op b = refused_by_is s n s.trial (server_error e) op b
 
 gave_is : (s n : Seen) (row : Option RowParts) → MoveIs s (gave s n row).seen (gave s n row).does
 gave_is s n None = refl
@@ -256,7 +274,7 @@ reacted_is s n p reactions.Gives op b g = gave_is s n (row_at s.context.rows s.f
 reacted_is s n p reactions.Ends op b g = refl
 reacted_is s n p reactions.PassesRow op b g = passed_is s n (row_at s.context.rows s.facts.columns p) op b
 reacted_is s n p reactions.PassesEnd op b g = same_task s n op b
-reacted_is s n p reactions.Refuses op b g = refused_is s n _
+reacted_is s n p reactions.Refuses op b g = refused_is s n _ op b
 reacted_is s n p reactions.Breaks op b g = refl
 
 unless_is : (s : Seen) (len : Option ℕ) (m : Move) → MoveIs s m.seen m.does → MoveIs s (unless_above s len m).seen (unless_above s len m).does
@@ -293,6 +311,8 @@ FitsTask t untold plans.Clears = rank (Asking Reset 0) untold < rank t untold
 FitsTask t untold plans.GivesUp = rank (Cleaning Rollback) untold < rank t untold
 FitsTask t untold (plans.Undoes c) = rank (Cleaned c) untold < rank t untold
 FitsTask t untold (plans.Settles c) = rank (Cleaned c) untold < rank t untold
+FitsTask t untold plans.Tries = rank (Cleaning Commit) untold < rank t untold
+FitsTask t untold (plans.Reverts c) = rank (Reverting c) untold < rank t untold
 FitsTask t untold plans.Keeps = rank Giving false < rank t untold
 FitsTask t untold p = Unit {0}
 
@@ -336,6 +356,7 @@ asked_is s SkipTaken call none = refl
 asked_is s Ping call none = begins_if s s (Own Ping) (Asked (next_terms s) (packet_bytes packets.Ping)) _ none refl (some_bytes (packet_bytes packets.Ping) 0)
 asked_is s Reset call none = begins_if s s (Own Reset) (Asked (next_terms s) (packet_bytes packets.ResetConnection)) _ none refl (some_bytes (packet_bytes packets.ResetConnection) 0)
 asked_is s Begin call none = refl
+asked_is s Commit call none = refl
 asked_is s Rollback call none = refl
 asked_is s ForgetTransaction call none = refl
 asked_is s Quit call none = begins_if s s (Own Quit) (Silent (next_terms s) (packet_bytes packets.Quit)) _ none refl (some_bytes (packet_bytes packets.Quit) 0)
@@ -379,6 +400,15 @@ undone_is : (s : Seen) (c : CallKind) (b : Bool) → s.owed ≡ [] → rank (Cle
 undone_is s c true none less = query_is s (Undoing c) rollback_text none refl
 undone_is s c false none less = (refl, omega (arith, less))
 
+reverted_is : (s : Seen) (c : CallKind) (b : Bool) → s.owed ≡ [] → rank (Reverting c) s.untold < rank s.task s.untold → MoveIs s (reverted s c b).seen (reverted s c b).does
+reverted_is s c true none less = query_is s (Reverting c) rollback_text none refl
+reverted_is s c false none less = (refl, omega (arith, less))
+
+returned_is : (s : Seen) (trial : Trial) → MoveIs s (returned s trial).seen (returned s trial).does
+returned_is s trials.Off = refl
+returned_is s trials.On = refl
+returned_is s (trials.Refused first) = refl
+
 looked_is : (s : Seen) (mixed : Bool) (o : Option Held) → rank (Cleaning Prepare) s.untold < rank s.task s.untold → MoveIs s (looked s mixed o).seen (looked s mixed o).does
 looked_is s true o less = refl
 looked_is s false None less = (refl, omega arith)
@@ -404,6 +434,9 @@ plan_is s (plans.Queries c n) op none f = queried_is s c n (slice_get (queries_o
 plan_is s (plans.Undoes c) op none f = undone_is s c (is_given_up s.status) none f
 plan_is s (plans.Settles c) op none f = (refl, omega (arith, f))
 plan_is s plans.Admits op none f = admitted_is s (begin_refusal (opts_in s.call) (version_of s.facts.version) s.status) none
+plan_is s plans.Tries op none f = (refl, omega (arith, f))
+plan_is s (plans.Reverts c) op none f = reverted_is s c (is_given_up s.status) none f
+plan_is s plans.Returns op none f = returned_is s s.trial
 plan_is s plans.GivesUp op none f = (refl, omega (arith, f))
 plan_is s plans.Forsakes op none f = refl
 plan_is s (plans.Asks c) op none f = unless_refused_is s (refusal c s.call) (asked s (Own c) (command_of (next_terms s) s.statements (call_of c s.call))) (asked_is s c s.call none)
@@ -462,6 +495,7 @@ first_fits SkipTaken untold = (refl, rank_skipping untold)
 first_fits Ping untold = (refl, rank_cleaning Ping untold)
 first_fits Reset untold = rank_cleaning Reset untold
 first_fits Begin untold = (refl, rank_cleaning Begin untold)
+first_fits Commit untold = rank_cleaning Commit untold
 first_fits Rollback untold = rank_cleaning Rollback untold
 first_fits ForgetTransaction untold = tt
 first_fits Quit untold = (refl, rank_cleaning Quit untold)
@@ -528,6 +562,7 @@ own_fits SkipTaken spot untold = tt
 own_fits Ping spot untold = tt
 own_fits Reset spot untold = tt
 own_fits Begin spot untold = tt
+own_fits Commit spot untold = tt
 own_fits Rollback spot untold = tt
 own_fits ForgetTransaction spot untold = tt
 own_fits Quit spot untold = tt
@@ -610,6 +645,7 @@ ask_fits t SkipTaken untold = tt
 ask_fits t Ping untold = tt
 ask_fits t Reset untold = tt
 ask_fits t Begin untold = tt
+ask_fits t Commit untold = tt
 ask_fits t Rollback untold = tt
 ask_fits t ForgetTransaction untold = tt
 ask_fits t Quit untold = tt
@@ -621,6 +657,10 @@ rank_finishing n false = omega arith
 rank_asking : (c : CallKind) (n : ℕ) (untold : Bool) → rank (Asking c n) untold < 2
 rank_asking c n true = omega arith
 rank_asking c n false = omega arith
+
+rank_reverting : (c : CallKind) (untold : Bool) → rank (Reverting c) untold < 3
+rank_reverting c true = omega arith
+rank_reverting c false = omega arith
 
 run_fits : (n : ℕ) (spot : Spot) (untold : Bool) → FitsTask (Running n) untold (run_plan n spot)
 run_fits n spots.Idle untold = tt
@@ -655,6 +695,8 @@ plan_fits (Running n) spot untold = run_fits n spot untold
 plan_fits (Finishing n) spot untold = cleaning_fits (Finishing n) (plans.Runs n) (omega arith) tt spot untold
 plan_fits Clearing spot untold = rank_asking Reset 0 untold
 plan_fits (Asking c n) spot untold = cleaning_fits (Asking c n) (plans.Queries c n) (omega arith) tt spot untold
+plan_fits (Backing c) spot untold = rank_reverting c untold
+plan_fits (Reverting c) spot untold = cleaning_fits (Reverting c) plans.Returns (omega arith) tt spot untold
 plan_fits Reading spot true = tt
 plan_fits Reading spot false = read_fits spot
 plan_fits Dropping spot true = omega arith

@@ -10,10 +10,10 @@ use Rattle.my_grammar.specs.declared.spot.Kind.TheVariants as kinds
 use Rattle.my_grammar.specs.Kinds.{kind_there}
 use Rattle.my_grammar.specs.Talk.{Talk}
 use Rattle.my_reading.specs.declared.call.CallKind.{CallKind}
-use Rattle.my_reading.specs.declared.call.CallKind.TheVariants.{Connect, Query, Prepare, Execute, Batch, CloseStmt, NextRow, DropResult, TakeSet, SkipTaken, Ping, Reset, Begin, Rollback, ForgetTransaction, Quit}
+use Rattle.my_reading.specs.declared.call.CallKind.TheVariants.{Connect, Query, Prepare, Execute, Batch, CloseStmt, NextRow, DropResult, TakeSet, SkipTaken, Ping, Reset, Begin, Commit, Rollback, ForgetTransaction, Quit}
 use Rattle.my_session.specs.declared.task.LinkFault.{LinkFault}
 use Rattle.my_session.specs.declared.task.Task.{Task}
-use Rattle.my_session.specs.declared.task.Task.TheVariants.{Nothing, Begun, Cleaning, Undoing, Cleaned, Own, Giving, Arranging, Running, Finishing, Clearing, Asking, Reading, Dropping, Taking, Skipping, Leaving, Failing}
+use Rattle.my_session.specs.declared.task.Task.TheVariants.{Nothing, Begun, Cleaning, Undoing, Cleaned, Own, Giving, Arranging, Running, Finishing, Clearing, Asking, Backing, Reverting, Reading, Dropping, Taking, Skipping, Leaving, Failing}
 use Rattle.my_session.specs.declared.tables.Plan.{Plan}
 use Rattle.my_session.specs.declared.tables.Plan.TheVariants as plans
 use Rattle.my_session.specs.declared.reactions.Reaction.{Reaction}
@@ -29,9 +29,12 @@ use Rattle.my_reading.specs.Calls.{call_of, is_quit, opts_in, text_in, lists_in,
 use Rattle.my_reading.specs.Commands.{closing, command_of, connecting, execution, queried}
 use Rattle.my_reading.specs.Facts.{prepared_by}
 use Rattle.my_reading.specs.Statements.{held_in, is_mixed_text, leaving, query_of}
-use Rattle.my_reading.specs.Errors.{invalid_data, unexpected_eof}
+use Rattle.my_reading.specs.declared.error.ServerError.{ServerError}
+use Rattle.my_reading.specs.declared.transaction.Trial.{Trial}
+use Rattle.my_reading.specs.declared.transaction.Trial.TheVariants as trials
+use Rattle.my_reading.specs.Errors.{invalid_data, server_error, unexpected_eof}
 use Rattle.my_session.specs.Machine as machine
-use Rattle.my_session.specs.Machine.{Move, Doing, Goes, Sends, Needs, Tells, Did, Does, FaultIs, advanced, reply_to, above, unless_above, refused, gave, passed, reacted, read_by, reading, next_terms, unless_exceeds, unless_refused, refusal, is_doubled, looked, with_kept, kept, asked, arranged, offered, undone, queried_by, admitted, planned, when_owed, next_by, next, doing, refused_by, batched, ran}
+use Rattle.my_session.specs.Machine.{Move, Doing, Goes, Sends, Needs, Tells, Did, Does, FaultIs, advanced, reply_to, above, unless_above, backing, refused, refused_by_server, returned, reverted, gave, passed, reacted, read_by, reading, next_terms, unless_exceeds, unless_refused, refusal, is_doubled, looked, with_kept, kept, asked, arranged, offered, undone, queried_by, admitted, planned, when_owed, next_by, next, doing, refused_by, batched, ran}
 use Rattle.my_session.specs.Passed.{IsItem, is_passing}
 use Rattle.my_reading.specs.Rows.{row_at}
 use Rattle.my_reading.specs.Transactions.{begin_refusal, is_given_up, rollback_text}
@@ -130,6 +133,7 @@ own_stays SkipTaken k = tt
 own_stays Ping k = single_stays (Some Ping) (reactions.Readies false) k tt
 own_stays Reset k = single_stays (Some Reset) (reactions.Goes Clearing) k (refl, refl)
 own_stays Begin k = tt
+own_stays Commit k = tt
 own_stays Rollback k = tt
 own_stays ForgetTransaction k = tt
 own_stays Quit k = tt
@@ -147,6 +151,8 @@ react_stays (Running n) k = head_stays (reactions.Goes (Finishing n)) (Running n
 react_stays (Finishing n) k = whole_stays (Finishing n) refl k
 react_stays Clearing k = tt
 react_stays (Asking c n) k = whole_stays (Asking c n) refl k
+react_stays (Backing c) k = tt
+react_stays (Reverting c) k = whole_stays (Reverting c) refl k
 react_stays Reading (kinds.Greets n) = tt
 react_stays Reading (kinds.Good status) = tt
 react_stays Reading kinds.Failed = tt
@@ -202,6 +208,8 @@ Suits kind plans.Keeps = Some Prepare ≡ kind
 Suits kind plans.GivesUp = Some Rollback ≡ kind
 Suits kind (plans.Undoes c) = Some c ≡ kind
 Suits kind (plans.Settles c) = Some c ≡ kind
+Suits kind plans.Tries = Some Commit ≡ kind
+Suits kind (plans.Reverts c) = Some c ≡ kind
 Suits kind p = Unit {0}
 
 first_suits : (c : CallKind) → Suits (Some c) (first_plan c)
@@ -218,6 +226,7 @@ first_suits SkipTaken = (refl, refl)
 first_suits Ping = (refl, refl)
 first_suits Reset = refl
 first_suits Begin = (refl, refl)
+first_suits Commit = refl
 first_suits Rollback = refl
 first_suits ForgetTransaction = tt
 first_suits Quit = (refl, refl)
@@ -301,6 +310,7 @@ own_suits SkipTaken spot = tt
 own_suits Ping spot = tt
 own_suits Reset spot = tt
 own_suits Begin spot = tt
+own_suits Commit spot = tt
 own_suits Rollback spot = tt
 own_suits ForgetTransaction spot = tt
 own_suits Quit spot = tt
@@ -383,6 +393,7 @@ ask_suits SkipTaken = tt
 ask_suits Ping = tt
 ask_suits Reset = tt
 ask_suits Begin = tt
+ask_suits Commit = tt
 ask_suits Rollback = tt
 ask_suits ForgetTransaction = tt
 ask_suits Quit = tt
@@ -420,6 +431,8 @@ plan_suits (Running n) spot untold = run_suits n spot
 plan_suits (Finishing n) spot untold = cleaning_suits (Some Batch) (plans.Runs n) tt spot untold
 plan_suits Clearing spot untold = refl
 plan_suits (Asking c n) spot untold = cleaning_suits (Some c) (plans.Queries c n) tt spot untold
+plan_suits (Backing c) spot untold = refl
+plan_suits (Reverting c) spot untold = cleaning_suits (Some c) plans.Returns tt spot untold
 plan_suits Reading spot true = tt
 plan_suits Reading spot false = read_suits spot
 plan_suits Dropping spot true = refl
@@ -431,6 +444,11 @@ plan_suits Skipping spot false = skip_suits spot
 plan_suits (Leaving c) spot untold = leaving_suits (Some c) (is_quit c)
 plan_suits (Failing c fault) spot untold = tt
 
+-- a call whose transaction couldn't be committed is the same
+backing_stays : (kind : Option CallKind) → (kind_in (backing kind) ≡ kind) × (fault_in (backing kind) ≡ None)
+backing_stays None = (refl, refl)
+backing_stays (Some c) = (refl, refl)
+
 module _ (s : Seen) (sound : fault_in s.task ≡ None) where
   -- the move stays with the open call, and with the login
   abbrev Stays : Move → Type 0
@@ -440,9 +458,14 @@ module _ (s : Seen) (sound : fault_in s.task ≡ None) where
   refused_if true n same = same
   refused_if false n same = same
 
+  refused_by_stays : (n : Seen) (trial : Trial) (e : ServerError) → n.login ≡ s.login → Stays (refused_by_server s n trial e)
+  refused_by_stays n trials.Off e same = (tt, refused_if (is_connecting s.task) n same)
+  refused_by_stays n trials.On e same = (backing_stays (kind_in s.task), same)
+  refused_by_stays n (trials.Refused first) e same = (tt, same)
+
   refused_stays : (n : Seen) (e : Option ErrPacket) → n.login ≡ s.login → Stays (refused s n e)
   refused_stays n None same = (tt, refl)
-  refused_stays n (Some e) same = (tt, refused_if (is_connecting s.task) n same)
+  refused_stays n (Some e) same = refused_by_stays n s.trial (server_error e) same
 
   gave_stays : (n : Seen) (row : Option RowParts) → n.login ≡ s.login → Stays (gave s n row)
   gave_stays n None same = (tt, refl)
@@ -530,6 +553,15 @@ module _ (s : Seen) (sound : fault_in s.task ≡ None) where
   undone_stays c true i = begins_if s (Undoing c) (queried (next_terms s) rollback_text) _ refl
   undone_stays c false i = ((i, refl), refl)
 
+  reverted_stays : (c : CallKind) (b : Bool) → Some c ≡ kind_in s.task → Stays (reverted s c b)
+  reverted_stays c true i = begins_if s (Reverting c) (queried (next_terms s) rollback_text) _ refl
+  reverted_stays c false i = ((i, refl), refl)
+
+  returned_stays : (trial : Trial) → Stays (returned s trial)
+  returned_stays trials.Off = (tt, refl)
+  returned_stays trials.On = (tt, refl)
+  returned_stays (trials.Refused first) = (tt, refl)
+
   looked_stays : (mixed : Bool) (o : Option Held) → Some Prepare ≡ kind_in s.task → Stays (looked s mixed o)
   looked_stays true o i = (tt, refl)
   looked_stays false None i = ((i, refl), refl)
@@ -555,6 +587,9 @@ module _ (s : Seen) (sound : fault_in s.task ≡ None) where
   plan_stays (plans.Undoes c) i = undone_stays c (is_given_up s.status) i
   plan_stays (plans.Settles c) i = ((i, refl), refl)
   plan_stays plans.Admits i = admitted_stays (begin_refusal (opts_in s.call) (version_of s.facts.version) s.status)
+  plan_stays plans.Tries i = ((i, refl), refl)
+  plan_stays (plans.Reverts c) i = reverted_stays c (is_given_up s.status) i
+  plan_stays plans.Returns i = returned_stays s.trial
   plan_stays plans.GivesUp i = ((i, refl), refl)
   plan_stays plans.Forsakes i = (tt, refl)
   plan_stays (plans.Asks c) i = unless_refused_stays (refusal c s.call) (asked s (Own c) (command_of (next_terms s) s.statements (call_of c s.call))) (asked_stays (Own c) (command_of (next_terms s) s.statements (call_of c s.call)))

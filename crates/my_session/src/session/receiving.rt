@@ -9,7 +9,6 @@ use super::Session;
 use super::payload::{FoundPayload, find_payload};
 use crate::answer::Tick;
 use crate::reactions::{Reaction, is_breaking, react_to};
-use crate::tables::is_connecting;
 use crate::task::Task;
 use my_frame::{Blob, CodecError, CodecFault, NoMemory, ReadError, Text};
 use my_grammar::{Kind, Spot, kind_at, login_response};
@@ -195,27 +194,22 @@ impl Session {
         }
     }
 
-    // The server's error ends the call, and a session that isn't connected.
+    // The server's error ends the call, perhaps after a ROLLBACK.
     fn end_refused(&mut self, alloc: Global, arrival: &Arrival, packet: ErrPacket) -> Tick
         requires { IsArrival self.old.seen arrival.now }
         ensures does { let s = self.old.seen in
             Does (refused s (following s arrival.now) (Some packet)) s self.new.seen result }
         ensures lifetime { self.new.lifetime ≡ self.old.lifetime }
     {
-        let connecting = is_connecting(self.task);
         let error = match server_error(alloc, packet) {
-            Ok(error) => Error::Server(error),
+            Ok(error) => error,
             Err(NoMemory) => return self.fault(Error::NoMemory),
         };
         if self.advance(alloc, arrival).is_err() {
             drop(error);
             return self.fault(Error::NoMemory);
         }
-        if connecting {
-            return self.fault(error);
-        }
-        self.task = Task::Nothing;
-        Tick::Fault(error)
+        self.end_by(error)
     }
 
     fn refuse(&mut self, alloc: Global, arrival: &Arrival) -> Tick

@@ -282,6 +282,7 @@ impl Session {
             | CallKind::TakeSet
             | CallKind::SkipTaken
             | CallKind::Begin
+            | CallKind::Commit
             | CallKind::Rollback
             | CallKind::ForgetTransaction => self.answer(Answer::NoSet),
         }

@@ -29,6 +29,8 @@ fn fault_in(task: Task) -> Option<LinkFault>
         | Task::Finishing(_)
         | Task::Clearing
         | Task::Asking(_, _)
+        | Task::Backing(_)
+        | Task::Reverting(_)
         | Task::Reading
         | Task::Dropping
         | Task::Taking
@@ -118,6 +120,9 @@ impl Session {
             Plan::Settles(call) => self.settle(call),
             Plan::Admits => self.admit(alloc),
             Plan::Queries(call, sent) => self.ask_next(alloc, call, sent),
+            Plan::Tries => self.attempt(),
+            Plan::Reverts(call) => self.revert(alloc, call),
+            Plan::Returns => self.return_refusal(),
             Plan::GivesUp => self.give_up(),
             Plan::Forsakes => self.forsake(),
             Plan::Learns => self.learn_columns(),
