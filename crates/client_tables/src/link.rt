@@ -52,6 +52,7 @@ fn transaction_piece(letter: u8) -> &'static [u8] {
         b'V' => b"\x2d\x00\x00\x00\x03SET TRANSACTION ISOLATION LEVEL SERIALIZABLE",
         b'C' => b"\x1a\x00\x00\x00\x03SET TRANSACTION READ ONLY",
         b'S' => b"\x2b\x00\x00\x00\x03START TRANSACTION WITH CONSISTENT SNAPSHOT",
+        b'M' => b"\x07\x00\x00\x00\x03COMMIT",
         b'U' => b"\x09\x00\x00\x00\x03ROLLBACK",
         _ => b"",
     }

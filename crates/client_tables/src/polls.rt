@@ -177,6 +177,7 @@ fn poll_idle<L: Link>(
         b'R' => letter(play(alloc, conn, ResetCall::new(), polls)),
         b'O' => letter(play(alloc, conn, TxCall::start(TxOpts::new()), polls)),
         b'I' => letter(play(alloc, conn, TxCall::start(every_option()), polls)),
+        b'J' => letter(play(alloc, conn, TxCall::commit(), polls)),
         b'K' => letter(play(alloc, conn, TxCall::rollback(), polls)),
         b'u' => letter(play(alloc, conn, QuitCall::new(), polls)),
         _ => poll_held(alloc, conn, held, step, polls),

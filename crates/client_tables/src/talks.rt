@@ -26,7 +26,7 @@ use std::test::Fail;
 // `d` a drop of the result, `p` a ping, `R` a reset, `u` a quit, `c` a check; `i` the facts of the last OK, `v` those of the server and
 // the options, `l` the connection's life, `h` a short one, `t` the tape is taken; `y` whether something is unread or there is a
 // transaction, `m` the moment of the last payload, `f` what a pool tells the connection.
-// Of transactions: `O` begins one, `I` one with every option; `K` rolls it back, `F` gives it up.
+// Of transactions: `O` begins one, `I` one with every option; `J` commits it, `K` rolls it back, `F` gives it up.
 // Of prepared statements: `P` prepares one with a name, which is held from then on, `M` one of a text with a name and a mark; `X`
 // executes the one that is held, with 42, `Z` without its value; `B` executes it with 42 twice, `T` first with 42 and then without its
 // value, `N` for no list; `Y` closes it; `o` whether the columns of its rows are known.
@@ -115,6 +115,13 @@ Htkto aIp 111 kOk lp Hko kek
 gtktoto aOyFyKy 1111111 kkykykn lBU gkoo kkkk
 gtktotetoto aOFpyp 111111 kkkSyk lBUUp gkoeoo kkkek
 gtktotetoto aOKyp 11111 kkSyk lBUUp gkoeoo kkek
+gtktoto aOJy 1111 kkkn lBM gkoo kkk
+gtktotetoto aOJyp 11111 kkSnk lBMUp gkoeoo kkek
+gtktotetetoto aOJyp 11111 kkSyk lBMUUp gkoeeoo kkek
+gtktotetz aOJp 1111 kkUC lBMU gkoe kkee
+gtktotetw aOJp 1111 kk.C lBMU gkoe kkXe
+gtktotw aOJp 1111 kk.C lBM gko kkXe
+gtktot12379toto aOqJp 11111 kkkSk lBqUp gko12379oo kkkek
 gtktot1234to aOqK 1111 kkkk lBqU gko1234o kkkk
 gtktototo aORyOp 111111 kkkyTk lBRp gkooo kkkek
 gtkth2jtotot12b4to aPOFB 11111 kskkk laBUxx gkh2joo12b4o kkkkk

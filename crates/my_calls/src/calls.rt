@@ -156,6 +156,13 @@ impl CallState<Transact, ()> {
         CallState::first(Call::Begin(opts))
     }
 
+    /// The transaction is committed. Where the server answers with an error, it is rolled back before that error is returned.
+    pub fn commit() -> TxCall
+        ensures { result ≡ first_state calls.Commit }
+    {
+        CallState::first(Call::Commit)
+    }
+
     /// The transaction is rolled back. Where there is none, the server is asked all the same.
     pub fn rollback() -> TxCall
         ensures { result ≡ first_state calls.Rollback }

@@ -9,7 +9,7 @@ use Rattle.my_grammar.specs.declared.login.Login.{Login}
 use Rattle.my_reading.specs.declared.call.Call.{Call}
 use Rattle.my_reading.specs.declared.call.Call.TheVariants as calls
 use Rattle.my_reading.specs.declared.call.CallKind.{CallKind}
-use Rattle.my_reading.specs.declared.call.CallKind.TheVariants.{Connect, Query, Prepare, Execute, Batch, CloseStmt, NextRow, DropResult, TakeSet, SkipTaken, Ping, Reset, Begin, Rollback, ForgetTransaction, Quit}
+use Rattle.my_reading.specs.declared.call.CallKind.TheVariants.{Connect, Query, Prepare, Execute, Batch, CloseStmt, NextRow, DropResult, TakeSet, SkipTaken, Ping, Reset, Begin, Commit, Rollback, ForgetTransaction, Quit}
 use Rattle.my_session.specs.declared.task.LinkFault.{LinkFault}
 use Rattle.my_reading.specs.Calls.{kind_of, call_of}
 use Rattle.my_session.specs.Fits.{may_be}
@@ -69,6 +69,7 @@ answer_counts SkipTaken (Dropped closing) m = refl
 answer_counts Ping t m = refl
 answer_counts Reset t m = refl
 answer_counts Begin t m = refl
+answer_counts Commit t m = refl
 answer_counts Rollback t m = refl
 answer_counts ForgetTransaction t m = refl
 answer_counts Quit t m = refl
@@ -96,6 +97,7 @@ noted_by (Some SkipTaken) carried p t ms e passing i = answers_noted SkipTaken p
 noted_by (Some Ping) carried p t ms e passing i = cc
 noted_by (Some Reset) carried p t ms e passing i = cc
 noted_by (Some Begin) carried p t ms e passing i = cc
+noted_by (Some Commit) carried p t ms e passing i = cc
 noted_by (Some Rollback) carried p t ms e passing i = cc
 noted_by (Some ForgetTransaction) carried p t ms e passing i = cc
 noted_by (Some Quit) carried p t ms e passing i = cc

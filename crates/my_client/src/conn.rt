@@ -143,6 +143,7 @@ pub fn is_connecting<L>(conn: &TapedConn<L>) -> bool
             | Call::Ping
             | Call::Reset
             | Call::Begin(_)
+            | Call::Commit
             | Call::Rollback
             | Call::ForgetTransaction
             | Call::Quit => false,

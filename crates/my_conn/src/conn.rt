@@ -97,6 +97,7 @@ fn lost_answer(kind: CallKind) -> After
         | CallKind::Ping
         | CallKind::Reset
         | CallKind::Begin
+        | CallKind::Commit
         | CallKind::Rollback => After::Failed(Error::Driver(DriverError::ConnectionClosed)),
     }
 }

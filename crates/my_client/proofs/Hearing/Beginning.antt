@@ -5,9 +5,9 @@ use Rattle.my_value.specs.RowParts.{RowParts}
 use Rattle.my_reading.specs.declared.call.Call.{Call}
 use Rattle.my_reading.specs.declared.call.Call.TheVariants as calls
 use Rattle.my_reading.specs.declared.call.CallKind.{CallKind}
-use Rattle.my_reading.specs.declared.call.CallKind.TheVariants.{Connect, Query, Prepare, Execute, Batch, CloseStmt, NextRow, DropResult, TakeSet, SkipTaken, Ping, Reset, Begin, Rollback, ForgetTransaction, Quit}
+use Rattle.my_reading.specs.declared.call.CallKind.TheVariants.{Connect, Query, Prepare, Execute, Batch, CloseStmt, NextRow, DropResult, TakeSet, SkipTaken, Ping, Reset, Begin, Commit, Rollback, ForgetTransaction, Quit}
 use Rattle.my_session.specs.declared.task.Task.{Task}
-use Rattle.my_session.specs.declared.task.Task.TheVariants.{Nothing, Begun, Cleaning, Undoing, Cleaned, Own, Giving, Arranging, Running, Finishing, Clearing, Asking, Reading, Dropping, Taking, Skipping, Leaving, Failing}
+use Rattle.my_session.specs.declared.task.Task.TheVariants.{Nothing, Begun, Cleaning, Undoing, Cleaned, Backing, Reverting, Own, Giving, Arranging, Running, Finishing, Clearing, Asking, Reading, Dropping, Taking, Skipping, Leaving, Failing}
 use Rattle.my_grammar.specs.declared.spot.Spot.{Spot}
 use Rattle.my_reading.specs.Calls.{kind_of, call_of, is_unrefused}
 use Rattle.my_reading.specs.Course.{is_greeting}
@@ -19,7 +19,7 @@ use Rattle.my_session.specs.History.{History, Made, beginning, began, answered, 
 use Rattle.my_session.specs.Seen.{Seen}
 use Rattle.my_session.specs.Entries.{connecting_in, has_connected}
 use Rattle.my_session.specs.Mirror.{BegunStandsAt}
-use Rattle.my_session.specs.Stands.{Stands, BegunAt, TaskIs, call_with}
+use Rattle.my_session.specs.Stands.{is_off, trial_at, Stands, BegunAt, TaskIs, call_with}
 use Rattle.my_session.proofs.Stands.Spots.{settled_not_greeting, settled_reads}
 use Rattle.my_session.specs.Steps.{begun, fresh, is_refused}
 use Rattle.my_client.specs.declared.tape.Said.TheVariants as says
@@ -60,6 +60,7 @@ note_keeps SkipTaken (Dropped closing) n = cc
 note_keeps Ping t n = cc
 note_keeps Reset t n = cc
 note_keeps Begin t n = cc
+note_keeps Commit t n = cc
 note_keeps Rollback t n = cc
 note_keeps ForgetTransaction t n = cc
 note_keeps Quit t n = cc
@@ -88,6 +89,8 @@ open_call (Begun c) carried p None o e f = let no : Some (call_of c carried) ≡
 open_call (Cleaning c) carried p None o e f = let no : Some (call_of c carried) ≡ None = sym e ∙ f in cc
 open_call (Undoing c) carried p None o e f = let no : Some (call_of c carried) ≡ None = sym e ∙ f in cc
 open_call (Cleaned c) carried p None o e f = let no : Some (call_of c carried) ≡ None = sym e ∙ f in cc
+open_call (Backing c) carried p None o e f = let no : Some (call_of c carried) ≡ None = sym e ∙ f in cc
+open_call (Reverting c) carried p None o e f = let no : Some (call_of c carried) ≡ None = sym e ∙ f in cc
 open_call (Own c) carried p None o e f = let no : Some (call_of c carried) ≡ None = sym e ∙ f in cc
 open_call Giving carried p None o e f = let no : Some (call_of Prepare carried) ≡ None = sym e ∙ f in cc
 open_call (Arranging n) carried p None o e f = let no : Some (call_of Connect carried) ≡ None = sym e ∙ f in cc
@@ -112,6 +115,8 @@ no_call (Begun c) carried p (Some a) o e f = cc
 no_call (Cleaning c) carried p (Some a) o e f = cc
 no_call (Undoing c) carried p (Some a) o e f = cc
 no_call (Cleaned c) carried p (Some a) o e f = cc
+no_call (Backing c) carried p (Some a) o e f = cc
+no_call (Reverting c) carried p (Some a) o e f = cc
 no_call (Own c) carried p (Some a) o e f = cc
 no_call Giving carried p (Some a) o e f = cc
 no_call (Arranging n) carried p (Some a) o e f = cc
@@ -146,6 +151,7 @@ begun_stands SkipTaken spot connected p w first = settled_not_greeting spot (set
 begun_stands Ping spot connected p w first = settled_not_greeting spot (settled_reads spot w.1)
 begun_stands Reset spot connected p w first = settled_not_greeting spot (settled_reads spot w.1)
 begun_stands Begin spot connected p w first = settled_not_greeting spot (settled_reads spot w.1)
+begun_stands Commit spot connected p w first = settled_not_greeting spot (settled_reads spot w.1)
 begun_stands Rollback spot connected p w first = settled_not_greeting spot (settled_reads spot w.1)
 begun_stands ForgetTransaction spot connected p w first = settled_not_greeting spot (settled_reads spot w.1)
 begun_stands Quit spot connected p w first = settled_not_greeting spot (settled_reads spot w.1)
@@ -156,6 +162,8 @@ idle_task (Begun c) e = cc
 idle_task (Cleaning c) e = cc
 idle_task (Undoing c) e = cc
 idle_task (Cleaned c) e = cc
+idle_task (Backing c) e = cc
+idle_task (Reverting c) e = cc
 idle_task (Own c) e = cc
 idle_task Giving e = cc
 idle_task (Arranging n) e = cc
@@ -183,7 +191,10 @@ begins_read login s t k call rows idle e h st log w = by_closed s.closed refl
     by_closed : (b : Bool) → s.closed ≡ b → OpenRead login t (asking k call rows) (record { call = call; sent_from = length k.sent; taken_from = length k.taken; rows = rows }) ⊎ UnrefusedRead login t (asking k call rows) (record { call = call; sent_from = length k.sent; taken_from = length k.taken; rows = rows })
     by_closed false c =
         let at = subst (λ (u : Task). TaskIs u t.context.spot t.closed (has_connected h.calls) (connecting_in (st.newest ∷ st.older)) st.newest) (task_is false c) st.heard.at in
-        inl (begin_open login s t k call e log (idle_task s.task idle) w rows c
+        let task = task_is false c in
+        let off : is_off t.trial ≡ true = subst (λ (u : Task). trial_at u t.trial ≡ true) task (st.heard.trying (ap (λ (x : Seen). x.closed) e ∙ c)) in
+        let same : t.trial ≡ s.trial = ap (λ (x : Seen). x.trial) e in
+        inl (begin_open login s t k call e log (idle_task s.task idle) w rows c (ap is_off (sym same) ∙ off)
         (begun_stands (kind_of call) s.context.spot (has_connected h.calls) w.place (subst (λ x. BegunAt (kind_of call) x (has_connected h.calls)) spot_is at) w.at.mirrors.first))
     by_closed true c =
         let at = subst (λ (u : Task). TaskIs u t.context.spot t.closed (has_connected h.calls) (connecting_in (st.newest ∷ st.older)) st.newest) (task_is true c) st.heard.at in

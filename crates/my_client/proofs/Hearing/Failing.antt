@@ -6,7 +6,7 @@ use Rattle.my_reading.specs.declared.call.CallKind.{CallKind}
 use Rattle.my_session.specs.declared.task.LinkFault.{LinkFault}
 use Rattle.my_session.specs.declared.task.LinkFault.TheVariants as faults
 use Rattle.my_session.specs.declared.task.Task.{Task}
-use Rattle.my_session.specs.declared.task.Task.TheVariants.{Nothing, Begun, Cleaning, Undoing, Cleaned, Own, Giving, Arranging, Running, Finishing, Clearing, Asking, Reading, Dropping, Taking, Skipping, Leaving, Failing}
+use Rattle.my_session.specs.declared.task.Task.TheVariants.{Nothing, Begun, Cleaning, Undoing, Cleaned, Backing, Reverting, Own, Giving, Arranging, Running, Finishing, Clearing, Asking, Reading, Dropping, Taking, Skipping, Leaving, Failing}
 use Rattle.my_reading.specs.declared.error.IoError.{IoError}
 use Rattle.my_reading.specs.declared.error.IoError.TheVariants as ios
 use Rattle.my_reading.specs.declared.error.IoKind.{IoKind}
@@ -44,6 +44,8 @@ is_leaving (Begun k) closed c o f a = let no : true ≡ false = sym c ∙ a refl
 is_leaving (Cleaning k) closed c o f a = let no : true ≡ false = sym c ∙ a refl in cc
 is_leaving (Undoing k) closed c o f a = let no : true ≡ false = sym c ∙ a refl in cc
 is_leaving (Cleaned k) closed c o f a = let no : true ≡ false = sym c ∙ a refl in cc
+is_leaving (Backing k) closed c o f a = let no : true ≡ false = sym c ∙ a refl in cc
+is_leaving (Reverting k) closed c o f a = let no : true ≡ false = sym c ∙ a refl in cc
 is_leaving (Own k) closed c o f a = let no : true ≡ false = sym c ∙ a refl in cc
 is_leaving Giving closed c o f a = let no : true ≡ false = sym c ∙ a refl in cc
 is_leaving (Arranging n) closed c o f a = let no : true ≡ false = sym c ∙ a refl in cc
@@ -114,6 +116,8 @@ told_to_fail (Begun c) fault o = refl
 told_to_fail (Cleaning c) fault o = refl
 told_to_fail (Undoing c) fault o = refl
 told_to_fail (Cleaned c) fault o = refl
+told_to_fail (Backing c) fault o = refl
+told_to_fail (Reverting c) fault o = refl
 told_to_fail (Own c) fault o = refl
 told_to_fail Giving fault o = refl
 told_to_fail (Arranging n) fault o = refl

@@ -2,7 +2,7 @@
 use Rattle.std.proofs.Common.{◌≡◌, List, [], ◌∷◌, ◌||◌, Bool, true, false, cond, None, refl, sym, ap, ◌∙◌, subst}
 use Rattle.my_grammar.specs.declared.login.Login.{Login}
 use Rattle.my_reading.specs.declared.call.CallKind.{CallKind}
-use Rattle.my_reading.specs.declared.call.CallKind.TheVariants.{Connect, Query, Prepare, Execute, Batch, CloseStmt, NextRow, DropResult, TakeSet, SkipTaken, Ping, Reset, Begin, Rollback, ForgetTransaction, Quit}
+use Rattle.my_reading.specs.declared.call.CallKind.TheVariants.{Connect, Query, Prepare, Execute, Batch, CloseStmt, NextRow, DropResult, TakeSet, SkipTaken, Ping, Reset, Begin, Commit, Rollback, ForgetTransaction, Quit}
 use Rattle.my_session.specs.declared.task.Task.{Task}
 use Rattle.my_session.specs.declared.task.Task.TheVariants.{Nothing}
 use Rattle.my_reading.specs.Calls.{kind_of, is_connect}
@@ -50,6 +50,7 @@ note_joins SkipTaken (Dropped closing) n = cc
 note_joins Ping t n = cc
 note_joins Reset t n = cc
 note_joins Begin t n = cc
+note_joins Commit t n = cc
 note_joins Rollback t n = cc
 note_joins ForgetTransaction t n = cc
 note_joins Quit t n = cc
@@ -90,6 +91,7 @@ at_begun SkipTaken spot e s = s
 at_begun Ping spot e s = s
 at_begun Reset spot e s = s
 at_begun Begin spot e s = s
+at_begun Commit spot e s = s
 at_begun Rollback spot e s = s
 at_begun ForgetTransaction spot e s = s
 at_begun Quit spot e s = s
@@ -114,6 +116,7 @@ connect_ready SkipTaken answer e m = cc
 connect_ready Ping answer e m = cc
 connect_ready Reset answer e m = cc
 connect_ready Begin answer e m = cc
+connect_ready Commit answer e m = cc
 connect_ready Rollback answer e m = cc
 connect_ready ForgetTransaction answer e m = cc
 connect_ready Quit answer e m = cc

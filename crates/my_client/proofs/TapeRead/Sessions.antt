@@ -11,7 +11,7 @@ use Rattle.my_reading.specs.declared.answer.Answer.{Answer}
 use Rattle.my_reading.specs.declared.call.Call.{Call}
 use Rattle.my_reading.specs.declared.call.Call.TheVariants as calls
 use Rattle.my_reading.specs.declared.call.CallKind.{CallKind}
-use Rattle.my_reading.specs.declared.call.CallKind.TheVariants.{Connect, Query, Prepare, Execute, Batch, CloseStmt, NextRow, DropResult, TakeSet, SkipTaken, Ping, Reset, Begin, Rollback, ForgetTransaction, Quit}
+use Rattle.my_reading.specs.declared.call.CallKind.TheVariants.{Connect, Query, Prepare, Execute, Batch, CloseStmt, NextRow, DropResult, TakeSet, SkipTaken, Ping, Reset, Begin, Commit, Rollback, ForgetTransaction, Quit}
 use Rattle.my_reading.specs.declared.error.Error.{Error}
 use Rattle.my_reading.specs.declared.error.Error.TheVariants as errors
 use Rattle.my_reading.specs.Calls.{asks, kind_of, call_of, is_unrefused}
@@ -33,7 +33,7 @@ use Rattle.my_session.specs.LinkErrors.{link_error}
 use Rattle.my_session.specs.Machine.{Tells, Does, FaultIs, Move, fell, failed_by, next, next_by, when_owed, planned, with_task, dropped}
 use Rattle.my_session.specs.Mirror.{OwnStandsAt, TaskStandsAt, StandsAt, OpenAt, BegunStandsAt, EachStepReads, EndsAt, FailsAt, ReturnsAt, StepReads, StepsTo, passes_end}
 use Rattle.my_session.specs.Seen.{Seen}
-use Rattle.my_session.specs.Stands.{call_with, owes}
+use Rattle.my_session.specs.Stands.{is_off, call_with, owes}
 use Rattle.my_session.specs.Steps.{Steps, AllGo, goes_on, moved, begun, fresh, with_owed, with_unread, with_end, with_failing}
 use Rattle.my_session.specs.Tables.{leave_plan, plan_of, closes_when_cancelled}
 use Rattle.my_session.specs.Tasks.{kind_in, fault_in, is_open}
@@ -171,6 +171,7 @@ sent_at s t call parts p n e o = subst (λ (x : Seen). OpenAt x call parts (with
     task_at = o.at.task_at;
     statements_are = o.at.statements_are;
     status_is = o.at.status_is;
+    trial_is = o.at.trial_is;
     checked = o.at.checked;
     settled = λ quiet. ap (drop n) (o.at.settled quiet) ∙ drop-nil {A = ℕ} n;
   };
@@ -178,6 +179,7 @@ sent_at s t call parts p n e o = subst (λ (x : Seen). OpenAt x call parts (with
   sound = o.sound;
   call_is = o.call_is;
   parts_are = o.parts_are;
+  tries = o.tries;
 })
 
 taken_at : (s t : Seen) (call : Call) (parts : List Part) (p : Place) (bytes : List ℕ) → t ≡ with_unread s (s.unread ++ bytes) → OpenAt s call parts p → OpenAt t call parts (with_bytes [] bytes p)
@@ -190,6 +192,7 @@ taken_at s t call parts p bytes e o = subst (λ (x : Seen). OpenAt x call parts 
     task_at = o.at.task_at;
     statements_are = o.at.statements_are;
     status_is = o.at.status_is;
+    trial_is = o.at.trial_is;
     checked = o.at.checked;
     settled = o.at.settled;
   };
@@ -197,15 +200,17 @@ taken_at s t call parts p bytes e o = subst (λ (x : Seen). OpenAt x call parts 
   sound = o.sound;
   call_is = o.call_is;
   parts_are = o.parts_are;
+  tries = o.tries;
 })
 
 ended_at : (s t : Seen) (call : Call) (parts : List Part) (p : Place) → t ≡ with_end s → OpenAt s call parts p → OpenAt t call parts p
 ended_at s t call parts p e o = subst (λ (x : Seen). OpenAt x call parts p) (sym e) (record {
-  at = record { mirrors = o.at.mirrors; end_is = o.at.end_is; taken_is = o.at.taken_is; own_end = o.at.own_end; task_at = o.at.task_at; statements_are = o.at.statements_are; status_is = o.at.status_is; checked = o.at.checked; settled = o.at.settled };
+  at = record { mirrors = o.at.mirrors; end_is = o.at.end_is; taken_is = o.at.taken_is; own_end = o.at.own_end; task_at = o.at.task_at; statements_are = o.at.statements_are; status_is = o.at.status_is; trial_is = o.at.trial_is; checked = o.at.checked; settled = o.at.settled };
   alive = o.alive;
   sound = o.sound;
   call_is = o.call_is;
   parts_are = o.parts_are;
+  tries = o.tries;
 })
 
 pub sent_read : (login : Login) (s t : Seen) (k : Kept) (a : Asked) (n : ℕ) → t ≡ with_owed s (drop n s.owed) → OpenRead login s k a → OpenRead login t (record { sent = k.sent ++ take n s.owed; taken = k.taken; calls = k.calls; pending = k.pending }) a
@@ -243,6 +248,7 @@ kind_back SkipTaken carried = refl
 kind_back Ping carried = refl
 kind_back Reset carried = refl
 kind_back Begin carried = refl
+kind_back Commit carried = refl
 kind_back Rollback carried = refl
 kind_back ForgetTransaction carried = refl
 kind_back Quit carried = refl
@@ -269,6 +275,7 @@ module _ (s : Seen) (call : Call) (parts : List Part) (p : Place) (o : OpenAt s 
   closes_asking Ping e = refl
   closes_asking Reset e = refl
   closes_asking Begin e = refl
+  closes_asking Commit e = refl
   closes_asking Rollback e = refl
   closes_asking ForgetTransaction e = refl
   closes_asking Quit e = refl
@@ -287,6 +294,7 @@ module _ (s : Seen) (call : Call) (parts : List Part) (p : Place) (o : OpenAt s 
   closes_own Ping w = refl
   closes_own Reset w = refl
   closes_own Begin w = absurd w
+  closes_own Commit w = absurd w
   closes_own Rollback w = absurd w
   closes_own ForgetTransaction w = absurd w
   closes_own Quit w = refl
@@ -297,6 +305,8 @@ module _ (s : Seen) (call : Call) (parts : List Part) (p : Place) (o : OpenAt s 
   closes_is (tasks.Cleaning c) e w = sym (ap (λ k. closes_cancelled k p) (kind_is c (ap kind_in e)) ∙ closes_asking c w.0)
   closes_is (tasks.Undoing c) e w = sym (ap (λ k. closes_cancelled k p) (kind_is c (ap kind_in e)) ∙ closes_asking c w.0)
   closes_is (tasks.Cleaned c) e w = sym (ap (λ k. closes_cancelled k p) (kind_is c (ap kind_in e)) ∙ closes_asking c w.0)
+  closes_is (tasks.Backing c) e w = sym (ap (λ k. closes_cancelled k p) (kind_is c (ap kind_in e)) ∙ ap (λ k. closes_cancelled k p) w.0)
+  closes_is (tasks.Reverting c) e w = sym (ap (λ k. closes_cancelled k p) (kind_is c (ap kind_in e)) ∙ ap (λ k. closes_cancelled k p) w.0)
   closes_is (tasks.Own c) e w = sym (ap (λ k. closes_cancelled k p) (kind_is c (ap kind_in e)) ∙ closes_own c w)
   closes_is tasks.Giving e w = sym (ap (λ k. closes_cancelled k p) (kind_is Prepare (ap kind_in e)))
   closes_is (tasks.Arranging n) e w = sym (ap (λ k. closes_cancelled k p) (kind_is Connect (ap kind_in e)))
@@ -317,6 +327,8 @@ module _ (s : Seen) (call : Call) (parts : List Part) (p : Place) (o : OpenAt s 
   keeps_end (tasks.Cleaning c) e f = cc
   keeps_end (tasks.Undoing c) e f = cc
   keeps_end (tasks.Cleaned c) e f = cc
+  keeps_end (tasks.Backing c) e f = cc
+  keeps_end (tasks.Reverting c) e f = cc
   keeps_end (tasks.Own c) e f = refl
   keeps_end tasks.Giving e f = refl
   keeps_end (tasks.Arranging n) e f = cc
@@ -337,6 +349,8 @@ module _ (s : Seen) (call : Call) (parts : List Part) (p : Place) (o : OpenAt s 
   owes_not (tasks.Cleaning c) e f = refl
   owes_not (tasks.Undoing c) e f = cc
   owes_not (tasks.Cleaned c) e f = cc
+  owes_not (tasks.Backing c) e f = cc
+  owes_not (tasks.Reverting c) e f = cc
   owes_not (tasks.Own c) e f = cc
   owes_not tasks.Giving e f = cc
   owes_not (tasks.Arranging n) e f = cc
@@ -362,6 +376,7 @@ module _ (s : Seen) (call : Call) (parts : List Part) (p : Place) (o : OpenAt s 
       task_at = tt;
       statements_are = o.at.statements_are;
       status_is = o.at.status_is;
+      trial_is = o.at.trial_is;
       checked = refl;
       settled = λ _. o.at.settled (owes_not s.task refl e);
     },
@@ -399,13 +414,14 @@ module _ (login : Login) (s t : Seen) (k : Kept) (call : Call) where
   back_whole calls.Ping = refl
   back_whole calls.Reset = refl
   back_whole (calls.Begin opts) = refl
+  back_whole calls.Commit = refl
   back_whole calls.Rollback = refl
   back_whole calls.ForgetTransaction = refl
   back_whole calls.Quit = refl
 
   -- the session with this task
   abbrev asked_with : Bool → Seen
-  asked_with b = record { context = s.context; task = (cond b (tasks.Leaving (kind_of call)) (tasks.Begun (kind_of call))); call = call; untold = s.untold; taken = s.taken; closed = s.closed; ended = s.ended; number = s.number; unread = s.unread; owed = s.owed; facts = s.facts; statements = s.statements; status = s.status; login = s.login }
+  asked_with b = record { context = s.context; task = (cond b (tasks.Leaving (kind_of call)) (tasks.Begun (kind_of call))); call = call; untold = s.untold; taken = s.taken; closed = s.closed; ended = s.ended; number = s.number; unread = s.unread; owed = s.owed; facts = s.facts; statements = s.statements; status = s.status; trial = s.trial; login = s.login }
 
   module _ (e : t ≡ begun s call) (log : s.login ≡ login) (idle : s.task ≡ tasks.Nothing) (w : RestRead login s k) where
     -- for any rows that are gathered
@@ -415,9 +431,9 @@ module _ (login : Login) (s t : Seen) (k : Kept) (call : Call) where
     no_bytes_yet : with_bytes (drop (length k.sent) k.sent) (drop (length k.taken) k.taken) w.place ≡ w.place
     no_bytes_yet = ap (λ x. with_bytes x (drop (length k.taken) k.taken) w.place) (drop_all (length k.sent) k.sent (omega arith)) ∙ ap (λ x. with_bytes [] x w.place) (drop_all (length k.taken) k.taken (omega arith)) ∙ no_bytes w.place
 
-    begun_at : (b : Bool) → s.closed ≡ b → b ≡ false → BegunStandsAt (kind_of call) s.context.spot (connects_in (exchanges w.place)) → OpenAt (asked_with b) call (parts_of s.login call) w.place
-    begun_at true c f at = cc
-    begun_at false c f at = record {
+    begun_at : (b : Bool) → s.closed ≡ b → b ≡ false → is_off s.trial ≡ true → BegunStandsAt (kind_of call) s.context.spot (connects_in (exchanges w.place)) → OpenAt (asked_with b) call (parts_of s.login call) w.place
+    begun_at true c f off at = cc
+    begun_at false c f off at = record {
       at = record {
         mirrors = w.at.mirrors;
         end_is = λ _ _. w.at.end_is c (ap fault_in idle) ∙ ap (λ u. s.untold && not (passes_end u)) idle;
@@ -426,6 +442,7 @@ module _ (login : Login) (s t : Seen) (k : Kept) (call : Call) where
         task_at = at;
         statements_are = w.at.statements_are;
         status_is = w.at.status_is;
+        trial_is = w.at.trial_is;
         checked = refl;
         settled = λ _. w.at.settled (ap owes idle);
       };
@@ -433,20 +450,21 @@ module _ (login : Login) (s t : Seen) (k : Kept) (call : Call) where
       sound = refl;
       call_is = ap Some (back_whole call);
       parts_are = sym (ap (parts_of s.login) (back_whole call));
+      tries = λ no. let stop : true ≡ false = sym off ∙ no in cc;
     }
 
-    pub begin_open : (rows : Option (List RowParts)) → s.closed ≡ false → BegunStandsAt (kind_of call) s.context.spot (connects_in (exchanges w.place)) → OpenRead login t (asking k call rows) (record { call = call; sent_from = length k.sent; taken_from = length k.taken; rows = rows })
-    begin_open rows alive at = record {
+    pub begin_open : (rows : Option (List RowParts)) → s.closed ≡ false → is_off s.trial ≡ true → BegunStandsAt (kind_of call) s.context.spot (connects_in (exchanges w.place)) → OpenRead login t (asking k call rows) (record { call = call; sent_from = length k.sent; taken_from = length k.taken; rows = rows })
+    begin_open rows alive off at = record {
       before = w.place;
       ended = subst (λ b. EndedRead login (asking k call rows) (length k.sent) (length k.taken) b w.place) alive (ended_first rows);
       parts = parts_of login call;
       place = w.place;
       leads = subst (λ (q : Place). Leads login call (parts_of login call) q (parts_of login call) w.place) (sym no_bytes_yet) (Here (parts_of login call) w.place);
-      at = subst (λ l. OpenAt t call (parts_of l call) w.place) log (subst (λ (x : Seen). OpenAt x call (parts_of s.login call) w.place) (sym (e ∙ ap (λ b. asked_with b) alive)) (begun_at false alive refl at));
+      at = subst (λ l. OpenAt t call (parts_of l call) w.place) log (subst (λ (x : Seen). OpenAt x call (parts_of s.login call) w.place) (sym (e ∙ ap (λ b. asked_with b) alive)) (begun_at false alive refl off at));
     }
 
     leaving_at : (b : Bool) → s.closed ≡ true → b ≡ true → StandsAt (asked_with b) w.place
-    leaving_at true c f = record { mirrors = w.at.mirrors; end_is = λ no _. let stop : true ≡ false = sym c ∙ no in cc; taken_is = w.at.taken_is; own_end = λ no. cc; task_at = tt; statements_are = λ no. let stop : true ≡ false = sym c ∙ no in cc; status_is = λ no. let stop : true ≡ false = sym c ∙ no in cc; checked = refl; settled = λ _. w.at.settled (ap owes idle) }
+    leaving_at true c f = record { mirrors = w.at.mirrors; end_is = λ no _. let stop : true ≡ false = sym c ∙ no in cc; taken_is = w.at.taken_is; own_end = λ no. cc; task_at = tt; statements_are = λ no. let stop : true ≡ false = sym c ∙ no in cc; status_is = λ no. let stop : true ≡ false = sym c ∙ no in cc; trial_is = λ no. let stop : true ≡ false = sym c ∙ no in cc; checked = refl; settled = λ _. w.at.settled (ap owes idle) }
     leaving_at false c f = cc
 
     pub begin_unrefused : (rows : Option (List RowParts)) → s.closed ≡ true → is_unrefused (kind_of call) ≡ true → UnrefusedRead login t (asking k call rows) (record { call = call; sent_from = length k.sent; taken_from = length k.taken; rows = rows })
@@ -483,6 +501,7 @@ fresh_read login s e = record {
     task_at = tt;
     statements_are = λ _. refl;
     status_is = λ _. refl;
+    trial_is = λ _. refl;
     checked = refl;
     settled = λ _. refl;
   });
