@@ -127,6 +127,7 @@ at_idle closed next (steps.Drop n) outcome uses = asked closed outcome uses
 at_idle closed next (steps.Ping n) outcome uses = asked closed outcome uses
 at_idle closed next (steps.Reset n) outcome uses = asked closed outcome uses
 at_idle closed next (steps.Begin n opts) outcome uses = asked closed outcome uses
+at_idle closed next (steps.Commit n) outcome uses = asked closed outcome uses
 at_idle closed next (steps.Rollback n) outcome uses = asked closed outcome uses
 at_idle closed next (steps.ForgetTransaction n) outcome uses = polled_once outcome uses
 at_idle closed next (steps.Quit n) outcome uses = polled_once outcome uses
@@ -199,6 +200,7 @@ abbrev pub is_missing : ℕ → Bool → Step → Bool
 is_missing n true step = false
 is_missing n false (steps.Item m) = m == n
 is_missing n false (steps.Unstream m) = m == n
+is_missing n false (steps.Commit m) = m == n
 is_missing n false (steps.Rollback m) = m == n
 is_missing n false (steps.ForgetTransaction m) = m == n
 is_missing n false step = false
@@ -250,6 +252,7 @@ begun_by taken named (steps.Drop n) = Some calls.DropResult
 begun_by taken named (steps.Ping n) = Some calls.Ping
 begun_by taken named (steps.Reset n) = Some calls.Reset
 begun_by taken named (steps.Begin n opts) = Some (calls.Begin opts)
+begun_by taken named (steps.Commit n) = Some calls.Commit
 begun_by taken named (steps.Rollback n) = Some calls.Rollback
 begun_by taken named (steps.ForgetTransaction n) = Some calls.ForgetTransaction
 begun_by taken named (steps.Quit n) = Some calls.Quit

@@ -81,6 +81,7 @@ fn at_idle(closed: bool, next: usize, step: &Step, outcome: &Outcome, uses: usiz
         | Step::Ping(_)
         | Step::Reset(_)
         | Step::Begin(_, _)
+        | Step::Commit(_)
         | Step::Rollback(_) => asked(closed, outcome, uses),
         Step::Collect(_) => collected(closed, next, outcome, uses),
         Step::Stream(_) => streamed(closed, outcome, uses),
@@ -236,6 +237,7 @@ fn is_missing(number: u64, found: bool, step: &Step) -> bool
     match step {
         Step::Item(named)
         | Step::Unstream(named)
+        | Step::Commit(named)
         | Step::Rollback(named)
         | Step::ForgetTransaction(named) => *named == number,
         _ => false,

@@ -32,6 +32,7 @@ beside_by n b step outcome = beside_named n (target step) b step outcome
 abbrev pub finds : Beside → Step → Bool
 finds b (steps.Item n) = is_there b.stream
 finds b (steps.Unstream n) = is_there b.stream
+finds b (steps.Commit n) = is_begun b.transaction
 finds b (steps.Rollback n) = is_begun b.transaction
 finds b (steps.ForgetTransaction n) = is_begun b.transaction
 finds b step = true

@@ -2,7 +2,7 @@
 use Rattle.std.specs.Prelude.{ℕ, List, codes, if◌then◌else◌}
 use Rattle.std.specs.Str.{bytes_eq}
 use Rattle.my_script.specs.declared.reading.keyword.Keyword.{Keyword}
-use Rattle.my_script.specs.declared.reading.keyword.Keyword.TheVariants.{Packet, Drip, Bytes, Turn, Wait, Fail, End, Accept, WriteWait, WriteFail, Dial, Conn, Query, Prepare, Execute, ExecuteNamed, CloseStatement, Next, Collect, Stream, StreamItem, Unstream, Drop, Ping, Reset, Begin, Rollback, Forget, Quit, Fields, Poll, Cancel, Advance, Random, Unknown}
+use Rattle.my_script.specs.declared.reading.keyword.Keyword.TheVariants.{Packet, Drip, Bytes, Turn, Wait, Fail, End, Accept, WriteWait, WriteFail, Dial, Conn, Query, Prepare, Execute, ExecuteNamed, CloseStatement, Next, Collect, Stream, StreamItem, Unstream, Drop, Ping, Reset, Begin, Commit, Rollback, Forget, Quit, Fields, Poll, Cancel, Advance, Random, Unknown}
 
 -- the words of steps that move the world
 abbrev pub moving_keyword_of : List ℕ → Keyword
@@ -15,6 +15,7 @@ moving_keyword_of word =
 abbrev pub transaction_keyword_of : List ℕ → Keyword
 transaction_keyword_of word =
     if bytes_eq word (codes "begin") then Begin
+    else if bytes_eq word (codes "commit") then Commit
     else if bytes_eq word (codes "rollback") then Rollback
     else if bytes_eq word (codes "forget") then Forget
     else moving_keyword_of word

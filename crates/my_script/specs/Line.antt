@@ -10,7 +10,7 @@ use Rattle.my_world.specs.declared.line.WorldLine.TheVariants as lines
 use Rattle.my_script.specs.declared.reading.line.Item.{Item}
 use Rattle.my_script.specs.declared.reading.line.Item.TheVariants.{Nothing, Plans, Steps, Wrong}
 use Rattle.my_script.specs.declared.reading.keyword.Keyword.{Keyword}
-use Rattle.my_script.specs.declared.reading.keyword.Keyword.TheVariants.{Packet, Drip, Bytes, Turn, Wait, Fail, End, Accept, WriteWait, WriteFail, Dial, Conn, Query, Prepare, Execute, ExecuteNamed, CloseStatement, Next, Collect, Stream, StreamItem, Unstream, Drop, Ping, Reset, Begin, Rollback, Forget, Quit, Fields, Poll, Cancel, Advance, Random, Unknown}
+use Rattle.my_script.specs.declared.reading.keyword.Keyword.TheVariants.{Packet, Drip, Bytes, Turn, Wait, Fail, End, Accept, WriteWait, WriteFail, Dial, Conn, Query, Prepare, Execute, ExecuteNamed, CloseStatement, Next, Collect, Stream, StreamItem, Unstream, Drop, Ping, Reset, Begin, Commit, Rollback, Forget, Quit, Fields, Poll, Cancel, Advance, Random, Unknown}
 use Rattle.my_script.specs.declared.reading.line.PacketParts.{PacketParts}
 use Rattle.my_script.specs.declared.reading.line.LinkParts.{LinkParts}
 use Rattle.my_script.specs.declared.reading.line.AcceptParts.{AcceptParts}
@@ -190,6 +190,7 @@ connection_item Unstream (Some connection) = Steps (steps.Unstream connection)
 connection_item Drop (Some connection) = Steps (steps.Drop connection)
 connection_item Ping (Some connection) = Steps (steps.Ping connection)
 connection_item Reset (Some connection) = Steps (steps.Reset connection)
+connection_item Commit (Some connection) = Steps (steps.Commit connection)
 connection_item Rollback (Some connection) = Steps (steps.Rollback connection)
 connection_item Forget (Some connection) = Steps (steps.ForgetTransaction connection)
 connection_item Quit (Some connection) = Steps (steps.Quit connection)
@@ -237,6 +238,7 @@ item_with Drop rest = connection_item Drop (number_of rest)
 item_with Ping rest = connection_item Ping (number_of rest)
 item_with Reset rest = connection_item Reset (number_of rest)
 item_with Begin rest = begin_item (begin_parts rest)
+item_with Commit rest = connection_item Commit (number_of rest)
 item_with Rollback rest = connection_item Rollback (number_of rest)
 item_with Forget rest = connection_item Forget (number_of rest)
 item_with Quit rest = connection_item Quit (number_of rest)

@@ -25,6 +25,7 @@ target (steps.Drop n) = Some n
 target (steps.Ping n) = Some n
 target (steps.Reset n) = Some n
 target (steps.Begin n opts) = Some n
+target (steps.Commit n) = Some n
 target (steps.Rollback n) = Some n
 target (steps.ForgetTransaction n) = Some n
 target (steps.Quit n) = Some n

@@ -18,7 +18,7 @@ abbrev pub after_nesting : Outcome → Transaction
 after_nesting Pending = Nesting
 after_nesting outcome = There
 
--- it is rolled back: it isn't there any more then, also where that failed
+-- it is committed or rolled back: it isn't there any more then, also where that failed
 abbrev pub after_ending : Outcome → Transaction
 after_ending Pending = Ending
 after_ending outcome = Without
@@ -46,13 +46,14 @@ after_cancel Ending = There
 -- After a step at its number that isn't refused: all but these leave it.
 abbrev pub transaction_after : Transaction → Step → Outcome → Transaction
 transaction_after transaction (steps.Begin n opts) outcome = after_begin transaction outcome
+transaction_after transaction (steps.Commit n) outcome = after_ending outcome
 transaction_after transaction (steps.Rollback n) outcome = after_ending outcome
 transaction_after transaction (steps.ForgetTransaction n) outcome = Without
 transaction_after transaction (steps.Poll n) outcome = after_poll transaction outcome
 transaction_after transaction (steps.Cancel n) outcome = after_cancel transaction
 transaction_after transaction step outcome = transaction
 
--- one is rolled back, or given up, only where it is there and no begin or rollback of it is open
+-- one is committed, rolled back or given up only where it is there and no begin, commit or rollback of it is open
 abbrev pub is_begun : Transaction → Bool
 is_begun There = true
 is_begun transaction = false

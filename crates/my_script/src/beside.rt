@@ -59,7 +59,9 @@ impl Beside {
     {
         match step {
             Step::Item(_) | Step::Unstream(_) => is_there(self.stream),
-            Step::Rollback(_) | Step::ForgetTransaction(_) => is_begun(self.transaction),
+            Step::Commit(_) | Step::Rollback(_) | Step::ForgetTransaction(_) => {
+                is_begun(self.transaction)
+            }
             _ => true,
         }
     }

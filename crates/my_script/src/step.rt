@@ -35,6 +35,8 @@ pub enum Step {
     Reset(u64),
     /// Begins a transaction at this connection.
     Begin(u64, TxOpts),
+    /// Commits this connection's transaction.
+    Commit(u64),
     /// Rolls this connection's transaction back.
     Rollback(u64),
     /// Gives this connection's transaction up, which is rolled back before the next command.

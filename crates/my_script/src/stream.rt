@@ -36,6 +36,7 @@ pub fn target(step: &Step) -> Option<u64>
         | Step::Ping(number)
         | Step::Reset(number)
         | Step::Begin(number, _)
+        | Step::Commit(number)
         | Step::Rollback(number)
         | Step::ForgetTransaction(number)
         | Step::Quit(number)

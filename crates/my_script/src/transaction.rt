@@ -24,7 +24,7 @@ pub enum Transaction {
     There,
     /// It is there, and a second one is to begin.
     Nesting,
-    /// It is there, and is rolled back.
+    /// It is there, and is committed or rolled back.
     Ending,
 }
 
@@ -91,7 +91,7 @@ pub fn transaction_after(transaction: Transaction, step: &Step, outcome: &Outcom
 {
     match step {
         Step::Begin(_, _) => after_begin(transaction, outcome),
-        Step::Rollback(_) => after_ending(outcome),
+        Step::Commit(_) | Step::Rollback(_) => after_ending(outcome),
         Step::ForgetTransaction(_) => Transaction::Without,
         Step::Poll(_) => after_poll(transaction, outcome),
         Step::Cancel(_) => after_cancel(transaction),

@@ -31,6 +31,7 @@ pub enum Keyword {
     Ping,
     Reset,
     Begin,
+    Commit,
     Rollback,
     Forget,
     Quit,
@@ -59,6 +60,9 @@ fn transaction_keyword(word: &[u8]) -> Keyword
 {
     if word == b"begin".as_slice() {
         return Keyword::Begin;
+    }
+    if word == b"commit".as_slice() {
+        return Keyword::Commit;
     }
     if word == b"rollback".as_slice() {
         return Keyword::Rollback;

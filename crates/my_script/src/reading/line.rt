@@ -311,6 +311,7 @@ fn connection_line(keyword: Keyword, connection: Option<u64>) -> Item
             Keyword::Drop => Item::Steps(Step::Drop(connection)),
             Keyword::Ping => Item::Steps(Step::Ping(connection)),
             Keyword::Reset => Item::Steps(Step::Reset(connection)),
+            Keyword::Commit => Item::Steps(Step::Commit(connection)),
             Keyword::Rollback => Item::Steps(Step::Rollback(connection)),
             Keyword::Forget => Item::Steps(Step::ForgetTransaction(connection)),
             Keyword::Quit => Item::Steps(Step::Quit(connection)),
@@ -372,6 +373,7 @@ fn with_arguments(alloc: Global, keyword: Keyword, rest: &[u8]) -> Result<Item, 
         | Keyword::Drop
         | Keyword::Ping
         | Keyword::Reset
+        | Keyword::Commit
         | Keyword::Rollback
         | Keyword::Forget
         | Keyword::Quit
