@@ -114,6 +114,7 @@ C is a connection; at most 1000 lines connect:
   ping C           asks whether the server is there
   reset C          resets the server's session: flag 1, or flag 0 where the server can't
   begin C OPTS     begins a transaction; OPTS are any of snapshot, level=0..3, ro and rw
+  commit C         commits the transaction
   rollback C       rolls the transaction back
   forget C         gives the transaction up: it is rolled back before the next command
   quit C           leaves the server
@@ -139,7 +140,7 @@ C is a connection; at most 1000 lines connect:
   exec 0 0 i:1 b:  11 ok
   reset 0          12 flag 1
   begin 0 ro       13 ok
-  rollback 0       14 ok
+  commit 0         14 ok
   quit 0           15 ok
 
 A value V is written as it is printed: NULL, b:HEX, i:N, u:N, f:HEX and d:HEX with the bits of
@@ -149,8 +150,8 @@ A step may also print pending, where the link has nothing yet; ok -, where no OK
 refused NoSuchHandle, where there is no such connection, its call is still pending, or there
 is no call to continue or to cancel, no stream, no transaction, or no statement of that number.
 A stream is there from the ok of its stream line on, until its end, an error, or a step that
-begins another call; a transaction from the ok of its begin line on, until its rollback or forget
-line; a statement until the step that closes it. Or an error, as
+begins another call; a transaction from the ok of its begin line on, until its commit, rollback
+or forget line; a statement until the step that closes it. Or an error, as
 
   error Io Link
   error Io InvalidData 4

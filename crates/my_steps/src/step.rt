@@ -108,6 +108,7 @@ fn order_for(
         Step::Ping(number) => Ok(visit(*number, Work::Begin(Call::Ping))),
         Step::Reset(number) => Ok(visit(*number, Work::Begin(Call::Reset))),
         Step::Begin(number, opts) => Ok(visit(*number, Work::Begin(Call::Begin(*opts)))),
+        Step::Commit(number) => Ok(visit(*number, begin_where(found, Call::Commit))),
         Step::Rollback(number) => Ok(visit(*number, begin_where(found, Call::Rollback))),
         Step::ForgetTransaction(number) => {
             Ok(visit(*number, begin_where(found, Call::ForgetTransaction)))

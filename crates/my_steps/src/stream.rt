@@ -41,6 +41,7 @@ pub(crate) fn is_skipping<L>(conn: &TapedConn<L>) -> bool
             | Call::Ping
             | Call::Reset
             | Call::Begin(_)
+            | Call::Commit
             | Call::Rollback
             | Call::ForgetTransaction
             | Call::Quit => false,

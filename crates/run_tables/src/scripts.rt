@@ -29,7 +29,7 @@ fn bad_connection(alloc: Global, count: u64) -> Result<Option<u64>, NoMemory> {
 const SCRIPTS: &[(&str, Option<u64>)] = &[
     ("drip 0 0 -\naccept 65535 3\nwwait 0\nwfail 0\nconn\n", None),
     (
-        "collect 0\nstream 0\nitem 0\nunstream 0\ndrop 0\nping 0\nreset 0\nbegin 0\nbegin 0 snapshot ro level=3 rw level=0 level=01\nrollback 0\nforget 0\nquit 0\nfields 0\npoll 0\ncancel 0\n",
+        "collect 0\nstream 0\nitem 0\nunstream 0\ndrop 0\nping 0\nreset 0\nbegin 0\nbegin 0 snapshot ro level=3 rw level=0 level=01\ncommit 0\nrollback 0\nforget 0\nquit 0\nfields 0\npoll 0\ncancel 0\n",
         None,
     ),
     ("query 0 A\nquery 0 B\nconn\nconn\n", None),
@@ -59,6 +59,8 @@ const SCRIPTS: &[(&str, Option<u64>)] = &[
     ("begin 0 level=\n", Some(1)),
     ("begin 0 level=4\n", Some(1)),
     ("begin 0 levels=1\n", Some(1)),
+    ("commit\n", Some(1)),
+    ("commit 0 0\n", Some(1)),
     ("rollback\n", Some(1)),
     ("rollback 0 ro\n", Some(1)),
     ("forget\n", Some(1)),

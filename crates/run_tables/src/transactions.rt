@@ -53,7 +53,22 @@ const ROWS: &str = "\
 8.0.36 o; rollback 0,forget 0,rollback 1,begin 1,ping 0; 2 refused NoSuchHandle,3 refused NoSuchHandle,4 refused NoSuchHandle,5 refused NoSuchHandle,6 ok; ping
 8.0.36 t; begin 0,quit 0,forget 0,begin 0; 2 ok,3 ok,4 ok,5 error Driver ConnectionClosed; START TRANSACTION,quit
 8.0.36 to; begin 0,forget 0,quit 0; 2 ok,3 ok,4 ok; START TRANSACTION,ROLLBACK,quit
-8.0.36 too; begin 0,reset 0,begin 0,rollback 0; 2 ok,3 flag 1,4 error Driver NestedTransaction,5 ok; START TRANSACTION,reset,ROLLBACK";
+8.0.36 too; begin 0,reset 0,begin 0,rollback 0; 2 ok,3 flag 1,4 error Driver NestedTransaction,5 ok; START TRANSACTION,reset,ROLLBACK
+8.0.36 too; begin 0,commit 0,commit 0,ping 0; 2 ok,3 ok,4 refused NoSuchHandle,5 ok; START TRANSACTION,COMMIT,ping
+8.0.36 teoo; begin 0,commit 0,rollback 0,ping 0; 2 ok,3 error Server 1064 42000 b:42,4 refused NoSuchHandle,5 ok; START TRANSACTION,COMMIT,ROLLBACK,ping
+8.0.36 tefoo; begin 0,commit 0,commit 0,ping 0; 2 ok,3 error Server 1064 42000 b:42,4 refused NoSuchHandle,5 ok; START TRANSACTION,COMMIT,ROLLBACK,ROLLBACK,ping
+8.0.36 tefot; begin 0,commit 0,begin 0; 2 ok,3 error Server 1064 42000 b:42,4 ok; START TRANSACTION,COMMIT,ROLLBACK,ROLLBACK,START TRANSACTION
+8.0.36 tex; begin 0,commit 0,ping 0; 2 ok,3 error Io Link,4 error Driver ConnectionClosed; START TRANSACTION,COMMIT,ROLLBACK
+8.0.36 tx; begin 0,commit 0,ping 0; 2 ok,3 error Io Link,4 error Driver ConnectionClosed; START TRANSACTION,COMMIT
+8.0.36 tmoo; begin 0,query 0 DO 1;DO 2,commit 0,ping 0; 2 ok,3 ok,4 error Server 1064 42000 b:42,5 ok; START TRANSACTION,DO 1;DO 2,ROLLBACK,ping
+8.0.36 tso; begin 0,query 0 SELECT 1,commit 0,next 0; 2 ok,3 ok,4 ok,5 none; START TRANSACTION,SELECT 1,COMMIT
+8.0.36 two; begin 0,commit 0,rollback 0,poll 0,commit 0; 2 ok,3 pending,4 refused NoSuchHandle,5 ok,6 refused NoSuchHandle; START TRANSACTION,COMMIT
+8.0.36 tewoo; begin 0,commit 0,poll 0,ping 0; 2 ok,3 pending,4 error Server 1064 42000 b:42,5 ok; START TRANSACTION,COMMIT,ROLLBACK,ping
+8.0.36 tw; begin 0,commit 0,cancel 0,commit 0,forget 0; 2 ok,3 pending,4 ok,5 error Driver ConnectionClosed,6 refused NoSuchHandle; START TRANSACTION,COMMIT
+8.0.36 tew; begin 0,commit 0,cancel 0,forget 0; 2 ok,3 pending,4 ok,5 ok; START TRANSACTION,COMMIT,ROLLBACK
+8.0.36 th; begin 0,query 0 SELECT 1,commit 0,cancel 0,commit 0,commit 0; 2 ok,3 ok,4 pending,5 ok,6 error Driver ConnectionClosed,7 refused NoSuchHandle; START TRANSACTION,SELECT 1
+8.0.36 o; commit 0,ping 0; 2 refused NoSuchHandle,3 ok; ping
+8.0.36 to; begin 0,quit 0,commit 0; 2 ok,3 ok,4 error Driver ConnectionClosed; START TRANSACTION,quit";
 
 // A version as the greeting has it, in hexadecimal.
 fn greeting_of(version: &str) -> &'static str {
@@ -64,12 +79,16 @@ fn greeting_of(version: &str) -> &'static str {
     }
 }
 
-// An OK, of a transaction or of none, an ERR, a set of one row, a set whose end isn't there yet, and a read that finds nothing yet.
+// An OK, of a transaction or of none, two ERRs, an OK with an ERR after it, a set of one row, a set whose end isn't there yet, a
+// read that fails, and one that finds nothing yet.
 fn answer_of(letter: u8) -> &'static str {
     match letter {
         b'o' => "packet 0 1 00000002000000\nturn 0\n",
         b't' => "packet 0 1 00000003000000\nturn 0\n",
         b'e' => "packet 0 1 ff280423343230303042\nturn 0\n",
+        b'f' => "packet 0 1 ff280423343230303043\nturn 0\n",
+        b'm' => "packet 0 1 0000000a000000\npacket 0 2 ff280423343230303042\nturn 0\n",
+        b'x' => "fail 0\n",
         b's' => {
             "packet 0 1 01\npacket 0 2 036465660000000131000c3f0001000000088100000000\npacket 0 3 0131\npacket 0 4 fe000002000000\nturn 0\n"
         }

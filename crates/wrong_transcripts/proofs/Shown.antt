@@ -276,6 +276,7 @@ module _ (login : Login) (plans : Plans) where
   step_went calls.Ping plain k x hs o us ms is rest found statement seen g = at_went calls.Ping k x hs o us ms is rest g.made g.does g.others
   step_went calls.Reset plain k x hs o us ms is rest found statement seen g = at_went calls.Reset k x hs o us ms is rest g.made g.does g.others
   step_went (calls.Begin opts) plain k x hs o us ms is rest found statement seen g = at_went (calls.Begin opts) k x hs o us ms is rest g.made g.does g.others
+  step_went calls.Commit plain k x hs o us ms is rest found statement seen g = found_went found calls.Commit k x hs o us ms is rest g.made g.does g.others seen
   step_went calls.Rollback plain k x hs o us ms is rest found statement seen g = found_went found calls.Rollback k x hs o us ms is rest g.made g.does g.others seen
   step_went calls.ForgetTransaction plain k x hs o us ms is rest found statement seen g = found_went found calls.ForgetTransaction k x hs o us ms is rest g.made g.does g.others seen
   step_went calls.Quit plain k x hs o us ms is rest found statement seen g = at_went calls.Quit k x hs o us ms is rest g.made g.does g.others

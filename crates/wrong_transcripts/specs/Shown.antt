@@ -47,6 +47,7 @@ step_of calls.SkipTaken = steps.Conn
 step_of calls.Ping = steps.Ping 0
 step_of calls.Reset = steps.Reset 0
 step_of (calls.Begin opts) = steps.Begin 0 opts
+step_of calls.Commit = steps.Commit 0
 step_of calls.Rollback = steps.Rollback 0
 step_of calls.ForgetTransaction = steps.ForgetTransaction 0
 step_of calls.Quit = steps.Quit 0

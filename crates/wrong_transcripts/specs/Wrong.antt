@@ -1,15 +1,15 @@
 -- Transcripts that no run has.
 use Rattle.std.specs.Prelude.{List, [], ◌∷◌, ◌++◌, codes, None, Some, true, false}
 use Rattle.my_opts_parts.specs.TransactionOptions.{default_tx}
-use Rattle.my_reading.specs.declared.call.Call.TheVariants.{Query, NextRow, DropResult, Begin, Rollback, ForgetTransaction, Quit}
+use Rattle.my_reading.specs.declared.call.Call.TheVariants.{Query, NextRow, DropResult, Begin, Commit, Rollback, ForgetTransaction, Quit}
 use Rattle.my_reading.specs.declared.error.Error.TheVariants.{Driver, Server}
 use Rattle.my_reading.specs.declared.error.DriverError.TheVariants.{NestedTransaction}
 use Rattle.my_reading.specs.declared.error.IoKind.TheVariants.{Link}
 use Rattle.my_reading.specs.Errors.{connection_closed, io_error, unexpected_eof, invalid_data}
 use Rattle.my_reading.specs.Told.{ToldReady, ToldRow, ToldEnd, ToldNone, ToldError}
 use Rattle.my_reading.specs.Tape.{Span}
-use Rattle.wrong_tapes.specs.Bytes.{root, connected, selected, asked, asks, returned, call_with, row, one, end, fine, refusal, head, packet, prepared, reset, begun, forgotten, full_tx, pinged, reading_tx, rolls_back, sets_access, sets_level, starts, starts_fully}
-use Rattle.wrong_tapes.specs.Right.{error}
+use Rattle.wrong_tapes.specs.Bytes.{root, connected, selected, asked, asks, returned, call_with, row, one, end, fine, refusal, head, packet, prepared, reset, begun, commits, forgotten, full_tx, other_refusal, pinged, reading_tx, rolls_back, sets_access, sets_level, starts, starts_fully}
+use Rattle.wrong_tapes.specs.Right.{error, other_error}
 use Rattle.wrong_transcripts.specs.Shown.{NoFields, NoTranscript}
 
 -- after `conn` these calls are in no transcript of a client that logs in as root
@@ -52,6 +52,14 @@ pub record AreWrong : Type 0 where
   pub early_begin : NoneShow (returned (Begin reading_tx) (sets_access ++ starts) (fine 1 2) ToldReady ∷ [])
   -- `begin`, `rollback`: nothing was sent
   pub silent_rollback : NoneShow (begun ∷ returned Rollback [] [] ToldReady ∷ [])
+  -- `begin`, `commit`: ok, though the server refused; it isn't rolled back then; an error before the answer to that, or the second one in place
+  -- of the first; it is rolled back though it was committed; nothing was sent
+  pub committed_by_error : NoneShow (begun ∷ returned Commit commits (refusal 1) ToldReady ∷ [])
+  pub not_rolled_back : NoneShow (begun ∷ returned Commit commits (refusal 1) (ToldError (Server error)) ∷ [])
+  pub early_refusal : NoneShow (begun ∷ returned Commit (commits ++ rolls_back) (refusal 1) (ToldError (Server error)) ∷ [])
+  pub second_refusal : NoneShow (begun ∷ returned Commit (commits ++ rolls_back) (refusal 1 ++ other_refusal 1) (ToldError (Server other_error)) ∷ [])
+  pub undone_commit : NoneShow (begun ∷ returned Commit (commits ++ rolls_back) (fine 1 2 ++ fine 1 2) ToldReady ∷ [])
+  pub silent_commit : NoneShow (begun ∷ returned Commit [] [] ToldReady ∷ [])
   -- `query`: another command was sent
   pub other_command : NoneShow (returned (Query (codes "SELECT 1")) (asks (codes "SELECT 2")) head ToldReady ∷ [])
   -- `query`, `query`: the second returned an earlier error, and sent its command

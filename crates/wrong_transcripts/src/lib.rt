@@ -7,9 +7,9 @@ ghost use Rattle.wrong_transcripts.specs.Wrong.{AreWrong};
 
 /// No run has one of these transcripts: a row, an end or an error that the bytes don't hold, an answer that comes too
 /// early, a step that stays pending though its answer was received, a command that wasn't sent or is another call's, a
-/// reset for which nothing was sent, a transaction that isn't begun as its options say, or that was given up and isn't rolled
-/// back before the next command, bytes on a closed connection, a statement that has another number of parameters than the
-/// server said, or that is prepared again though it is cached.
+/// reset for which nothing was sent, a transaction that isn't begun as its options say, that was given up and isn't rolled
+/// back before the next command, or that is committed though the server refused, bytes on a closed connection, a statement
+/// that has another number of parameters than the server said, or that is prepared again though it is cached.
 pub fn no_transcript_is_wrong()
     ensures { AreWrong }
 {}

@@ -16,7 +16,7 @@ use Rattle.my_link.specs.Spent.{Whole, HasGot, ReadsSpent, IsSpent, FaultsSpent}
 use Rattle.my_link.proofs.Spending.{used_spent}
 use Rattle.my_reading.specs.declared.answer.Answer.TheVariants as answers
 use Rattle.my_reading.specs.declared.call.Call.{Call}
-use Rattle.my_reading.specs.declared.call.Call.TheVariants.{CloseStmt, Execute, NextRow, TakeSet, SkipTaken, Rollback, ForgetTransaction}
+use Rattle.my_reading.specs.declared.call.Call.TheVariants.{CloseStmt, Execute, NextRow, TakeSet, SkipTaken, Commit, Rollback, ForgetTransaction}
 use Rattle.my_reading.specs.Calls.{kind_of}
 use Rattle.my_client.specs.declared.poll.After.{After}
 use Rattle.my_client.specs.declared.poll.After.TheVariants as after
@@ -266,6 +266,7 @@ step_fits login plans found named hs (steps.Drop n) o us ts w r = at_fits plans 
 step_fits login plans found named hs (steps.Ping n) o us ts w r = at_fits plans n _ hs ts o us (λ h t. calls_fits (plans.reads n) (plans.dials n) login n _ o us h t) w r
 step_fits login plans found named hs (steps.Reset n) o us ts w r = at_fits plans n _ hs ts o us (λ h t. calls_fits (plans.reads n) (plans.dials n) login n _ o us h t) w r
 step_fits login plans found named hs (steps.Begin n opts) o us ts w r = at_fits plans n _ hs ts o us (λ h t. calls_fits (plans.reads n) (plans.dials n) login n _ o us h t) w r
+step_fits login plans found named hs (steps.Commit n) o us ts w r = at_fits plans n _ hs ts o us (λ h t. where_fits (plans.reads n) (plans.dials n) found login n Commit o us h t) w r
 step_fits login plans found named hs (steps.Rollback n) o us ts w r = at_fits plans n _ hs ts o us (λ h t. where_fits (plans.reads n) (plans.dials n) found login n Rollback o us h t) w r
 step_fits login plans found named hs (steps.ForgetTransaction n) o us ts w r = at_fits plans n _ hs ts o us (λ h t. where_fits (plans.reads n) (plans.dials n) found login n ForgetTransaction o us h t) w r
 step_fits login plans found named hs (steps.Quit n) o us ts w r = at_fits plans n _ hs ts o us (λ h t. calls_fits (plans.reads n) (plans.dials n) login n _ o us h t) w r
