@@ -88,6 +88,9 @@ asks_reset n statement = record { named = refl; begun = λ taken. refl; plain = 
 pub asks_begin : (n : ℕ) (statement : Option StatementView) (opts : TxView) → Asks n statement (steps.Begin n opts) (calls.Begin opts)
 asks_begin n statement opts = record { named = refl; begun = λ taken. refl; plain = refl; dialing = refl; idle = λ closed next o uses. ap (λ b. asked b o uses) (closed_and closed); opens = λ next. refl; gathers = λ first next. refl }
 
+pub asks_commit : (n : ℕ) (statement : Option StatementView) → Asks n statement (steps.Commit n) calls.Commit
+asks_commit n statement = record { named = refl; begun = λ taken. refl; plain = refl; dialing = refl; idle = λ closed next o uses. ap (λ b. asked b o uses) (closed_and closed); opens = λ next. refl; gathers = λ first next. refl }
+
 pub asks_rollback : (n : ℕ) (statement : Option StatementView) → Asks n statement (steps.Rollback n) calls.Rollback
 asks_rollback n statement = record { named = refl; begun = λ taken. refl; plain = refl; dialing = refl; idle = λ closed next o uses. ap (λ b. asked b o uses) (closed_and closed); opens = λ next. refl; gathers = λ first next. refl }
 

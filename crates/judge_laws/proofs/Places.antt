@@ -17,7 +17,7 @@ use Rattle.my_reading.specs.declared.call.Call.{Call}
 use Rattle.my_reading.specs.declared.call.Call.TheVariants as calls
 use Rattle.my_reading.specs.declared.facts.Facts.{Facts}
 use Rattle.my_reading.specs.Calls.{id_in, statement_in, text_in}
-use Rattle.my_reading.specs.Course.{Part, All, Head, Item, Set, Rest, Command, Find, Check, Run, Reply, Keep, Give, Learn, Forget, Offered, Clear, Text, Flag, Undo, Undone, Refuse, Settle, GiveUp, Step, Goes, Stops, checked, executed, closing_of, first_above, found, learned, offered, unless_cached, undone, unless_long, unless_owed, unless_refused, step_of, step, run, enough, parts_of, with_command, with_front, after_payload, after_kind, after_err, is_greeting, is_rows}
+use Rattle.my_reading.specs.Course.{Part, All, Head, Item, Set, Rest, Command, Find, Check, Run, Reply, Keep, Give, Learn, Forget, Offered, Clear, Text, Flag, Undo, Undone, Refuse, Settle, GiveUp, Try, Back, Step, Goes, Stops, checked, executed, closing_of, first_above, found, learned, offered, refused_at, returned, unless_cached, undone, unless_long, unless_owed, unless_refused, step_of, step, run, enough, parts_of, with_command, with_front, after_payload, after_kind, after_err, is_greeting, is_rows}
 use Rattle.my_handshake.specs.Version.{version_of}
 use Rattle.my_reading.specs.Commands.{queried}
 use Rattle.my_reading.specs.Executions.{Values, Fitting, Unfitting, values_for}
@@ -31,6 +31,10 @@ use Rattle.my_reading.specs.Told.{Told, ToldRow}
 use Rattle.my_reading.specs.Transactions.{begin_refusal, is_given_up, rollback_text}
 use Rattle.my_reading.specs.Versions.{can_reset}
 use Rattle.my_reading.specs.declared.error.DriverError.{DriverError}
+use Rattle.my_reading.specs.declared.error.ServerError.{ServerError}
+use Rattle.my_reading.specs.declared.transaction.Trial.{Trial}
+use Rattle.my_reading.specs.declared.transaction.Trial.TheVariants as trials
+use Rattle.my_reading.specs.Errors.{server_error}
 use Rattle.std.proofs.Common.{nat_lt, length}
 
 -- the step leaves these bytes sent
@@ -63,9 +67,19 @@ module _ (login : Login) (call : Call) where
   kind_keeps Set parts (kinds.Good status) new row = refl
   kind_keeps part parts k new row = refl
 
+  refused_at_keeps : (sent : List ℕ) (trial : Trial) (new : Place) (e : ServerError) → new.sent ≡ sent → Keeps sent (refused_at trial new e)
+  refused_at_keeps sent trials.Off new e same = same
+  refused_at_keeps sent trials.On new e same = same
+  refused_at_keeps sent (trials.Refused first) new e same = same
+
+  returned_keeps : (p : Place) (t : Trial) → Keeps p.sent (returned p t)
+  returned_keeps p trials.Off = refl
+  returned_keeps p trials.On = refl
+  returned_keeps p (trials.Refused first) = refl
+
   err_keeps : (p new : Place) (e : Option ErrPacket) → new.sent ≡ p.sent → Keeps p.sent (after_err login p new e)
   err_keeps p new None same = refl
-  err_keeps p new (Some e) same = same
+  err_keeps p new (Some e) same = refused_at_keeps p.sent p.trial new (server_error e) same
 
   cached_keeps : (part : Part) (parts : List Part) (p new : Place) (reply : Option PrepareOk) → new.sent ≡ p.sent → Keeps p.sent (unless_cached login p reply (Goes (part ∷ parts) new))
   cached_keeps part parts p new None same = same
@@ -137,6 +151,8 @@ module _ (login : Login) (call : Call) where
   of_keeps (Refuse opts ∷ parts) p = refused_keeps parts p (begin_refusal opts (version_of (facts_at login p).version) p.status)
   of_keeps (Settle status ∷ parts) p = refl
   of_keeps (GiveUp ∷ parts) p = refl
+  of_keeps (Try ∷ parts) p = refl
+  of_keeps (Back ∷ parts) p = either_keeps p.sent (is_over p.talk) _ _ (returned_keeps p p.trial) (front_keeps Back parts p (front_of p.talk p.unread))
 
   step_keeps : (parts : List Part) (p : Place) → Keeps p.sent (step login call parts p)
   unfolding step

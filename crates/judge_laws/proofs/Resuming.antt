@@ -90,6 +90,7 @@ is_connecting calls.SkipTaken e = cc
 is_connecting calls.Ping e = cc
 is_connecting calls.Reset e = cc
 is_connecting (calls.Begin opts) e = cc
+is_connecting calls.Commit e = cc
 is_connecting calls.Rollback e = cc
 is_connecting calls.ForgetTransaction e = cc
 is_connecting calls.Quit e = cc
@@ -231,6 +232,7 @@ module _ (login : Login) (t : Tape) (all : AreCalls login (reading login t).call
           not_next calls.Ping e f = cc
           not_next calls.Reset e f = cc
           not_next (calls.Begin opts) e f = cc
+          not_next calls.Commit e f = cc
           not_next calls.Rollback e f = cc
           not_next calls.ForgetTransaction e f = cc
           not_next calls.Quit e f = cc

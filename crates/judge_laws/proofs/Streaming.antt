@@ -64,6 +64,7 @@ skip_call calls.SkipTaken e = refl
 skip_call calls.Ping e = cc
 skip_call calls.Reset e = cc
 skip_call (calls.Begin opts) e = cc
+skip_call calls.Commit e = cc
 skip_call calls.Rollback e = cc
 skip_call calls.ForgetTransaction e = cc
 skip_call calls.Quit e = cc

@@ -83,6 +83,10 @@ const THREE_OKS: &str =
 const OK_ERR_OKS: &str =
     "packet 0 1 00000002000000\nturn 0\npacket 0 1 ff280423343230303058\nturn 0\npacket 0 1 00000002000000\nturn 0\npacket 0 1 00000002000000\nturn 0\n";
 
+// An OK, and an ERR whose rollback has an OK; then both are refused, and rolled back before a ping.
+const COMMITS_REFUSED: &str =
+    "packet 0 1 00000002000000\nturn 0\npacket 0 1 ff280423343230303058\nturn 0\npacket 0 1 00000002000000\nturn 0\npacket 0 1 00000002000000\nturn 0\npacket 0 1 ff280423343230303058\nturn 0\npacket 0 1 ffbd0423343030303159\nturn 0\npacket 0 1 00000002000000\nturn 0\npacket 0 1 00000002000000\nturn 0\n";
+
 /// A script: the word of its options, the lines of its links, and its steps.
 #[derive(Clone, Copy)]
 pub struct Script {
@@ -299,6 +303,25 @@ pub fn transactions() -> [Script; 4] {
         plain(
             [GREETING, HELD_OK, ""],
             "conn\nbegin 0\nrollback 0\npoll 0\nrollback 0\ncancel 0\nping 0\n",
+        ),
+    ]
+}
+
+/// Commits: one that is answered, and a second one that isn't there; one that the server refuses, and one of which it refuses the
+/// rollback, too; one that is held, and polled.
+pub fn commits() -> [Script; 3] {
+    [
+        plain(
+            [GREETING, TWO_OKS, TWO_OKS],
+            "conn\nbegin 0\nquery 0 DO 1\ncommit 0\ncommit 0\nping 0\n",
+        ),
+        plain(
+            [GREETING, COMMITS_REFUSED, ""],
+            "conn\nbegin 0\ncommit 0\nbegin 0\ncommit 0\nping 0\n",
+        ),
+        plain(
+            [GREETING, TWO_OKS, HELD_OK],
+            "conn\nbegin 0\nquery 0 DO 1\ncommit 0\npoll 0\ncommit 0\n",
         ),
     ]
 }

@@ -2,7 +2,7 @@
 
 use crate::changes::swap_outcome;
 use crate::runs::{Run, run_of};
-use crate::scripts::transactions;
+use crate::scripts::{commits, transactions};
 use crate::statements::is_wrong_with;
 use crate::tables::{count_all, counted, refuted};
 use my_frame::NoMemory;
@@ -16,6 +16,13 @@ use std::test::Fail;
 fn transactions_that_begin_and_end(rt: HostRuntime) -> Result<(), Fail> {
     let found = count_all(&rt, rt.alloc(), &transactions())?;
     assert_eq!(rt; found, refuted(366, counted(60, 0)));
+    Ok(())
+}
+
+#[test]
+fn transactions_that_are_committed(rt: HostRuntime) -> Result<(), Fail> {
+    let found = count_all(&rt, rt.alloc(), &commits())?;
+    assert_eq!(rt; found, refuted(283, counted(63, 0)));
     Ok(())
 }
 

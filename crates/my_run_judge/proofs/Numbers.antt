@@ -25,6 +25,7 @@ dialed_one (steps.Drop n) = omega arith
 dialed_one (steps.Ping n) = omega arith
 dialed_one (steps.Reset n) = omega arith
 dialed_one (steps.Begin n opts) = omega arith
+dialed_one (steps.Commit n) = omega arith
 dialed_one (steps.Rollback n) = omega arith
 dialed_one (steps.ForgetTransaction n) = omega arith
 dialed_one (steps.Quit n) = omega arith

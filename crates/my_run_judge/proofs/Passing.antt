@@ -1,5 +1,5 @@
 -- The two polls of a line that passes over a set's rest and takes the next one.
-use Rattle.std.proofs.Common.{◌≡◌, ℕ, List, [], ◌∷◌, length, Bool, true, false, refl, sym, subst}
+use Rattle.std.proofs.Common.{◌≡◌, ◌<◌, ◌≤◌, ℕ, List, [], ◌∷◌, length, get_or, Bool, true, false, Result, Ok, Err, IfOk, refl, sym, subst, arith}
 use Rattle.my_grammar.specs.declared.login.Login.{Login}
 use Rattle.my_script.specs.declared.transcript.Outcome.{Outcome}
 use Rattle.my_script.specs.declared.transcript.Use.{Use}
@@ -9,6 +9,12 @@ use Rattle.my_run_judge.specs.Does.{Does, Done, walk_of}
 use Rattle.my_run_judge.specs.Lines.{ArePassed, LastPoll, SkipPoll, after_last_poll, after_polls, after_row_poll}
 use Rattle.my_run_judge.specs.Walks.{Walk}
 use Rattle.my_run_judge.proofs.Doing.{done_as, not_right, wrong}
+
+pub two_of : (us : List Use) (d : Use) → 2 ≤ length us → length us < 3 → us ≡ get_or us 0 d ∷ get_or us 1 d ∷ []
+two_of [] d h i = absurd (omega arith)
+two_of (u ∷ []) d h i = absurd (omega arith)
+two_of (u ∷ v ∷ []) d h i = refl
+two_of (u ∷ v ∷ x ∷ us) d h i = absurd (omega arith)
 
 module _ (login : Login) (n : ℕ) (t : TapeSeen) (outcome : Outcome) where
   pub passed_two : (us : List Use) (w : Walk) → ArePassed login n t outcome us w → length us ≡ 2
@@ -47,3 +53,9 @@ module _ (login : Login) (n : ℕ) (t : TapeSeen) (outcome : Outcome) where
           (subst (λ (y : Walk). Done login Taken (after_last_poll login t outcome v) y right new) x.walk_is
           (done_as login Taken (after_last_poll login t outcome v) there new (LastPoll login n t outcome first v) (after_last_poll login t outcome v) there right
           (subst (λ m. LastPoll login n t outcome m v there) is) (subst (λ m. LastPoll login n t outcome m v there) (sym is)) refl last)))
+
+      pub takes_decide : {E : Type 0} (mid new : Walker) (first : ℕ) (r : Result Bool E) → first ≡ mid.spot.next → Does login (SkipPoll login n t u) (after_row_poll login t u) c true mid
+          → IfOk r (λ right. Does login (LastPoll login n t outcome first v) (after_last_poll login t outcome v) mid right new)
+          → IfOk r (λ right. Does login (ArePassed login n t outcome us) (after_polls login t outcome us) c right new)
+      takes_decide mid new first (Ok right) is d f = take_decides mid new first right is d f
+      takes_decide mid new first (Err x) is d f = tt

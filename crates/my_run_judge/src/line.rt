@@ -23,7 +23,7 @@ ghost use Rattle.my_run_judge.specs.Seen.{seen};
 
 use crate::polling::{first_of, is_told_by};
 use crate::shown::{is_shown_at, is_unanswered};
-use crate::walk::Walker;
+use crate::walk::{Walker, call_at};
 use my_frame::NoMemory;
 use my_grammar::Login;
 use my_link::Met;
@@ -234,7 +234,7 @@ impl Walker {
             let after = ended login.now (seen tape.now) false in
             IfOk result (λ right. Does login.now there after self.old right self.new) }
     {
-        let call = tape.calls.get(self.spot.next);
+        let call = call_at(tape, self.spot.next);
         if !self.begins(tape, named, step) || !is_shown_at(outcome, call, &[]) {
             return Ok(false);
         }
@@ -254,7 +254,7 @@ impl Walker {
             let after = ended login.now (seen tape.now) cancelled in
             IfOk result (λ right. Does login.now there after self.old right self.new) }
     {
-        if !is_unanswered(tape.calls.get(self.spot.next)) {
+        if !is_unanswered(call_at(tape, self.spot.next)) {
             return Ok(false);
         }
         self.end_call(alloc, login, tape, cancelled)

@@ -23,7 +23,7 @@ ghost use Rattle.my_run_judge.specs.Seen.{seen};
 
 use crate::meets::{last_met, row_met};
 use crate::shown::{is_next, is_pending, is_shown_at, is_skipped, is_taken_by};
-use crate::walk::{Spot, Walker, call_after};
+use crate::walk::{Spot, Walker, call_after, call_at};
 use my_acts::Status;
 use my_frame::NoMemory;
 use my_grammar::Login;
@@ -123,7 +123,7 @@ impl Walker {
             let after = ended login.now (seen tape.now) false in
             IfOk result (λ right. Does login.now there after self.old right self.new) }
     {
-        let call = tape.calls.get(self.spot.next);
+        let call = call_at(tape, self.spot.next);
         if !is_shown_at(outcome, call, calls_before(tape, first, self.spot.next)) {
             return Ok(false);
         }
@@ -198,7 +198,7 @@ impl Walker {
             return Ok(false);
         }
         self.spot.taken += used.met.taken as usize;
-        if !is_skipped(tape.calls.get(self.spot.next))
+        if !is_skipped(call_at(tape, self.spot.next))
             || !is_taken_by(call_after(tape, self.spot.next))
         {
             return Ok(false);

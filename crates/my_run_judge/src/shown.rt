@@ -181,6 +181,15 @@ fn is_begin(opts: TxOpts, call: &Call) -> bool
     }
 }
 
+fn is_commit(call: &Call) -> bool
+    ensures { Decides result (call.now ≡ Call.Commit) }
+{
+    match call {
+        Call::Commit => true,
+        _ => false,
+    }
+}
+
 fn is_rollback(call: &Call) -> bool
     ensures { Decides result (call.now ≡ Call.Rollback) }
 {
@@ -224,6 +233,7 @@ fn begins(taken: bool, named: Option<&Statement>, step: &Step, call: &Call) -> b
         Step::Ping(_) => is_ping(call),
         Step::Reset(_) => is_reset(call),
         Step::Begin(_, opts) => is_begin(*opts, call),
+        Step::Commit(_) => is_commit(call),
         Step::Rollback(_) => is_rollback(call),
         Step::ForgetTransaction(_) => is_forget(call),
         Step::Quit(_) => is_quit(call),

@@ -71,6 +71,13 @@ fn sent_end(after: Option<&TapeCall>, tape: &Tape) -> usize
     }
 }
 
+/// The call in turn.
+pub fn call_at(tape: &Tape, next: usize) -> Option<&TapeCall>
+    ensures { option_copied result ≡ slice_get (seen tape.now).calls next }
+{
+    tape.calls.get(next)
+}
+
 /// The call after the one in turn.
 pub fn call_after(tape: &Tape, next: usize) -> Option<&TapeCall>
     ensures { option_copied result ≡ slice_get (seen tape.now).calls (next + 1) }
@@ -97,7 +104,7 @@ impl Walker {
     pub fn begins(&self, tape: &Tape, named: Option<&Statement>, step: &Step) -> bool
         ensures { Begins (seen tape.now) (option_copied named.entry) step.now self.now result }
     {
-        is_begun(self.is_taken(), named, step, tape.calls.get(self.spot.next))
+        is_begun(self.is_taken(), named, step, call_at(tape, self.spot.next))
     }
 
     // Reads the call in turn over its bytes.

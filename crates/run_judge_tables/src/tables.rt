@@ -132,6 +132,7 @@ fn a_transaction_is_not_there(rt: HostRuntime) -> Result<(), Fail> {
     let begin = Step::Begin(0, TxOpts::new());
     lines.line(alloc, Step::Conn, Outcome::Pending, handshake)?;
     lines.line(alloc, begin, Outcome::NoSuchHandle, &[])?;
+    lines.line(alloc, Step::Commit(0), Outcome::NoSuchHandle, &[])?;
     lines.line(alloc, Step::Rollback(0), Outcome::NoSuchHandle, &[])?;
     lines.line(
         alloc,
@@ -141,6 +142,6 @@ fn a_transaction_is_not_there(rt: HostRuntime) -> Result<(), Fail> {
     )?;
     assert_eq!(rt; lines.found(alloc, true)?, Found::Right);
     lines.line(alloc, Step::ForgetTransaction(0), Outcome::Done, &[])?;
-    assert_eq!(rt; lines.found(alloc, true)?, Found::Wrong(4));
+    assert_eq!(rt; lines.found(alloc, true)?, Found::Wrong(5));
     Ok(())
 }
