@@ -6,6 +6,7 @@ pub mod Prepares
 pub mod FitReplies
 pub mod Scramble
 pub mod Response
+pub mod Account
 pub mod Talk
 pub mod Growth
 pub mod Cut

@@ -2,6 +2,7 @@
 //! and the exchanges that a stream of bytes holds.
 #![tactic(auto)]
 
+mod account;
 mod cut;
 mod kinds;
 pub mod laws;
@@ -12,6 +13,7 @@ mod queue;
 mod scramble;
 mod spot;
 
+pub use account::{Account, change_packet};
 pub use cut::{CutRest, Found, cut_bytes};
 pub use kinds::kind_at;
 pub use login::{Login, login_response};

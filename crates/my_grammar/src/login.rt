@@ -58,8 +58,8 @@ impl Login {
     }
 }
 
-// The number of the character set: utf8mb4 where the server knows it.
-fn charset_for(version: ServerVersion) -> u8
+/// The number of the character set: utf8mb4 where the server knows it.
+pub(crate) fn charset_for(version: ServerVersion) -> u8
     ensures { result ≡ charset_of version }
 {
     let new_major = version.major > 5;
@@ -72,7 +72,8 @@ fn charset_for(version: ServerVersion) -> u8
     }
 }
 
-fn text_or_none(alloc: Global, text: &Option<Blob>) -> Result<Blob, NoMemory>
+/// The text, or an empty one.
+pub(crate) fn text_or_none(alloc: Global, text: &Option<Blob>) -> Result<Blob, NoMemory>
     ensures { IfOk result (λ copy. copy ≡ unwrap_or text.now []) }
 {
     match text {

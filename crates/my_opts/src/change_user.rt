@@ -10,7 +10,7 @@ use std::alloc::Global;
 use std::marker::Model;
 
 /// What a change of user changes: each part is left as it is, or gets a value or none.
-#[derive(Drop, PartialEq, Eq)]
+#[derive(Debug, Drop, PartialEq, Eq)]
 pub struct ChangeUserOpts {
     user: Option<Option<Text>>,
     pass: Option<Option<Text>>,
@@ -93,9 +93,9 @@ impl ChangeUserOpts {
             || differs(&self.db_name, &opts.db_name)
     }
 
-    /// The options after the change.
-    pub fn update_opts(self, mut opts: Opts) -> Opts
-        ensures { result ≡ changed_opts self opts }
+    /// Changes these options.
+    pub fn update_opts(self, opts: &mut Opts)
+        ensures { opts.new ≡ changed_opts self opts.old }
     {
         let user = opts.user.take();
         opts.user = chosen(self.user, user);
@@ -103,7 +103,6 @@ impl ChangeUserOpts {
         opts.pass = chosen(self.pass, pass);
         let db_name = opts.db_name.take();
         opts.db_name = chosen(self.db_name, db_name);
-        opts
     }
 
     /// A second value of the same change.

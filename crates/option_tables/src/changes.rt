@@ -107,10 +107,10 @@ fn changes(
     would_change: bool,
     line: &str,
 ) -> Result<bool, UrlFault> {
-    let opts = Opts::from_url(alloc, "mysql://u@h/d")?;
+    let mut opts = Opts::from_url(alloc, "mysql://u@h/d")?;
     let changes = made.would_change(&opts);
-    let changed = made.update_opts(opts);
-    Ok(changes == would_change && is_line_of(&changed, line))
+    made.update_opts(&mut opts);
+    Ok(changes == would_change && is_line_of(&opts, line))
 }
 
 fn is_well(
