@@ -31,10 +31,10 @@ record Gathers (f : Facts) (left : ℕ) (columns : List Column) : Type 0 where
 
 -- a head with this column, whole or not
 abbrev whole_by : Facts → Column → Facts
-whole_by f c = record { version = f.version; connection = f.connection; status = f.status; ok = f.ok; left = 0; gathered = []; columns = f.gathered ++ c ∷ []; settings = f.settings; reply = f.reply; place = f.place }
+whole_by f c = record { version = f.version; connection = f.connection; nonce = f.nonce; status = f.status; ok = f.ok; left = 0; gathered = []; columns = f.gathered ++ c ∷ []; settings = f.settings; reply = f.reply; place = f.place }
 
 abbrev part_by : Facts → Column → Facts
-part_by f c = record { version = f.version; connection = f.connection; status = f.status; ok = f.ok; left = f.left - 1; gathered = f.gathered ++ c ∷ []; columns = f.columns; settings = f.settings; reply = f.reply; place = f.place }
+part_by f c = record { version = f.version; connection = f.connection; nonce = f.nonce; status = f.status; ok = f.ok; left = f.left - 1; gathered = f.gathered ++ c ∷ []; columns = f.columns; settings = f.settings; reply = f.reply; place = f.place }
 
 joined : (f : Facts) (c : Column) (ps : List (List ℕ)) (p : List ℕ) → column_at p ≡ Some c → f.gathered ≡ columns_in_order ps → f.gathered ++ c ∷ [] ≡ columns_in_order (p ∷ ps)
 joined f c ps p is g = ap (λ cs. cs ++ c ∷ []) g ∙ ap (λ o. columns_in_order ps ++ column_list o) (sym is)

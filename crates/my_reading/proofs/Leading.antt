@@ -17,7 +17,7 @@ use Rattle.my_reading.specs.declared.transaction.Trial.{Trial}
 use Rattle.my_reading.specs.declared.transaction.Trial.TheVariants as trials
 use Rattle.my_reading.specs.declared.call.Call.TheVariants.{Prepare}
 use Rattle.my_reading.specs.Calls.{statement_in, text_in}
-use Rattle.my_reading.specs.Course.{Part, All, Head, Item, Set, Rest, Command, Find, Check, Run, Reply, Keep, Give, Learn, Forget, Offered, Clear, Text, Flag, Undo, Undone, Refuse, Settle, GiveUp, Try, Back, Stop, Step, Goes, Stops, step, step_of, unless_owed, with_front, reads, after_payload, after_kind, after_err, unless_cached, unless_long_response, with_command, first_above, found, checked, executed, closing_of, learned, offered, undone, unless_refused, refused_at, returned, is_greeting, is_rows, parts_of, run, halt, enough}
+use Rattle.my_reading.specs.Course.{Part, All, Head, Item, Set, Rest, Command, Find, Check, Run, Reply, Keep, Give, Learn, Forget, Offered, Clear, Text, Flag, Adopt, Renew, Drain, Undo, Undone, Refuse, Settle, GiveUp, Try, Back, Stop, Step, Goes, Stops, step, step_of, unless_owed, with_front, reads, after_payload, after_kind, after_err, dropped_at, failed_at, is_drain, unless_cached, unless_long_response, with_command, first_above, found, checked, executed, closing_of, learned, offered, undone, renewing, unless_refused, refused_at, returned, is_greeting, is_rows, parts_of, run, halt, enough}
 use Rattle.my_handshake.specs.Version.{version_of}
 use Rattle.my_reading.specs.Commands.{queried}
 use Rattle.my_reading.specs.Executions.{Values, Fitting, Unfitting, values_for}
@@ -84,6 +84,9 @@ module _ (part : Part) (parts : List Part) (p : Place) (t : Talk) (rest : List �
       by_part Clear k = omega arith
       by_part (Text text) k = omega arith
       by_part (Flag flag) k = omega arith
+      by_part (Adopt change) k = omega arith
+      by_part Renew k = omega arith
+      by_part Drain k = omega arith
       by_part Undo k = omega arith
       by_part Undone k = omega arith
       by_part (Refuse opts) k = omega arith
@@ -139,6 +142,19 @@ module _ (part : Part) (parts : List Part) (p : Place) (t : Talk) (rest : List �
   err_size login None = omega arith
   err_size login (Some e) = refused_size p.trial (server_error e)
 
+  dropped_size : (login : Login) (x : Option ErrPacket) → size_of (dropped_at login parts p new x) ≤ left
+  unfolding size_of size weight
+  dropped_size login None = omega arith
+  dropped_size login (Some e) = omega arith
+
+  failed_size : (login : Login) (x : Option ErrPacket) → size_of (failed_at login part parts p new x) ≤ left + 2
+  unfolding size_of
+  failed_size login x = by_drain (is_drain part)
+    where
+      by_drain : (b : Bool) → size_of (cond b (dropped_at login parts p new x) (after_err login p new x)) ≤ left + 2
+      by_drain true = let here = dropped_size login x in omega (arith, here)
+      by_drain false = let here = err_size login x in omega (arith, here)
+
   long_size : (login : Login) (payload : List ℕ) (b : Bool) → nat_lt (limit_of p.talk) (length (response login payload)) ≡ b
       → size_of (unless_long_response login p payload (Goes (part ∷ parts) new)) ≤ left
   unfolding size_of size weight
@@ -157,7 +173,7 @@ module _ (part : Part) (parts : List Part) (p : Place) (t : Talk) (rest : List �
   payload_size : (login : Login) (payload : List ℕ) (k : Kind) → size_of (after_payload login part parts p new payload k) ≤ left + 2
   unfolding size_of
   payload_size login payload kinds.Bad = omega arith
-  payload_size login payload kinds.Failed = let here = err_size login (err_at (is_greeting (context_of p.talk).spot) payload) in omega (arith, here)
+  payload_size login payload kinds.Failed = failed_size login (err_at (is_greeting (context_of p.talk).spot) payload)
   payload_size login payload (kinds.Greets n) = let here = long_size login payload (nat_lt (limit_of p.talk) (length (response login payload))) refl in omega (arith, here)
   payload_size login payload (kinds.Good status) = let here = kind_size (ToldRow (row_of (context_of p.talk).rows (facts_at login p).columns payload)) (kinds.Good status) in omega (arith, here)
   payload_size login payload (kinds.Count n) = let here = kind_size (ToldRow (row_of (context_of p.talk).rows (facts_at login p).columns payload)) (kinds.Count n) in omega (arith, here)
@@ -271,6 +287,11 @@ part_size login call (Offered ∷ parts) p = let here = offered_size parts p (ca
 part_size login call (Clear ∷ parts) p = omega arith
 part_size login call (Text text ∷ parts) p = let here = command_size call parts p (Some (queried (terms_of login (exchanges p)) text)) in omega (arith, here)
 part_size login call (Flag flag ∷ parts) p = omega arith
+part_size login call (Adopt change ∷ parts) p = omega arith
+part_size login call (Renew ∷ parts) p = let here = command_size call parts p (Some (renewing login call p (facts_at login p))) in omega (arith, here)
+part_size login call (Drain ∷ parts) p =
+    let here = reads_size login Drain parts p in
+    either p.end_left _ _ _ (λ e. quiet_size (Drain ∷ parts) p e) (λ _. either (is_over p.talk) _ _ _ (λ _. omega arith) (λ _. omega (arith, here)))
 part_size login call (Undo ∷ parts) p = let here = undone_size login call parts p (is_given_up p.status) in omega (arith, here)
 part_size login call (Undone ∷ parts) p = omega arith
 part_size login call (Refuse opts ∷ parts) p = let here = unbegun_size parts p (begin_refusal opts (version_of (facts_at login p).version) p.status) in omega (arith, here)

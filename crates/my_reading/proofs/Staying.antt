@@ -18,7 +18,7 @@ use Rattle.my_reading.specs.declared.transaction.Trial.{Trial}
 use Rattle.my_reading.specs.declared.transaction.Trial.TheVariants as trials
 use Rattle.my_reading.specs.declared.call.Call.TheVariants.{Prepare}
 use Rattle.my_reading.specs.Calls.{statement_in, text_in}
-use Rattle.my_reading.specs.Course.{Part, All, Head, Item, Set, Rest, Command, Find, Check, Run, Reply, Keep, Give, Learn, Forget, Offered, Clear, Text, Flag, Undo, Undone, Refuse, Settle, GiveUp, Try, Back, Step, Goes, Stops, return, step, step_of, unless_owed, with_front, reads, after_payload, after_kind, after_err, unless_cached, unless_long_response, with_command, first_above, found, checked, executed, closing_of, learned, offered, undone, unless_refused, refused_at, returned, is_greeting, is_rows}
+use Rattle.my_reading.specs.Course.{Part, All, Head, Item, Set, Rest, Command, Find, Check, Run, Reply, Keep, Give, Learn, Forget, Offered, Clear, Text, Flag, Adopt, Renew, Drain, Undo, Undone, Refuse, Settle, GiveUp, Try, Back, Step, Goes, Stops, return, step, step_of, unless_owed, with_front, reads, after_payload, after_kind, after_err, dropped_at, failed_at, is_drain, unless_cached, unless_long_response, with_command, first_above, found, checked, executed, closing_of, learned, offered, undone, renewing, unless_refused, refused_at, returned, is_greeting, is_rows}
 use Rattle.my_handshake.specs.Version.{version_of}
 use Rattle.my_reading.specs.Commands.{queried}
 use Rattle.my_reading.specs.Executions.{Values, Fitting, Unfitting, values_for}
@@ -81,6 +81,9 @@ module _ (login : Login) (sent taken : List ℕ) where
   kind_more Clear parts k new row = refl
   kind_more (Text text) parts k new row = refl
   kind_more (Flag flag) parts k new row = refl
+  kind_more (Adopt change) parts k new row = refl
+  kind_more Renew parts k new row = refl
+  kind_more Drain parts k new row = refl
   kind_more Undo parts k new row = refl
   kind_more Undone parts k new row = refl
   kind_more (Refuse opts) parts k new row = refl
@@ -140,6 +143,22 @@ module _ (login : Login) (sent taken : List ℕ) where
         by_trial trials.On = refl
         by_trial (trials.Refused first) = refl
 
+    dropped_more : (new : Place) (x : Option ErrPacket)
+        → dropped_at login parts (more p) (more new) x ≡ lift sent taken (dropped_at login parts p new x)
+    unfolding lift
+    dropped_more new None = refl
+    dropped_more new (Some e) = refl
+
+    failed_more : (new : Place) (x : Option ErrPacket)
+        → failed_at login part parts (more p) (more new) x ≡ lift sent taken (failed_at login part parts p new x)
+    failed_more new x = by_drain (is_drain part)
+      where
+        by_drain : (b : Bool)
+            → cond b (dropped_at login parts (more p) (more new) x) (after_err login (more p) (more new) x)
+            ≡ lift sent taken (cond b (dropped_at login parts p new x) (after_err login p new x))
+        by_drain true = dropped_more new x
+        by_drain false = err_more new x
+
     long_more : (new : Place) (payload : List ℕ) (b : Bool)
         → nat_lt (limit_of p.talk) (length (response login payload)) ≡ b
         → unless_long_response login (more p) payload (Goes (part ∷ parts) (more new))
@@ -166,7 +185,7 @@ module _ (login : Login) (sent taken : List ℕ) where
         ≡ lift sent taken (after_payload login part parts p new payload k)
     unfolding lift
     payload_more new payload kinds.Bad = refl
-    payload_more new payload kinds.Failed = err_more new (err_at (is_greeting (context_of p.talk).spot) payload)
+    payload_more new payload kinds.Failed = failed_more new (err_at (is_greeting (context_of p.talk).spot) payload)
     payload_more new payload (kinds.Greets n) = long_more new payload (nat_lt (limit_of p.talk) (length (response login payload))) refl
     payload_more new payload (kinds.Good status) = kind_more part parts (kinds.Good status) new (row payload)
     payload_more new payload (kinds.Count n) = kind_more part parts (kinds.Count n) new (row payload)
@@ -291,6 +310,11 @@ module _ (login : Login) (sent taken : List ℕ) where
     part_more (Clear ∷ parts) e = ap (lift sent taken) e
     part_more (Text text ∷ parts) e = command_more call parts p (Some (queried (terms_of login (exchanges p)) text)) ∙ ap (lift sent taken) e
     part_more (Flag flag ∷ parts) e = cc
+    part_more (Adopt change ∷ parts) e = ap (lift sent taken) e
+    part_more (Renew ∷ parts) e = command_more call parts p (Some (renewing login call p (facts_at login p))) ∙ ap (lift sent taken) e
+    part_more (Drain ∷ parts) e =
+        either_more p.end_left _ _ _ _ (λ f. ap (lift sent taken) f)
+        (either_more (is_over p.talk) _ _ _ _ (λ f. ap (lift sent taken) f) (reads_more Drain parts p rest q)) e
     part_more (Undo ∷ parts) e = undone_more call parts p (is_given_up p.status) ∙ ap (lift sent taken) e
     part_more (Undone ∷ parts) e = ap (lift sent taken) e
     part_more (Refuse opts ∷ parts) e =

@@ -1,20 +1,29 @@
 -- The command that a call sends, as the exchange that it begins with a client's packet.
 -- MySQL internals, "Text Protocol", "Prepared Statements" and "Utility Commands": COM_QUERY, COM_STMT_PREPARE, COM_STMT_EXECUTE,
--- COM_STMT_SEND_LONG_DATA, COM_STMT_CLOSE, COM_PING, COM_RESET_CONNECTION, COM_QUIT.
-use Rattle.std.specs.Prelude.{ℕ, zero, suc, List, [], ◌∷◌, ◌++◌, reverse, slice_get, codes, Option, Some, None}
+-- COM_STMT_SEND_LONG_DATA, COM_STMT_CLOSE, COM_PING, COM_RESET_CONNECTION, COM_CHANGE_USER, COM_QUIT.
+use Rattle.std.specs.Prelude.{ℕ, zero, Bool, true, false, suc, List, [], ◌∷◌, ◌++◌, reverse, slice_get, codes, Option, Some, None}
+use Rattle.my_command.specs.declared.client.ClientPacket.{ClientPacket}
 use Rattle.my_command.specs.declared.client.ClientPacket.TheVariants as packets
+use Rattle.my_flags.specs.declared.flags.CapabilityFlags.{CapabilityFlags}
 use Rattle.my_command.specs.Client.Packet.{client_bytes as packet_bytes}
+use Rattle.my_grammar.specs.declared.account.Account.{Account}
 use Rattle.my_grammar.specs.declared.login.Login.{Login}
 use Rattle.my_grammar.specs.declared.spot.Terms.{Terms}
+use Rattle.my_grammar.specs.Account.{change_to}
 use Rattle.my_grammar.specs.Prepares.{Unanswered}
 use Rattle.my_grammar.specs.Sets.{ByText, ByStatement, NoSets}
 use Rattle.my_grammar.specs.Talk.{Talk, Start, Queried, Preparing, Asked, Silent}
 use Rattle.my_params.specs.LongData.{ahead_of}
 use Rattle.my_params.specs.Parameters.{body_of}
+use Rattle.my_handshake.specs.declared.version.ServerVersion.{ServerVersion}
 use Rattle.my_reading.specs.declared.call.Call.{Call}
-use Rattle.my_reading.specs.declared.call.Call.TheVariants.{Connect, Query, Prepare, Execute, Batch, CloseStmt, NextRow, DropResult, TakeSet, SkipTaken, Ping, Reset, Begin, Commit, Rollback, ForgetTransaction, Quit}
+use Rattle.my_reading.specs.declared.call.Call.TheVariants.{Connect, Query, Prepare, Execute, Batch, CloseStmt, NextRow, DropResult, TakeSet, SkipTaken, Ping, Reset, ChangeUser, Begin, Commit, Rollback, ForgetTransaction, CleanForPool, ResetForPool, Quit}
+use Rattle.my_reading.specs.declared.facts.Facts.{Facts}
+use Rattle.my_reading.specs.declared.call.CallKind.{CallKind}
+use Rattle.my_reading.specs.declared.call.CallKind.TheVariants as kinds
 use Rattle.my_reading.specs.Executions.{Values, Fitting, Unfitting, values_for}
 use Rattle.my_reading.specs.Statements.{Statements, known_in, query_of}
+use Rattle.my_reading.specs.Versions.{can_reset}
 
 -- the exchange of a query
 abbrev pub queried : Terms → List ℕ → Talk
@@ -40,6 +49,21 @@ command_of terms st Ping = Some (Asked terms (packet_bytes packets.Ping))
 command_of terms st Reset = Some (Asked terms (packet_bytes packets.ResetConnection))
 command_of terms st Quit = Some (Silent terms (packet_bytes packets.Quit))
 command_of terms st _ = None
+
+-- The packet by which the server's session is renewed, where these are the capabilities of both sides, the server said this of itself, and
+-- the options in force have this account: the session is reset, or gets the user of the account.
+abbrev pub renewal_packet : Login → CapabilityFlags → Facts → Account → Bool → ClientPacket
+renewal_packet login kept f account true = packets.ResetConnection
+renewal_packet login kept f account false = packets.ChangeUser (change_to login kept f.version f.nonce account)
+
+-- and its exchange, between client and server that keep to these terms
+abbrev pub renewal : Login → Terms → Facts → Account → Bool → Talk
+renewal login terms f account by_reset = Asked terms (packet_bytes (renewal_packet login terms.kept f account by_reset))
+
+-- A pool has the session reset where the server can; each other renewal is a change of user.
+abbrev pub renews_by_reset : CallKind → ServerVersion → Bool
+renews_by_reset kinds.ResetForPool v = can_reset v
+renews_by_reset c v = false
 
 -- what the server is asked for: the settings that the options leave open
 abbrev pub settings_text : Option ℕ → Option ℕ → Option (List ℕ)
@@ -72,7 +96,7 @@ connecting login terms (suc n) = arranging terms (slice_get (arranging_texts log
 
 -- The exchange that a call begins, if it begins one: connecting begins several, and n of them came before. Those of a batch are told by
 -- the parts of the call, which have the parameters of each, and so are the queries that follow a reset, of which this is the first command,
--- and those of a transaction.
+-- those of a transaction, and the renewal of a session.
 abbrev pub opening : Login → Terms → Statements → Call → ℕ → Option Talk
 opening login terms st Connect n = connecting login terms n
 opening login terms st (Query text) n = command_of terms st (Query text)
@@ -86,8 +110,11 @@ opening login terms st TakeSet n = None
 opening login terms st SkipTaken n = None
 opening login terms st Ping n = command_of terms st Ping
 opening login terms st Reset n = command_of terms st Reset
+opening login terms st (ChangeUser change) n = None
 opening login terms st (Begin opts) n = None
 opening login terms st Commit n = None
 opening login terms st Rollback n = None
 opening login terms st ForgetTransaction n = None
+opening login terms st CleanForPool n = None
+opening login terms st ResetForPool n = None
 opening login terms st Quit n = command_of terms st Quit

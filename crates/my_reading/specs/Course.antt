@@ -19,6 +19,7 @@ use Rattle.my_handshake.specs.Version.{version_of}
 use Rattle.my_grammar.specs.declared.spot.Terms.{Terms}
 use Rattle.my_grammar.specs.Talk.{Talk, commands_in, context_of, limit_of}
 use Rattle.my_statements.specs.Cache.{Held}
+use Rattle.my_opts.specs.ChangeUser.{ChangeView}
 use Rattle.my_opts_parts.specs.TransactionOptions.{TxView}
 use Rattle.my_params.specs.declared.params.Params.{Params}
 use Rattle.my_reading.specs.declared.call.Call.{Call}
@@ -32,12 +33,13 @@ use Rattle.my_reading.specs.declared.transaction.Trial.{Trial}
 use Rattle.my_reading.specs.declared.transaction.Trial.TheVariants as trials
 use Rattle.my_reading.specs.declared.transaction.TxStatus.{TxStatus}
 use Rattle.my_reading.specs.declared.transaction.TxStatus.TheVariants as txs
-use Rattle.my_reading.specs.Calls.{id_in, statement_in, text_in}
-use Rattle.my_reading.specs.Commands.{arranging_texts, closing, execution, queried, setup_texts}
+use Rattle.my_reading.specs.Accounts.{changed}
+use Rattle.my_reading.specs.Calls.{kind_of as call_kind, id_in, statement_in, text_in}
+use Rattle.my_reading.specs.Commands.{arranging_texts, closing, execution, queried, renewal, renews_by_reset, setup_texts}
 use Rattle.my_reading.specs.Errors.{codec_error, invalid_data, mixed_params, server_error}
 use Rattle.my_reading.specs.Executions.{Values, Fitting, Unfitting, values_for}
 use Rattle.my_reading.specs.Facts.{prepared_by}
-use Rattle.my_reading.specs.Place.{Place, exchanges, facts_at, owed, terms_of, without_end, with_end, with_statements, with_status, with_trial, with_taken, with_talk, with_exchange, next_exchange}
+use Rattle.my_reading.specs.Place.{Place, exchanges, facts_at, owed, terms_of, without_end, with_account, with_end, with_statements, with_status, with_trial, with_taken, with_talk, with_exchange, next_exchange}
 use Rattle.my_reading.specs.Statements.{cleared, held_in, is_cached, is_mixed_text, leaving, names_of, query_of, statement_with, with_columns, with_fetched, with_prepared, without_statement}
 pub use Rattle.my_reading.specs.Place.{is_rows}
 use Rattle.my_reading.specs.Rows.{row_of}
@@ -51,6 +53,8 @@ use Rattle.my_reading.specs.Versions.{can_reset}
 -- with parameters; the reply to a statement to prepare is read; its statement is kept, and the one that has to go for it is closed; it is
 -- returned; the columns of an execution's rows are learned; or a statement isn't kept any more. Of a reset: the server has the command, or
 -- nothing is sent and `false` is returned; no statement is kept any more; a query of the client's own is sent; or a flag is returned. Of
+-- a change of user: the options are changed; or the server's session is renewed. Of cleaning for a pool: the rest of the newest exchange is
+-- read, and an ERR in it dropped. Of
 -- transactions: one that was given up is rolled back, and then there is none; one is refused; it stands so from now on; it is given up; it
 -- is to be committed; or it was rolled back since it couldn't be committed.
 pub data Part : Type 0 where
@@ -72,6 +76,9 @@ pub data Part : Type 0 where
   Clear : Part
   Text : (text : List ℕ) → Part
   Flag : (flag : Bool) → Part
+  Adopt : (change : ChangeView) → Part
+  Renew : Part
+  Drain : Part
   Undo : Part
   Undone : Part
   Refuse : (opts : TxView) → Part
@@ -104,6 +111,10 @@ abbrev pub parts_of_queries : List (List ℕ) → List Part → List Part
 parts_of_queries [] parts = All ∷ parts
 parts_of_queries (text ∷ texts) parts = All ∷ Text text ∷ parts_of_queries texts parts
 
+-- the server's session is renewed and set up again, and no statement is kept
+abbrev pub renewed : Login → List Part
+renewed login = clean (Renew ∷ All ∷ Clear ∷ parts_of_queries (setup_texts login) [])
+
 -- the command table: the parts of each call, in order
 abbrev pub parts_of : Login → Call → List Part
 parts_of login calls.Connect = All ∷ parts_of_texts (arranging_texts login)
@@ -118,10 +129,13 @@ parts_of login calls.TakeSet = Set ∷ []
 parts_of login calls.SkipTaken = Rest ∷ []
 parts_of login calls.Ping = clean (Command ∷ All ∷ [])
 parts_of login calls.Reset = Offered ∷ clean (Command ∷ All ∷ Clear ∷ parts_of_queries (setup_texts login) (Flag true ∷ []))
+parts_of login (calls.ChangeUser change) = Adopt change ∷ renewed login
 parts_of login (calls.Begin opts) = clean (Refuse opts ∷ parts_of_queries (begin_texts opts) (Settle txs.InTransaction ∷ []))
 parts_of login calls.Commit = Try ∷ clean (Text commit_text ∷ All ∷ Settle txs.None ∷ [])
 parts_of login calls.Rollback = Settle txs.RequiresRollback ∷ clean []
 parts_of login calls.ForgetTransaction = GiveUp ∷ []
+parts_of login calls.CleanForPool = Drain ∷ GiveUp ∷ clean []
+parts_of login calls.ResetForPool = renewed login
 parts_of login calls.Quit = clean (Command ∷ [])
 
 -- where a call stops: bytes are to be sent, more bytes are awaited, or it returns this
@@ -168,6 +182,18 @@ abbrev pub after_err : Login → Place → Place → Option ErrPacket → Step
 after_err login p new None = unfit login p
 after_err login p new (Some e) = refused_at p.trial new (server_error e)
 
+-- what is left is read for nobody: its ERR is dropped
+abbrev pub dropped_at : Login → List Part → Place → Place → Option ErrPacket → Step
+dropped_at login parts p new None = unfit login p
+dropped_at login parts p new (Some e) = Goes (Drain ∷ parts) new
+
+abbrev pub is_drain : Part → Bool
+is_drain Drain = true
+is_drain part = false
+
+abbrev pub failed_at : Login → Part → List Part → Place → Place → Option ErrPacket → Step
+failed_at login part parts p new e = if is_drain part then dropped_at login parts p new e else after_err login p new e
+
 -- a statement that is prepared may not have the id of one that is still cached
 abbrev pub unless_cached : Login → Place → Option PrepareOk → Step → Step
 unless_cached login p None s = s
@@ -182,7 +208,7 @@ unless_long_response login p payload s =
 
 abbrev pub after_payload : Login → Part → List Part → Place → Place → List ℕ → Kind → Step
 after_payload login part parts p new payload kinds.Bad = unfit login p
-after_payload login part parts p new payload kinds.Failed = after_err login p new (err_at (is_greeting (context_of p.talk).spot) payload)
+after_payload login part parts p new payload kinds.Failed = failed_at login part parts p new (err_at (is_greeting (context_of p.talk).spot) payload)
 after_payload login part parts p new payload (kinds.Greets capabilities) = unless_long_response login p payload (Goes (part ∷ parts) new)
 after_payload login part parts p new payload (kinds.Prepared params columns) = unless_cached login p (prepare_ok_at payload) (Goes (part ∷ parts) new)
 after_payload login part parts p new payload k = after_kind part parts k new (ToldRow (row_of (context_of p.talk).rows (facts_at login p).columns payload))
@@ -261,6 +287,10 @@ offered parts p false = return p (ToldFlag false)
 abbrev pub asked : Login → Call → List Part → Place → List ℕ → Step
 asked login call parts p text = with_command call parts p (Some (queried (terms_of login (exchanges p)) text))
 
+-- the exchange that renews the server's session
+abbrev pub renewing : Login → Call → Place → Facts → Talk
+renewing login call p f = renewal login (terms_of login (exchanges p)) f p.account (renews_by_reset (call_kind call) (version_of f.version))
+
 -- a transaction that was given up is rolled back
 abbrev pub undone : Login → Call → List Part → Place → Bool → Step
 undone login call parts p true = asked login call parts p rollback_text
@@ -309,6 +339,12 @@ step_of login call (Offered ∷ parts) p = offered parts p (can_reset (version_o
 step_of login call (Clear ∷ parts) p = Goes parts (with_statements (cleared p.statements) p)
 step_of login call (Text text ∷ parts) p = asked login call parts p text
 step_of login call (Flag flag ∷ parts) p = return p (ToldFlag flag)
+step_of login call (Adopt change ∷ parts) p = Goes parts (with_account (changed change p.account) p)
+step_of login call (Renew ∷ parts) p = with_command call parts p (Some (renewing login call p (facts_at login p)))
+step_of login call (Drain ∷ parts) p =
+    if p.end_left
+    then Goes (Drain ∷ parts) (without_end p)
+    else (if is_over p.talk then Goes parts p else reads login Drain parts p)
 step_of login call (Undo ∷ parts) p = undone login call parts p (is_given_up p.status)
 step_of login call (Undone ∷ parts) p = Goes parts (with_status (rolled_back p.status) p)
 step_of login call (Refuse opts ∷ parts) p = unless_refused parts p (begin_refusal opts (version_of (facts_at login p).version) p.status)

@@ -1,5 +1,5 @@
 -- What a client learns from the server's payloads, as a fold over them.
--- MySQL internals, "Protocol::Handshake" (version and connection id), "OK_Packet", "ERR_Packet", "Text Resultset" and
+-- MySQL internals, "Protocol::Handshake" (version, connection id and nonce), "OK_Packet", "ERR_Packet", "Text Resultset" and
 -- "COM_STMT_PREPARE Response", which has neither a status nor the fields of an OK.
 use Rattle.std.specs.Prelude.{ℕ, ◌+◌, ◌-◌, ◌^◌, min, List, [], ◌∷◌, ◌++◌, nat_le, Option, Some, None, if◌then◌else◌}
 use Rattle.my_flags.specs.declared.flags.StatusFlags.{StatusFlags}
@@ -33,40 +33,40 @@ first_reply = record { id = 0; num_params = 0; num_columns = 0; params = []; fie
 
 -- before the first payload
 abbrev pub first_facts : Login → Facts
-first_facts login = record { version = []; connection = 0; status = no_status; ok = None; left = 0; gathered = []; columns = []; settings = first_settings login; reply = first_reply; place = 0 }
+first_facts login = record { version = []; connection = 0; nonce = []; status = no_status; ok = None; left = 0; gathered = []; columns = []; settings = first_settings login; reply = first_reply; place = 0 }
 
 -- one payload more; the count stays at its last value
 abbrev pub counted : Facts → Facts
-counted f = record { version = f.version; connection = f.connection; status = f.status; ok = f.ok; left = f.left; gathered = f.gathered; columns = f.columns; settings = f.settings; reply = f.reply; place = min (f.place + 1) (2 ^ 64 - 1) }
+counted f = record { version = f.version; connection = f.connection; nonce = f.nonce; status = f.status; ok = f.ok; left = f.left; gathered = f.gathered; columns = f.columns; settings = f.settings; reply = f.reply; place = min (f.place + 1) (2 ^ 64 - 1) }
 
--- a greeting has the server's version and the connection's number
+-- a greeting has the server's version, the connection's number, and the nonce by which a client proves that it knows its password
 abbrev pub with_greeting : Option Greeting → Facts → Facts
 with_greeting None f = f
-with_greeting (Some g) f = record { version = g.version; connection = g.id; status = f.status; ok = f.ok; left = f.left; gathered = f.gathered; columns = f.columns; settings = f.settings; reply = f.reply; place = f.place }
+with_greeting (Some g) f = record { version = g.version; connection = g.id; nonce = g.nonce; status = f.status; ok = f.ok; left = f.left; gathered = f.gathered; columns = f.columns; settings = f.settings; reply = f.reply; place = f.place }
 
 -- an OK has the status, and stays the last one; so does the OK that ends a set
 abbrev pub with_ok : Option OkPacket → StatusFlags → Facts → Facts
-with_ok ok status f = record { version = f.version; connection = f.connection; status = status; ok = ok; left = f.left; gathered = f.gathered; columns = f.columns; settings = f.settings; reply = f.reply; place = f.place }
+with_ok ok status f = record { version = f.version; connection = f.connection; nonce = f.nonce; status = status; ok = ok; left = f.left; gathered = f.gathered; columns = f.columns; settings = f.settings; reply = f.reply; place = f.place }
 
 -- a head begins, of n columns
 abbrev pub with_count : ℕ → Facts → Facts
-with_count n f = record { version = f.version; connection = f.connection; status = f.status; ok = f.ok; left = n; gathered = []; columns = f.columns; settings = f.settings; reply = f.reply; place = f.place }
+with_count n f = record { version = f.version; connection = f.connection; nonce = f.nonce; status = f.status; ok = f.ok; left = n; gathered = []; columns = f.columns; settings = f.settings; reply = f.reply; place = f.place }
 
 -- a column joins those of its head, or makes the head whole
 abbrev pub with_column : Option Column → Facts → Facts
 with_column None f = f
 with_column (Some c) f =
     if nat_le f.left 1
-    then record { version = f.version; connection = f.connection; status = f.status; ok = f.ok; left = 0; gathered = []; columns = f.gathered ++ c ∷ []; settings = f.settings; reply = f.reply; place = f.place }
-    else record { version = f.version; connection = f.connection; status = f.status; ok = f.ok; left = f.left - 1; gathered = f.gathered ++ c ∷ []; columns = f.columns; settings = f.settings; reply = f.reply; place = f.place }
+    then record { version = f.version; connection = f.connection; nonce = f.nonce; status = f.status; ok = f.ok; left = 0; gathered = []; columns = f.gathered ++ c ∷ []; settings = f.settings; reply = f.reply; place = f.place }
+    else record { version = f.version; connection = f.connection; nonce = f.nonce; status = f.status; ok = f.ok; left = f.left - 1; gathered = f.gathered ++ c ∷ []; columns = f.columns; settings = f.settings; reply = f.reply; place = f.place }
 
 -- what is known of the settings
 abbrev pub with_settings : Settings → Facts → Facts
-with_settings settings f = record { version = f.version; connection = f.connection; status = f.status; ok = f.ok; left = f.left; gathered = f.gathered; columns = f.columns; settings = settings; reply = f.reply; place = f.place }
+with_settings settings f = record { version = f.version; connection = f.connection; nonce = f.nonce; status = f.status; ok = f.ok; left = f.left; gathered = f.gathered; columns = f.columns; settings = settings; reply = f.reply; place = f.place }
 
 -- what the newest reply to a statement to prepare said
 abbrev pub with_reply : PreparedReply → Facts → Facts
-with_reply reply f = record { version = f.version; connection = f.connection; status = f.status; ok = f.ok; left = f.left; gathered = f.gathered; columns = f.columns; settings = f.settings; reply = reply; place = f.place }
+with_reply reply f = record { version = f.version; connection = f.connection; nonce = f.nonce; status = f.status; ok = f.ok; left = f.left; gathered = f.gathered; columns = f.columns; settings = f.settings; reply = reply; place = f.place }
 
 -- a statement was prepared: its id, and how many parameters and columns it has, which follow
 abbrev pub with_head : Option PrepareOk → Facts → Facts

@@ -1,10 +1,12 @@
 -- Where the reading of a connection stands: its exchanges, each with the call that owns it, and the bytes after them.
 use Rattle.std.specs.Prelude.{ℕ, suc, List, [], ◌∷◌, ◌++◌, ◌==◌, ◌&&◌, ◌||◌, drop, length, Option, Bool, true, false, if◌then◌else◌}
 use Rattle.my_flags.specs.declared.flags.CapabilityFlags.{CapabilityFlags}
+use Rattle.my_grammar.specs.declared.account.Account.{Account}
 use Rattle.my_grammar.specs.declared.login.Login.{Login}
 use Rattle.my_grammar.specs.declared.spot.Spot.{Spot}
 use Rattle.my_grammar.specs.declared.spot.Spot.TheVariants as spots
 use Rattle.my_grammar.specs.declared.spot.Terms.{Terms}
+use Rattle.my_grammar.specs.Account.{account_of}
 use Rattle.my_grammar.specs.Talk.{Talk, Start, turns, client_bytes, context_of, packets_of}
 use Rattle.my_reading.specs.declared.call.Call.{Call}
 use Rattle.my_reading.specs.declared.call.Call.TheVariants.{Connect}
@@ -24,8 +26,8 @@ pub record Exchange : Type 0 where
   pub talk : Talk
 
 -- The newest exchange, and the older ones, the newest first. A lone OK has an end, which may be left for a read to return. A stream may
--- have taken the set that is read or whose end is left. These prepared statements are known, and a transaction stands so, and is
--- perhaps being committed. Of the bytes received these are unread; and these are all bytes that were sent.
+-- have taken the set that is read or whose end is left. These prepared statements are known, a transaction stands so, and is
+-- perhaps being committed; and this is the account of the options in force. Of the bytes received these are unread; and these are all bytes that were sent.
 pub record Place : Type 0 where
   pub call : Call
   pub talk : Talk
@@ -34,6 +36,7 @@ pub record Place : Type 0 where
   pub taken : Bool
   pub statements : Statements
   pub status : TxStatus
+  pub account : Account
   pub trial : Trial
   pub unread : List ℕ
   pub sent : List ℕ
@@ -42,7 +45,7 @@ abbrev pub exchanges : Place → List Exchange
 exchanges p = record { call = p.call; talk = p.talk } ∷ p.older
 
 abbrev pub first_place : Login → Place
-first_place login = record { call = Connect; talk = Start login; older = []; end_left = false; taken = false; statements = first_statements login; status = txs.None; trial = trials.Off; unread = []; sent = [] }
+first_place login = record { call = Connect; talk = Start login; older = []; end_left = false; taken = false; statements = first_statements login; status = txs.None; account = account_of login; trial = trials.Off; unread = []; sent = [] }
 
 -- what the server said in exchanges
 abbrev pub facts_of : Login → List Exchange → Facts
@@ -89,6 +92,7 @@ with_bytes sent taken p = record {
   taken = p.taken;
   statements = p.statements;
   status = p.status;
+  account = p.account;
   trial = p.trial;
   unread = p.unread ++ taken;
   sent = p.sent ++ sent;
@@ -96,26 +100,30 @@ with_bytes sent taken p = record {
 
 -- other statements are known
 abbrev pub with_statements : Statements → Place → Place
-with_statements st p = record { call = p.call; talk = p.talk; older = p.older; end_left = p.end_left; taken = p.taken; statements = st; status = p.status; trial = p.trial; unread = p.unread; sent = p.sent }
+with_statements st p = record { call = p.call; talk = p.talk; older = p.older; end_left = p.end_left; taken = p.taken; statements = st; status = p.status; account = p.account; trial = p.trial; unread = p.unread; sent = p.sent }
 
 -- the transaction stands so
 abbrev pub with_status : TxStatus → Place → Place
-with_status status p = record { call = p.call; talk = p.talk; older = p.older; end_left = p.end_left; taken = p.taken; statements = p.statements; status = status; trial = p.trial; unread = p.unread; sent = p.sent }
+with_status status p = record { call = p.call; talk = p.talk; older = p.older; end_left = p.end_left; taken = p.taken; statements = p.statements; status = status; account = p.account; trial = p.trial; unread = p.unread; sent = p.sent }
+
+-- the options in force have this account
+abbrev pub with_account : Account → Place → Place
+with_account account p = record { call = p.call; talk = p.talk; older = p.older; end_left = p.end_left; taken = p.taken; statements = p.statements; status = p.status; account = account; trial = p.trial; unread = p.unread; sent = p.sent }
 
 -- a transaction is being committed, or isn't any more
 abbrev pub with_trial : Trial → Place → Place
-with_trial trial p = record { call = p.call; talk = p.talk; older = p.older; end_left = p.end_left; taken = p.taken; statements = p.statements; status = p.status; trial = trial; unread = p.unread; sent = p.sent }
+with_trial trial p = record { call = p.call; talk = p.talk; older = p.older; end_left = p.end_left; taken = p.taken; statements = p.statements; status = p.status; account = p.account; trial = trial; unread = p.unread; sent = p.sent }
 
 -- the end that was left is passed over, or is left
 abbrev pub without_end : Place → Place
-without_end p = record { call = p.call; talk = p.talk; older = p.older; end_left = false; taken = p.taken; statements = p.statements; status = p.status; trial = p.trial; unread = p.unread; sent = p.sent }
+without_end p = record { call = p.call; talk = p.talk; older = p.older; end_left = false; taken = p.taken; statements = p.statements; status = p.status; account = p.account; trial = p.trial; unread = p.unread; sent = p.sent }
 
 abbrev pub with_end : Place → Place
-with_end p = record { call = p.call; talk = p.talk; older = p.older; end_left = true; taken = p.taken; statements = p.statements; status = p.status; trial = p.trial; unread = p.unread; sent = p.sent }
+with_end p = record { call = p.call; talk = p.talk; older = p.older; end_left = true; taken = p.taken; statements = p.statements; status = p.status; account = p.account; trial = p.trial; unread = p.unread; sent = p.sent }
 
 -- a stream takes the set
 abbrev pub with_taken : Place → Place
-with_taken p = record { call = p.call; talk = p.talk; older = p.older; end_left = p.end_left; taken = true; statements = p.statements; status = p.status; trial = p.trial; unread = p.unread; sent = p.sent }
+with_taken p = record { call = p.call; talk = p.talk; older = p.older; end_left = p.end_left; taken = true; statements = p.statements; status = p.status; account = p.account; trial = p.trial; unread = p.unread; sent = p.sent }
 
 -- between the columns and the end of a set
 abbrev pub is_rows : Spot → Bool
@@ -132,6 +140,7 @@ with_talk p t rest = record {
   taken = p.taken && is_rows (context_of t).spot;
   statements = p.statements;
   status = p.status;
+  account = p.account;
   trial = p.trial;
   unread = rest;
   sent = p.sent;
@@ -139,7 +148,7 @@ with_talk p t rest = record {
 
 -- an exchange begins
 abbrev pub with_exchange : Place → Call → Talk → Place
-with_exchange p call t = record { call = call; talk = t; older = exchanges p; end_left = false; taken = false; statements = p.statements; status = p.status; trial = p.trial; unread = p.unread; sent = p.sent }
+with_exchange p call t = record { call = call; talk = t; older = exchanges p; end_left = false; taken = false; statements = p.statements; status = p.status; account = p.account; trial = p.trial; unread = p.unread; sent = p.sent }
 
 -- whether a stream took the set that is read, or whose end is left
 abbrev pub is_taken : Place → Bool

@@ -8,10 +8,12 @@ use Rattle.my_reading.specs.declared.call.CallKind.{CallKind}
 use Rattle.my_reading.specs.declared.error.DriverError.{DriverError}
 use Rattle.my_reading.specs.declared.error.DriverError.TheVariants as drivers
 use Rattle.my_reading.specs.declared.error.Error.{Error}
+use Rattle.my_reading.specs.declared.error.ServerError.{ServerError}
 use Rattle.my_reading.specs.declared.error.Error.TheVariants.{Driver, Io, Server, Url, Other, NoMemory}
 use Rattle.my_reading.specs.Calls.{is_connect, is_quit}
 
--- What a call returned: an answer, an error, or nothing since it was cancelled, which closed the session or not.
+-- What a call returned: an answer, an error, or nothing since it was cancelled, which closed the session or not; or a server's error that it
+-- passed over.
 pub data Told : Type 0 where
   ToldReady : Told
   ToldRow : (row : RowParts) → Told
@@ -20,6 +22,7 @@ pub data Told : Type 0 where
   ToldStatement : (statement : StatementView) → Told
   ToldFlag : (flag : Bool) → Told
   ToldError : (e : Error) → Told
+  ToldPassed : (e : ServerError) → Told
   Dropped : (closing : Bool) → Told
 
 abbrev pub told : Answer → Told

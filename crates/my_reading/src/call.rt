@@ -3,6 +3,7 @@
 ghost use Rattle.std.specs.Prelude.{◌≡◌, IfOk};
 
 use my_frame::{Blob, Listed, NoMemory};
+use my_opts::ChangeUserOpts;
 use my_opts_parts::TxOpts;
 use my_params::Params;
 use my_statements::Statement;
@@ -34,6 +35,9 @@ pub enum Call {
     Ping,
     /// The server's session is reset, where the server can, and the queries that set a connection up are sent again.
     Reset,
+    /// The connection gets another user: the options are changed, the server is told, and the queries that set a connection up
+    /// are sent again.
+    ChangeUser(ChangeUserOpts),
     /// A transaction begins.
     Begin(TxOpts),
     /// The transaction is committed. Where the server refuses, it is rolled back, and the first refusal is the answer.
@@ -42,6 +46,10 @@ pub enum Call {
     Rollback,
     /// The transaction is given up, and rolled back before the next command. Nothing is sent.
     ForgetTransaction,
+    /// What is left of the last response is read, and a server's error in it dropped; a transaction is rolled back.
+    CleanForPool,
+    /// The server's session is reset for its next user, by a change to the same user where the server can't reset it.
+    ResetForPool,
     Quit,
 }
 
@@ -60,10 +68,13 @@ pub enum CallKind {
     SkipTaken,
     Ping,
     Reset,
+    ChangeUser,
     Begin,
     Commit,
     Rollback,
     ForgetTransaction,
+    CleanForPool,
+    ResetForPool,
     Quit,
 }
 
@@ -87,10 +98,13 @@ impl Call {
             Call::SkipTaken => CallKind::SkipTaken,
             Call::Ping => CallKind::Ping,
             Call::Reset => CallKind::Reset,
+            Call::ChangeUser(_) => CallKind::ChangeUser,
             Call::Begin(_) => CallKind::Begin,
             Call::Commit => CallKind::Commit,
             Call::Rollback => CallKind::Rollback,
             Call::ForgetTransaction => CallKind::ForgetTransaction,
+            Call::CleanForPool => CallKind::CleanForPool,
+            Call::ResetForPool => CallKind::ResetForPool,
             Call::Quit => CallKind::Quit,
         }
     }
@@ -116,10 +130,13 @@ impl Call {
             Call::SkipTaken => Ok(Call::SkipTaken),
             Call::Ping => Ok(Call::Ping),
             Call::Reset => Ok(Call::Reset),
+            Call::ChangeUser(change) => Ok(Call::ChangeUser(change.copy(alloc)?)),
             Call::Begin(opts) => Ok(Call::Begin(*opts)),
             Call::Commit => Ok(Call::Commit),
             Call::Rollback => Ok(Call::Rollback),
             Call::ForgetTransaction => Ok(Call::ForgetTransaction),
+            Call::CleanForPool => Ok(Call::CleanForPool),
+            Call::ResetForPool => Ok(Call::ResetForPool),
             Call::Quit => Ok(Call::Quit),
         }
     }

@@ -37,6 +37,8 @@ pub struct Facts {
     pub version: Blob,
     /// The number of the connection.
     pub connection: u32,
+    /// The greeting's nonce, with which a client proves that it knows its password.
+    pub nonce: Blob,
     /// The server's status, of the last OK or set's end; none after an ERR.
     pub status: StatusFlags,
     /// The last OK, or the OK that ended a set; none after an ERR.
@@ -112,6 +114,7 @@ impl Facts {
         Ok(Facts {
             version: Blob::new(alloc),
             connection: 0,
+            nonce: Blob::new(alloc),
             status: StatusFlags(0),
             ok: None,
             left: 0,
@@ -141,6 +144,7 @@ impl Facts {
         if let Some(greeting) = greeting {
             self.version = greeting.version;
             self.connection = greeting.id;
+            self.nonce = greeting.nonce;
         }
     }
 

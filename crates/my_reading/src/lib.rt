@@ -7,6 +7,7 @@ mod error;
 mod executing;
 mod facts;
 mod law;
+mod renewing;
 mod row;
 mod settings;
 mod statements;
@@ -23,6 +24,7 @@ pub use law::{
     steps_lead_to_course, steps_stay,
 };
 pub use my_statements::SetColumns;
+pub use renewing::{changed, renewal_packet, renews_by_reset};
 pub use row::read_row;
 pub use settings::{Settings, Stage};
 pub use statements::Statements;
