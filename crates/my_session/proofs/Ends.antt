@@ -36,8 +36,8 @@ use Rattle.my_reading.specs.declared.transaction.Trial.TheVariants as trials
 use Rattle.my_reading.specs.Errors.{invalid_data, server_error, unexpected_eof}
 use Rattle.my_session.specs.LinkErrors.{link_error}
 use Rattle.my_session.specs.Ends.{EachEnd, IsFault, Fails}
-use Rattle.my_reading.specs.Told.{ToldReady, ToldRow, ToldEnd, ToldNone, ToldStatement, ToldFlag, ToldError, Dropped}
-use Rattle.my_session.specs.Machine.{Doing, Goes, Passes, Sends, Needs, Tells, Move, Did, Does, FaultIs, failed_by, reply_to, above, unless_above, refused, refused_by_server, returned, reverted, gave, passed, reacted, read_by, reading, next_terms, queued, unless_exceeds, unless_refused, refusal, is_doubled, looked, with_kept, kept, with_task, asked, arranged, offered, undone, queried_by, admitted, planned, when_owed, next_by, next, advanced, refused_by, batched, ran}
+use Rattle.my_reading.specs.Told.{ToldReady, ToldRow, ToldEnd, ToldNone, ToldStatement, ToldFlag, ToldError, ToldPassed, Dropped}
+use Rattle.my_session.specs.Machine.{Doing, Goes, Passes, Sends, Needs, Tells, Move, Did, Does, FaultIs, failed_by, reply_to, above, unless_above, refused, refused_by_server, returned, reverted, gave, passed, passed_error, renewing, reacted, read_by, reading, next_terms, queued, unless_exceeds, unless_refused, refusal, is_doubled, looked, with_kept, kept, with_task, asked, arranged, offered, undone, queried_by, admitted, planned, when_owed, next_by, next, advanced, refused_by, batched, ran}
 use Rattle.my_reading.specs.Rows.{row_at}
 use Rattle.my_reading.specs.Transactions.{begin_refusal, is_given_up, rollback_text}
 use Rattle.my_reading.specs.Versions.{can_reset}
@@ -67,6 +67,11 @@ unfolding needs
 passed_needs s n None = refl
 passed_needs s n (Some row) = refl
 
+passed_error_needs : (s n : Seen) (x : Option ErrPacket) → needs (passed_error s n x).does ≡ false
+unfolding needs
+passed_error_needs s n None = refl
+passed_error_needs s n (Some e) = refl
+
 refused_by_needs : (s n : Seen) (trial : Trial) (e : ServerError) → needs (refused_by_server s n trial e).does ≡ false
 unfolding needs
 refused_by_needs s n trials.Off e = refl
@@ -87,6 +92,7 @@ reacted_needs s n p reactions.Gives = gave_needs s n (row_at s.context.rows s.fa
 reacted_needs s n p reactions.Ends = refl
 reacted_needs s n p reactions.PassesRow = passed_needs s n (row_at s.context.rows s.facts.columns p)
 reacted_needs s n p reactions.PassesEnd = refl
+reacted_needs s n p reactions.PassesError = passed_error_needs s n (err_at _ p)
 reacted_needs s n p reactions.Refuses = refused_needs s n (err_at _ p)
 reacted_needs s n p reactions.Breaks = refl
 
@@ -209,7 +215,9 @@ planned_rests s (plans.Runs n) e = absurd (no_need _ (ran_needs s (suc n) (slice
 planned_rests s (plans.Notes n) e = cc
 planned_rests s plans.Forgets e = cc
 planned_rests s plans.Resets e = absurd (no_need _ (offered_needs s (can_reset (version_of s.facts.version))) e)
-planned_rests s plans.Clears e = cc
+planned_rests s plans.Adopts e = cc
+planned_rests s (plans.Renews c) e = absurd (no_need _ (begins_needs s (tasks.Own c) (renewing s c) _) e)
+planned_rests s (plans.Clears c) e = cc
 planned_rests s (plans.Queries c n) e = absurd (no_need _ (queried_needs s c n (slice_get (queries_of s.login c s.call) n)) e)
 planned_rests s (plans.Undoes c) e = absurd (no_need _ (undone_needs s c (is_given_up s.status)) e)
 planned_rests s (plans.Settles c) e = cc
@@ -218,6 +226,7 @@ planned_rests s plans.Tries e = cc
 planned_rests s (plans.Reverts c) e = absurd (no_need _ (reverted_needs s c (is_given_up s.status)) e)
 planned_rests s plans.Returns e = absurd (no_need _ (returned_needs s s.trial) e)
 planned_rests s plans.GivesUp e = cc
+planned_rests s plans.Releases e = cc
 planned_rests s plans.Forsakes e = cc
 planned_rests s (plans.Asks c) e = absurd (no_need _ (unless_refused_needs s (refusal c s.call) (asked s (tasks.Own c) (command_of (next_terms s) s.statements (call_of c s.call))) (asked_needs s (tasks.Own c) (command_of (next_terms s) s.statements (call_of c s.call)))) e)
 planned_rests s (plans.Arranges n) e = absurd (no_need _ (arranged_needs s n (connecting s.login (next_terms s) (suc n))) e)
@@ -265,6 +274,7 @@ told_error (Tells ToldNone) = errors.NoMemory
 told_error (Tells (ToldStatement statement)) = errors.NoMemory
 told_error (Tells (ToldFlag flag)) = errors.NoMemory
 told_error (Tells (ToldError e)) = e
+told_error (Tells (ToldPassed e)) = errors.NoMemory
 told_error (Tells (Dropped closing)) = errors.NoMemory
 
 -- a step from where the first move ends it
@@ -326,10 +336,11 @@ failing_tells s fault tasks.Giving o = refl
 failing_tells s fault (tasks.Arranging n) o = refl
 failing_tells s fault (tasks.Running n) o = refl
 failing_tells s fault (tasks.Finishing n) o = refl
-failing_tells s fault tasks.Clearing o = refl
+failing_tells s fault (tasks.Clearing c) o = refl
 failing_tells s fault (tasks.Asking c n) o = refl
 failing_tells s fault (tasks.Backing c) o = refl
 failing_tells s fault (tasks.Reverting c) o = refl
+failing_tells s fault tasks.Draining o = refl
 failing_tells s fault tasks.Reading o = refl
 failing_tells s fault tasks.Dropping o = refl
 failing_tells s fault tasks.Taking o = refl

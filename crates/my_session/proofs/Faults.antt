@@ -37,11 +37,11 @@ use Rattle.my_reading.specs.Statements.{held_in, is_mixed_text, known_in, leavin
 use Rattle.my_reading.specs.declared.call.Call.{Call}
 use Rattle.my_reading.specs.declared.call.Call.TheVariants as calls
 use Rattle.my_reading.specs.declared.call.CallKind.{CallKind}
-use Rattle.my_reading.specs.declared.call.CallKind.TheVariants.{Connect, Query, Prepare, Execute, Batch, CloseStmt, NextRow, DropResult, TakeSet, SkipTaken, Ping, Reset, Begin, Commit, Rollback, ForgetTransaction, Quit}
+use Rattle.my_reading.specs.declared.call.CallKind.TheVariants.{Connect, Query, Prepare, Execute, Batch, CloseStmt, NextRow, DropResult, TakeSet, SkipTaken, Ping, Reset, ChangeUser, Begin, Commit, Rollback, ForgetTransaction, CleanForPool, ResetForPool, Quit}
 use Rattle.my_session.specs.declared.task.LinkFault.{LinkFault}
 use Rattle.my_session.specs.declared.task.LinkFault.TheVariants as faults
 use Rattle.my_session.specs.declared.task.Task.{Task}
-use Rattle.my_session.specs.declared.task.Task.TheVariants.{Nothing, Begun, Cleaning, Undoing, Cleaned, Own, Giving, Arranging, Running, Finishing, Clearing, Asking, Backing, Reverting, Reading, Dropping, Taking, Skipping, Leaving, Failing}
+use Rattle.my_session.specs.declared.task.Task.TheVariants.{Nothing, Begun, Cleaning, Undoing, Cleaned, Own, Giving, Arranging, Running, Finishing, Clearing, Asking, Backing, Reverting, Draining, Reading, Dropping, Taking, Skipping, Leaving, Failing}
 use Rattle.my_reading.specs.declared.error.Error.{Error}
 use Rattle.my_reading.specs.declared.error.Error.TheVariants as errors
 use Rattle.my_reading.specs.declared.facts.Facts.{Facts}
@@ -55,18 +55,18 @@ use Rattle.my_session.specs.declared.answer.Tick.TheVariants as ticks
 use Rattle.my_reading.specs.Calls.{kind_of as call_kind, call_of, asks, lists_in, opts_in, params_in, statement_in, text_in}
 use Rattle.my_session.specs.Tasks.{kind_in, fault_in, is_open}
 use Rattle.my_session.specs.Causes.{Executes, IsRefused, IsReturned, Stops, Cause, SessionBecause, NothingLeft, AnswerCause, EachFault, place_in}
-use Rattle.my_reading.specs.Commands.{closing, command_of, connecting, execution, opening, queried}
-use Rattle.my_session.specs.Entries.{Entry, Opens, facts_of, terms_by, connecting_in}
+use Rattle.my_reading.specs.Commands.{closing, command_of, connecting, execution, opening, queried, renews_by_reset}
+use Rattle.my_session.specs.Entries.{Entry, Opens, renews, facts_of, terms_by, connecting_in}
 use Rattle.my_reading.specs.declared.error.ServerError.{ServerError}
 use Rattle.my_reading.specs.declared.transaction.Trial.{Trial}
 use Rattle.my_reading.specs.declared.transaction.Trial.TheVariants as trials
 use Rattle.my_reading.specs.Errors.{invalid_data, server_error, unexpected_eof}
 use Rattle.my_session.specs.LinkErrors.{link_error}
-use Rattle.my_reading.specs.Told.{Told, ToldReady, ToldRow, ToldEnd, ToldNone, ToldStatement, ToldFlag, ToldError, Dropped}
+use Rattle.my_reading.specs.Told.{Told, ToldReady, ToldRow, ToldEnd, ToldNone, ToldStatement, ToldFlag, ToldError, ToldPassed, Dropped}
 use Rattle.my_session.specs.History.{History}
 use Rattle.my_session.specs.Law.{in_order, talks}
 use Rattle.my_session.specs.Machine as machine
-use Rattle.my_session.specs.Machine.{Move, Doing, Goes, Sends, Needs, Tells, Did, FaultIs, advanced, reply_to, above, unless_above, refused, refused_by_server, returned, reverted, gave, passed, reacted, read_by, reading, next_terms, unless_exceeds, unless_refused, refusal, refused_by, is_doubled, looked, with_kept, kept, asked, batched, ran, arranged, offered, begins, undone, done, queried_by, admitted, planned, when_owed, next_by, next, is_greeting}
+use Rattle.my_session.specs.Machine.{Move, Doing, Goes, Sends, Needs, Tells, Did, FaultIs, advanced, reply_to, above, unless_above, refused, refused_by_server, returned, reverted, gave, passed, passed_error, renewing, reacted, read_by, reading, next_terms, unless_exceeds, unless_refused, refusal, refused_by, is_doubled, looked, with_kept, kept, asked, batched, ran, arranged, offered, begins, undone, done, queried_by, admitted, planned, when_owed, next_by, next, is_greeting}
 use Rattle.my_reading.specs.Rows.{row_at}
 use Rattle.my_reading.specs.Transactions.{begin_refusal, is_given_up, rollback_text}
 use Rattle.my_reading.specs.Versions.{can_reset}
@@ -78,7 +78,7 @@ use Rattle.my_session.specs.Tables.{plan_of, ask_plan, run_plan, first_plan, cle
 use Rattle.my_session.proofs.Faults.Payloads.{failed_reads, row_reads}
 use Rattle.my_reading.proofs.Described.{kind_is, told_columns}
 use Rattle.my_session.proofs.Faults.Places.{place_is}
-use Rattle.my_session.proofs.Faults.Misfits.{Awaits, FitsKind, react_fits, heading_spot, cleaning_awaits, undoing_awaits, arranging_awaits, reading_awaits, dropping_awaits, connect_awaits, ping_awaits, reset_awaits, head_awaits, column_awaits, close_awaits, execution_head_awaits, execution_column_awaits, execution_close_awaits, running_head_awaits, running_column_awaits, running_close_awaits, finishing_awaits, asking_awaits, reverting_awaits, prepare_awaits, further_awaits, next_column_awaits, next_close_awaits, skipping_awaits}
+use Rattle.my_session.proofs.Faults.Misfits.{Awaits, FitsKind, react_fits, heading_spot, cleaning_awaits, undoing_awaits, arranging_awaits, reading_awaits, dropping_awaits, connect_awaits, ping_awaits, reset_awaits, change_awaits, renewal_awaits, draining_awaits, head_awaits, column_awaits, close_awaits, execution_head_awaits, execution_column_awaits, execution_close_awaits, running_head_awaits, running_column_awaits, running_close_awaits, finishing_awaits, asking_awaits, reverting_awaits, prepare_awaits, further_awaits, next_column_awaits, next_close_awaits, skipping_awaits}
 use Rattle.my_session.proofs.History.{each_history}
 use Rattle.my_session.proofs.Stands.Spots.{is_known, known, row_spot}
 use Rattle.my_session.proofs.History.Stopping.{talks_found, rest_found, stopped, over_found, failed_found}
@@ -109,6 +109,7 @@ module _ (s : Seen) (h : History) (st : Stands s h) (op : is_open s.task ≡ tru
   ToldBy (ToldStatement statement) = Unit {0}
   ToldBy (ToldFlag flag) = Unit {0}
   ToldBy (ToldError e) = Cause s.login (fault_in s.task) s.statements s.status s.unread h st.newest st.older e
+  ToldBy (ToldPassed e) = Unit {0}
   ToldBy (Dropped closing) = Unit {0}
 
   abbrev pub TellsBy : Doing → Type 0
@@ -215,6 +216,12 @@ module _ (s : Seen) (h : History) (st : Stands s h) (op : is_open s.task ≡ tru
         let no : None ≡ Some some.0 = sym is ∙ some.1 in cc
     refused_told n (Some x) alive k is = refused_by_told n x alive k is s.trial refl
 
+    passed_error_told : (n : Seen) (x : Option ErrPacket) → kind_there s.context s.facts.columns p ≡ kinds.Failed → err_at (is_greeting s.context.spot) p ≡ x → Explained (passed_error s n x)
+    passed_error_told n None k is =
+        let some = failed_reads s.context.spot s.context.rows (deprecates_eof s.context.terms.kept) s.context.columns s.facts.columns p k in
+        let no : None ≡ Some some.0 = sym is ∙ some.1 in cc
+    passed_error_told n (Some x) k is = tt
+
     -- a payload that is a row reads as one
     row_there : kind_there s.context s.facts.columns p ≡ kinds.Row → (row : RowParts) × (row_at s.context.rows s.facts.columns p ≡ Some row)
     row_there k =
@@ -240,6 +247,7 @@ module _ (s : Seen) (h : History) (st : Stands s h) (op : is_open s.task ≡ tru
     reacted_told n reactions.Ends k e fit b alive = tt
     reacted_told n reactions.PassesRow k e fit b alive = passed_told n (row_at s.context.rows s.facts.columns p) (e ∙ fit) refl
     reacted_told n reactions.PassesEnd k e fit b alive = tt
+    reacted_told n reactions.PassesError k e fit b alive = passed_error_told n (err_at (is_greeting s.context.spot) p) (e ∙ fit) refl
     reacted_told n reactions.Refuses k e fit b alive = refused_told n (err_at (is_greeting s.context.spot) p) alive (e ∙ fit) refl
     reacted_told n reactions.Breaks k e fit b alive = cc
 
@@ -331,10 +339,13 @@ module _ (s : Seen) (h : History) (st : Stands s h) (op : is_open s.task ≡ tru
   opens_some SkipTaken e own fit none = cc
   opens_some Ping e own fit none = cc
   opens_some Reset e own fit none = cc
+  opens_some ChangeUser e own fit none = cc
   opens_some Begin e own fit none = cc
   opens_some Commit e own fit none = cc
   opens_some Rollback e own fit none = cc
   opens_some ForgetTransaction e own fit none = cc
+  opens_some CleanForPool e own fit none = cc
+  opens_some ResetForPool e own fit none = cc
   opens_some Quit e own fit none = cc
 
   -- the own command of a call is the exchange that it begins
@@ -351,10 +362,13 @@ module _ (s : Seen) (h : History) (st : Stands s h) (op : is_open s.task ≡ tru
   opens_own SkipTaken e own = cc
   opens_own Ping e own = refl
   opens_own Reset e own = refl
+  opens_own ChangeUser e own = cc
   opens_own Begin e own = cc
   opens_own Commit e own = cc
   opens_own Rollback e own = cc
   opens_own ForgetTransaction e own = cc
+  opens_own CleanForPool e own = cc
+  opens_own ResetForPool e own = cc
   opens_own Quit e own = refl
 
   asked_told : (c : CallKind) → asks c ≡ true → ask_plan c ≡ plans.Asks c → Some c ≡ kind_in s.task → refusal c s.call ≡ None → (o : Option Talk) → command_of (next_terms s) s.statements (call_of c s.call) ≡ o → Explained (asked s (Own c) o)
@@ -377,7 +391,7 @@ module _ (s : Seen) (h : History) (st : Stands s h) (op : is_open s.task ≡ tru
       command_told c (Asking c (suc n)) t own (inr (inr (inr (inl (record { place = n; text = text; listed = listed; queries = refl }))))) (first_above s.facts.settings.limit (commands_in t)) refl
 
   queries_told : (c : CallKind) (n : ℕ) → has_queries c ≡ true → Some c ≡ kind_in s.task → (o : Option (List ℕ)) → slice_get (queries_of s.login c s.call) n ≡ o → Explained (queried_by s c n o)
-  queries_told c n some own None at = of_queries (λ x. Explained (done s x)) tt tt tt c some
+  queries_told c n some own None at = of_queries (λ x. Explained (done s x)) tt tt tt tt tt c some
   queries_told c n some own (Some text) at = query_told c n text own at
 
   -- a transaction may be refused
@@ -389,14 +403,21 @@ module _ (s : Seen) (h : History) (st : Stands s h) (op : is_open s.task ≡ tru
   undone_told : (c : CallKind) → asks c ≡ true → Some c ≡ kind_in s.task → (b : Bool) → Explained (undone s c b)
   undone_told c asking own true =
       let t : Talk = queried (next_terms s) rollback_text in
-      command_told c (Undoing c) t own (inr (inr (inr (inr (record { cleans = asks_too c s.call asking; queries = refl }))))) (first_above s.facts.settings.limit (commands_in t)) refl
+      command_told c (Undoing c) t own (inr (inr (inr (inr (inr (record { cleans = asks_too c s.call asking; queries = refl })))))) (first_above s.facts.settings.limit (commands_in t)) refl
   undone_told c asking own false = tt
+
+  -- the command that renews the server's session
+  renewal_told : (c : CallKind) → renews (call_kind (call_of c s.call)) ≡ true → (renews_by_reset c (version_of s.facts.version) ≡ true → call_of c s.call ≡ calls.ResetForPool) → Some c ≡ kind_in s.task → Explained (planned s (plans.Renews c))
+  renewal_told c renewed pooled own =
+      command_told c (Own c) (renewing s c) own
+      (inr (inr (inr (inr (inl (record { kind = renewed; facts = s.facts; account = s.account; by_reset = renews_by_reset c (version_of s.facts.version); pooled = pooled; renewal_is = refl }))))))
+      (first_above s.facts.settings.limit (commands_in (renewing s c))) refl
 
   -- a transaction that couldn't be committed is rolled back, and then the call returns why
   reverted_told : (c : CallKind) → asks c ≡ true → Some c ≡ kind_in s.task → (b : Bool) → Explained (reverted s c b)
   reverted_told c asking own true =
       let t : Talk = queried (next_terms s) rollback_text in
-      command_told c (Reverting c) t own (inr (inr (inr (inr (record { cleans = asks_too c s.call asking; queries = refl }))))) (first_above s.facts.settings.limit (commands_in t)) refl
+      command_told c (Reverting c) t own (inr (inr (inr (inr (inr (record { cleans = asks_too c s.call asking; queries = refl })))))) (first_above s.facts.settings.limit (commands_in t)) refl
   reverted_told c asking own false = tt
 
   returned_told : st.newest.hushed ≡ true → kind_in s.task ≡ Some Commit → (tr : Trial) → TrialIs tr s.context.spot st.newest st.older → Explained (returned s tr)
@@ -459,6 +480,7 @@ module _ (s : Seen) (h : History) (st : Stands s h) (op : is_open s.task ≡ tru
   Suits (plans.Runs n) = Some Batch ≡ kind_in s.task
   Suits (plans.Arranges n) = (connecting_in entries ≡ suc n) × (Some Connect ≡ kind_in s.task)
   Suits (plans.Queries c n) = (has_queries c ≡ true) × (Some c ≡ kind_in s.task)
+  Suits (plans.Renews c) = (renews (call_kind (call_of c s.call)) ≡ true) × (renews_by_reset c (version_of s.facts.version) ≡ true → call_of c s.call ≡ calls.ResetForPool) × (Some c ≡ kind_in s.task)
   Suits (plans.Undoes c) = (asks c ≡ true) × (Some c ≡ kind_in s.task)
   Suits (plans.Reverts c) = (asks c ≡ true) × (Some c ≡ kind_in s.task)
   Suits plans.Returns = (st.newest.hushed ≡ true) × (kind_in s.task ≡ Some Commit)
@@ -477,7 +499,9 @@ module _ (s : Seen) (h : History) (st : Stands s h) (op : is_open s.task ≡ tru
   plan_told plans.Checks own = refusal_told Execute own (refusal Execute s.call) (record { seen = machine.with_task s (Cleaning Execute) s.untold; does = Goes }) refl (λ _. tt)
   plan_told plans.Forgets a = tt
   plan_told plans.Resets a = offered_told (can_reset (version_of s.facts.version))
-  plan_told plans.Clears a = tt
+  plan_told plans.Adopts a = tt
+  plan_told (plans.Renews c) own = renewal_told c own.0 own.1 own.2
+  plan_told (plans.Clears c) a = tt
   plan_told (plans.Queries c n) own = queries_told c n own.0 own.1 (slice_get (queries_of s.login c s.call) n) refl
   plan_told (plans.Undoes c) own = undone_told c own.0 own.1 (is_given_up s.status)
   plan_told (plans.Settles c) a = tt
@@ -486,6 +510,7 @@ module _ (s : Seen) (h : History) (st : Stands s h) (op : is_open s.task ≡ tru
   plan_told (plans.Reverts c) own = reverted_told c own.0 own.1 (is_given_up s.status)
   plan_told plans.Returns own = returned_told own.0 own.1 s.trial st.tried.trial_is
   plan_told plans.GivesUp a = tt
+  plan_told plans.Releases a = tt
   plan_told plans.Forsakes a = tt
   plan_told plans.Batches own = batched_told own (slice_get (lists_in s.call) 0) refl
   plan_told (plans.Runs n) own = ran_told (suc n) n own (slice_get (lists_in s.call) n) refl
@@ -603,10 +628,13 @@ module _ (s : Seen) (h : History) (st : Stands s h) (op : is_open s.task ≡ tru
   first_suits SkipTaken own = tt
   first_suits Ping own = tt
   first_suits Reset own = tt
+  first_suits ChangeUser own = tt
   first_suits Begin own = tt
   first_suits Commit own = tt
   first_suits Rollback own = tt
   first_suits ForgetTransaction own = tt
+  first_suits CleanForPool own = tt
+  first_suits ResetForPool own = tt
   first_suits Quit own = tt
 
   own_suits : (c : CallKind) → s.task ≡ Own c → HeardAs (Own c) → Suits (own_plan c s.context.spot)
@@ -626,10 +654,13 @@ module _ (s : Seen) (h : History) (st : Stands s h) (op : is_open s.task ≡ tru
   own_suits SkipTaken e hd = absurd hd.at
   own_suits Ping e hd = awaits_as (Own Ping) e (subst (λ (x : Spot). Awaits (Own Ping) x) (sym hd.at.1) ping_awaits)
   own_suits Reset e hd = awaits_as (Own Reset) e (subst (λ (x : Spot). Awaits (Own Reset) x) (sym hd.at.1) reset_awaits)
+  own_suits ChangeUser e hd = awaits_as (Own ChangeUser) e (subst (λ (x : Spot). Awaits (Own ChangeUser) x) (sym hd.at.1) change_awaits)
   own_suits Begin e hd = absurd hd.at
   own_suits Commit e hd = absurd hd.at
   own_suits Rollback e hd = absurd hd.at
   own_suits ForgetTransaction e hd = absurd hd.at
+  own_suits CleanForPool e hd = absurd hd.at
+  own_suits ResetForPool e hd = awaits_as (Own ResetForPool) e (subst (λ (x : Spot). Awaits (Own ResetForPool) x) (sym hd.at.1) renewal_awaits)
   own_suits Quit e hd = tt
 
   read_suits : s.task ≡ Reading → s.untold ≡ false → (spot : Spot) → s.context.spot ≡ spot → is_reading spot ≡ true → Suits (read_plan spot)
@@ -709,10 +740,13 @@ module _ (s : Seen) (h : History) (st : Stands s h) (op : is_open s.task ≡ tru
   ask_suits SkipTaken asking own = (asking, refl, own)
   ask_suits Ping asking own = (asking, refl, own)
   ask_suits Reset asking own = (asking, refl, own)
+  ask_suits ChangeUser asking own = (refl, λ no. cc, own)
   ask_suits Begin asking own = own
   ask_suits Commit asking own = (refl, own)
   ask_suits Rollback asking own = tt
   ask_suits ForgetTransaction asking own = (asking, refl, own)
+  ask_suits CleanForPool asking own = tt
+  ask_suits ResetForPool asking own = (refl, λ _. refl, own)
   ask_suits Quit asking own = (asking, refl, own)
 
   suits : (t : Task) → s.task ≡ t → fault_in t ≡ None → HeardAs t → (untold : Bool) → s.untold ≡ untold → Suits (plan_of t s.context.spot untold)
@@ -726,11 +760,12 @@ module _ (s : Seen) (h : History) (st : Stands s h) (op : is_open s.task ≡ tru
   suits (Arranging n) e sound hd untold told = clean_suits (Arranging n) e (arranging_awaits n) (plans.Arranges n) (hd.at.1, sym (ap kind_in e)) s.context.spot refl hd.at.2 untold
   suits (Running n) e sound hd untold told = run_suits n e s.context.spot refl hd.at.1
   suits (Finishing n) e sound hd untold told = clean_suits (Finishing n) e (finishing_awaits n) (plans.Runs n) (sym (ap kind_in e)) s.context.spot refl hd.at.1 untold
-  suits Clearing e sound hd untold told = tt
+  suits (Clearing c) e sound hd untold told = tt
   suits (Asking c n) e sound hd untold told = clean_suits (Asking c n) e (asking_awaits c n) (plans.Queries c n) (hd.at.0, sym (ap kind_in e)) s.context.spot refl hd.at.2 untold
   suits (Backing c) e sound hd untold told = (ap asks hd.at.0, sym (ap kind_in e))
   suits (Reverting c) e sound hd untold told = clean_suits (Reverting c) e (reverting_awaits c) plans.Returns
       (subst (λ (t : Task). CleansAt t s.untold s.status st.newest.hushed) e st.cleans, ap kind_in e ∙ ap Some hd.at.0) s.context.spot refl hd.at.2 untold
+  suits Draining e sound hd untold told = clean_suits Draining e draining_awaits plans.Releases tt s.context.spot refl hd.at.1 untold
   suits Reading e sound hd true told = tt
   suits Reading e sound hd false told = read_suits e told s.context.spot refl hd.at.1
   suits Dropping e sound hd true told = tt

@@ -9,10 +9,10 @@ use Rattle.my_session.specs.declared.answer.SessionStep.TheVariants as steps
 use Rattle.my_session.specs.declared.answer.Tick.{Tick}
 use Rattle.my_session.specs.declared.answer.Tick.TheVariants as ticks
 use Rattle.my_reading.specs.declared.call.CallKind.{CallKind}
-use Rattle.my_reading.specs.declared.call.CallKind.TheVariants.{Connect, Query, Prepare, Execute, Batch, CloseStmt, NextRow, DropResult, TakeSet, SkipTaken, Ping, Reset, Begin, Commit, Rollback, ForgetTransaction, Quit}
+use Rattle.my_reading.specs.declared.call.CallKind.TheVariants.{Connect, Query, Prepare, Execute, Batch, CloseStmt, NextRow, DropResult, TakeSet, SkipTaken, Ping, Reset, ChangeUser, Begin, Commit, Rollback, ForgetTransaction, CleanForPool, ResetForPool, Quit}
 use Rattle.my_session.specs.declared.task.LinkFault.{LinkFault}
 use Rattle.my_session.specs.declared.task.Task.{Task}
-use Rattle.my_session.specs.declared.task.Task.TheVariants.{Nothing, Begun, Cleaning, Undoing, Cleaned, Own, Giving, Arranging, Running, Finishing, Clearing, Asking, Backing, Reverting, Reading, Dropping, Taking, Skipping, Leaving, Failing}
+use Rattle.my_session.specs.declared.task.Task.TheVariants.{Nothing, Begun, Cleaning, Undoing, Cleaned, Own, Giving, Arranging, Running, Finishing, Clearing, Asking, Backing, Reverting, Draining, Reading, Dropping, Taking, Skipping, Leaving, Failing}
 use Rattle.my_reading.specs.declared.error.Error.{Error}
 use Rattle.my_reading.specs.declared.error.Error.TheVariants as errors
 use Rattle.my_reading.specs.declared.transaction.Trial.{Trial}
@@ -21,7 +21,7 @@ use Rattle.my_session.specs.Tasks.{kind_in, fault_in}
 use Rattle.my_session.specs.Entries.{Entry}
 use Rattle.my_session.specs.LinkErrors.{link_error}
 use Rattle.my_session.specs.Fits.{may_be_told, AnswerFits, FaultFits, ErrorFits, is_begun, WasStepped, StepFits, EachAnswerFits}
-use Rattle.my_reading.specs.Told.{Told, ToldReady, ToldRow, ToldEnd, ToldNone, ToldStatement, ToldFlag, ToldError, Dropped, told}
+use Rattle.my_reading.specs.Told.{Told, ToldReady, ToldRow, ToldEnd, ToldNone, ToldStatement, ToldFlag, ToldError, ToldPassed, Dropped, told}
 use Rattle.my_session.specs.Machine.{Doing, Goes, Passes, Sends, Needs, Tells, Did, Does, FaultIs, doing, when_owed, next_by, next}
 use Rattle.my_session.specs.Seen.{Seen}
 use Rattle.my_session.specs.Stands.{TaskIs, OwnAt, is_alive, owes, trial_at}
@@ -105,6 +105,7 @@ error_in (Tells ToldNone) = errors.NoMemory
 error_in (Tells (ToldStatement statement)) = errors.NoMemory
 error_in (Tells (ToldFlag flag)) = errors.NoMemory
 error_in (Tells (ToldError e)) = e
+error_in (Tells (ToldPassed e)) = errors.NoMemory
 error_in (Tells (Dropped closing)) = errors.NoMemory
 
 did_error : (here : Seen) (e : Error) (fault : Option LinkFault) → fault_in here.task ≡ fault → (next here).does ≡ Tells (ToldError e) → (fault_in here.task ≡ None → OwnDoing here.ended (next here).does) → FaultFits fault here.ended e
@@ -154,10 +155,13 @@ own_proper TakeSet spot connected count newest w = absurd w
 own_proper SkipTaken spot connected count newest w = absurd w
 own_proper Ping spot connected count newest w = refl
 own_proper Reset spot connected count newest w = refl
+own_proper ChangeUser spot connected count newest w = refl
 own_proper Begin spot connected count newest w = absurd w
 own_proper Commit spot connected count newest w = absurd w
 own_proper Rollback spot connected count newest w = absurd w
 own_proper ForgetTransaction spot connected count newest w = absurd w
+own_proper CleanForPool spot connected count newest w = absurd w
+own_proper ResetForPool spot connected count newest w = refl
 own_proper Quit spot connected count newest w = refl
 
 task_proper : (t : Task) (spot : Spot) (closed connected : Bool) (count : ℕ) (newest : Entry) (trial : Trial) → TaskIs t spot closed connected count newest → (is_alive t ≡ true → closed ≡ false) → (closed ≡ false → trial_at t trial ≡ true) → is_proper t trial ≡ true
@@ -171,10 +175,11 @@ task_proper Giving spot closed connected count newest trial w alive try = refl
 task_proper (Arranging n) spot closed connected count newest trial w alive try = refl
 task_proper (Running n) spot closed connected count newest trial w alive try = refl
 task_proper (Finishing n) spot closed connected count newest trial w alive try = refl
-task_proper Clearing spot closed connected count newest trial w alive try = refl
+task_proper (Clearing c) spot closed connected count newest trial w alive try = w.0
 task_proper (Asking c n) spot closed connected count newest trial w alive try = w.0
 task_proper (Backing c) spot closed connected count newest trial w alive try = try (alive refl)
 task_proper (Reverting c) spot closed connected count newest trial w alive try = try (alive refl)
+task_proper Draining spot closed connected count newest trial w alive try = refl
 task_proper Reading spot closed connected count newest trial w alive try = refl
 task_proper Dropping spot closed connected count newest trial w alive try = refl
 task_proper Taking spot closed connected count newest trial w alive try = refl
@@ -193,10 +198,11 @@ begun_owes Giving e = cc
 begun_owes (Arranging n) e = cc
 begun_owes (Running n) e = cc
 begun_owes (Finishing n) e = cc
-begun_owes Clearing e = cc
+begun_owes (Clearing c) e = cc
 begun_owes (Asking c n) e = cc
 begun_owes (Backing c) e = cc
 begun_owes (Reverting c) e = cc
+begun_owes Draining e = cc
 begun_owes Reading e = cc
 begun_owes Dropping e = cc
 begun_owes Taking e = cc

@@ -15,7 +15,7 @@ use Rattle.my_reading.specs.declared.error.ServerError.{ServerError}
 use Rattle.my_reading.specs.declared.call.Call.{Call}
 use Rattle.my_reading.specs.declared.call.Call.TheVariants as calls
 use Rattle.my_session.specs.declared.task.Task.{Task}
-use Rattle.my_session.specs.declared.task.Task.TheVariants.{Nothing, Begun, Cleaning, Undoing, Cleaned, Own, Giving, Arranging, Running, Finishing, Clearing, Asking, Backing, Reverting, Reading, Dropping, Taking, Skipping, Leaving, Failing}
+use Rattle.my_session.specs.declared.task.Task.TheVariants.{Nothing, Begun, Cleaning, Undoing, Cleaned, Own, Giving, Arranging, Running, Finishing, Clearing, Asking, Backing, Reverting, Draining, Reading, Dropping, Taking, Skipping, Leaving, Failing}
 use Rattle.my_reading.specs.Calls.{kind_of as call_kind, call_of}
 use Rattle.my_reading.specs.declared.call.CallKind.TheVariants.{Prepare, Batch, Reset}
 use Rattle.my_session.specs.Tasks.{kind_in}
@@ -84,7 +84,7 @@ calls_are Giving opened spot made call older w = own_open (is_greeting spot) (ca
 calls_are (Arranging n) opened spot made call older w = own_open (is_greeting spot) calls.Connect call made (calls_in older) w
 calls_are (Running n) opened spot made call older w = own_open (is_greeting spot) (call_of Batch opened) call made (calls_in older) w
 calls_are (Finishing n) opened spot made call older w = own_open (is_greeting spot) (call_of Batch opened) call made (calls_in older) w
-calls_are Clearing opened spot made call older w = own_open (is_greeting spot) (call_of Reset opened) call made (calls_in older) w
+calls_are (Clearing c) opened spot made call older w = own_open (is_greeting spot) (call_of c opened) call made (calls_in older) w
 calls_are (Asking c n) opened spot made call older w = own_open (is_greeting spot) (call_of c opened) call made (calls_in older) w
 calls_are (Backing c) opened spot made call older w =
     elim w as (λ _. AreOf (Some (call_of c opened)) made (begun_of spot call older)) [
@@ -92,6 +92,7 @@ calls_are (Backing c) opened spot made call older w =
       | inr v ↦ inr v
     ]
 calls_are (Reverting c) opened spot made call older w = own_open (is_greeting spot) (call_of c opened) call made (calls_in older) w
+calls_are Draining opened spot made call older w = inr w
 calls_are Reading opened spot made call older w = inr w
 calls_are Dropping opened spot made call older w = inr w
 calls_are Taking opened spot made call older w = inr w
@@ -115,10 +116,11 @@ rests_owe Giving opened e = cc
 rests_owe (Arranging n) opened e = cc
 rests_owe (Running n) opened e = cc
 rests_owe (Finishing n) opened e = cc
-rests_owe Clearing opened e = cc
+rests_owe (Clearing c) opened e = cc
 rests_owe (Asking c n) opened e = cc
 rests_owe (Backing c) opened e = cc
 rests_owe (Reverting c) opened e = cc
+rests_owe Draining opened e = cc
 rests_owe Reading opened e = cc
 rests_owe Dropping opened e = cc
 rests_owe Taking opened e = cc

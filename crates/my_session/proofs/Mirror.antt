@@ -68,6 +68,7 @@ module _ (s new : Seen) (bytes : AreBytes s.unread) (call : Call) (parts : List 
   tick_reads_by ticks.Goes d = reads_as ticks.Goes (did_comes ticks.Goes d)
   tick_reads_by (ticks.PassedRow row) d = reads_as (ticks.PassedRow row) (did_comes (ticks.PassedRow row) d)
   tick_reads_by ticks.PassedEnd d = reads_as ticks.PassedEnd (did_comes ticks.PassedEnd d)
+  tick_reads_by (ticks.PassedError e) d = reads_as (ticks.PassedError e) (did_comes (ticks.PassedError e) d)
   tick_reads_by ticks.Sends d = reads_as ticks.Sends (did_comes ticks.Sends d)
   tick_reads_by ticks.Needs d = reads_as ticks.Needs (did_comes ticks.Needs d)
   tick_reads_by (ticks.Done a) d = done_by (did_comes (ticks.Done a) d)

@@ -16,7 +16,7 @@ use Rattle.my_reading.specs.declared.call.Call.TheVariants as calls
 use Rattle.my_reading.specs.declared.transaction.TxStatus.{TxStatus}
 use Rattle.my_reading.specs.declared.transaction.TxStatus.TheVariants as txs
 use Rattle.my_reading.specs.declared.call.CallKind.{CallKind}
-use Rattle.my_reading.specs.declared.call.CallKind.TheVariants.{Connect, Query, Prepare, Execute, Batch, CloseStmt, NextRow, DropResult, TakeSet, SkipTaken, Ping, Reset, Begin, Commit, Rollback, ForgetTransaction, Quit}
+use Rattle.my_reading.specs.declared.call.CallKind.TheVariants.{Connect, Query, Prepare, Execute, Batch, CloseStmt, NextRow, DropResult, TakeSet, SkipTaken, Ping, Reset, ChangeUser, Begin, Commit, Rollback, ForgetTransaction, CleanForPool, ResetForPool, Quit}
 use Rattle.my_reading.specs.declared.error.DriverError.{DriverError}
 use Rattle.my_reading.specs.declared.error.DriverError.TheVariants as drivers
 use Rattle.my_reading.specs.declared.executing.TheConstants.{MOST_VALUES}
@@ -85,10 +85,13 @@ refused_run TakeSet call e is = cc
 refused_run SkipTaken call e is = cc
 refused_run Ping call e is = cc
 refused_run Reset call e is = cc
+refused_run ChangeUser call e is = cc
 refused_run Begin call e is = cc
 refused_run Commit call e is = cc
 refused_run Rollback call e is = cc
 refused_run ForgetTransaction call e is = cc
+refused_run CleanForPool call e is = cc
+refused_run ResetForPool call e is = cc
 refused_run Quit call e is = cc
 
 params_close : (e : DriverError) → is_params e ≡ true → closes_driver e ≡ true

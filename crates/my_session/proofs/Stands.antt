@@ -46,6 +46,7 @@ module _ (s new : Seen) (h : History) (bytes : AreBytes s.unread) (op : is_open 
   tick_stands ticks.Goes d = did_stands ticks.Goes d
   tick_stands (ticks.PassedRow row) d = did_stands (ticks.PassedRow row) d
   tick_stands ticks.PassedEnd d = did_stands ticks.PassedEnd d
+  tick_stands (ticks.PassedError e) d = did_stands (ticks.PassedError e) d
   tick_stands ticks.Sends d = did_stands ticks.Sends d
   tick_stands ticks.Needs d = did_stands ticks.Needs d
   tick_stands (ticks.Done a) d = did_stands (ticks.Done a) d

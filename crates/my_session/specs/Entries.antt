@@ -2,6 +2,7 @@
 use Rattle.std.specs.Prelude.{◌≡◌, ℕ, suc, List, [], ◌∷◌, ◌++◌, slice_get, is_some, Option, Some, None, Bool, true, false, not, ◌||◌, ◌⊎◌, if◌then◌else◌}
 use Rattle.my_flags.specs.declared.flags.CapabilityFlags.{CapabilityFlags}
 use Rattle.my_flags.specs.Sets.{deprecates_eof}
+use Rattle.my_grammar.specs.declared.account.Account.{Account}
 use Rattle.my_grammar.specs.declared.login.Login.{Login}
 use Rattle.my_grammar.specs.declared.packet.Packet.{Packet}
 use Rattle.my_grammar.specs.declared.spot.Spot.TheVariants.{Idle}
@@ -18,7 +19,7 @@ use Rattle.my_reading.specs.declared.call.CallKind.TheVariants as callkinds
 use Rattle.my_reading.specs.declared.error.ServerError.{ServerError}
 use Rattle.my_reading.specs.declared.facts.Facts.{Facts}
 use Rattle.my_reading.specs.Calls.{kind_of, asks, id_in, is_connect, lists_in, statement_in}
-use Rattle.my_reading.specs.Commands.{closing, execution, opening, queried}
+use Rattle.my_reading.specs.Commands.{closing, execution, opening, queried, renewal}
 use Rattle.my_reading.specs.Executions.{values_for}
 use Rattle.my_reading.specs.Statements.{Statements}
 use Rattle.my_reading.specs.Facts.{first_facts, facts_by}
@@ -81,18 +82,34 @@ pub record IsQuery (login : Login) (terms : Terms) (call : Call) (t : Talk) : Ty
   pub listed : slice_get (queries_of login (kind_of call) call) place ≡ Some text
   pub queries : queried terms text ≡ t
 
+-- the calls that renew the server's session by a command that tells the account
+abbrev pub renews : CallKind → Bool
+renews callkinds.ChangeUser = true
+renews callkinds.ResetForPool = true
+renews c = false
+
+-- The exchange renews the server's session, where the server said something of itself and the options have some account: by a change of
+-- user, or for a pool by a reset.
+pub record IsRenewal (login : Login) (terms : Terms) (call : Call) (t : Talk) : Type 0 where
+  pub kind : renews (kind_of call) ≡ true
+  pub facts : Facts
+  pub account : Account
+  pub by_reset : Bool
+  pub pooled : by_reset ≡ true → call ≡ calls.ResetForPool
+  pub renewal_is : renewal login terms facts account by_reset ≡ t
+
 -- The exchange rolls a transaction back, before the call's own.
 pub record IsUndo (terms : Terms) (call : Call) (t : Talk) : Type 0 where
   pub cleans : asks (kind_of call) ≡ true
   pub queries : queried terms rollback_text ≡ t
 
 -- The exchange is the one that the table has for the call, and for its place among those of connecting, where some prepared statements are
--- known; or it is the close of a statement, which a call that prepares one may begin, too, one of a batch, one of a call's own queries, or the ROLLBACK before
--- the call's own. Which statements are known, which of them is closed, which execution of a batch comes when, and which query, and where there is a transaction,
+-- known; or it is the close of a statement, which a call that prepares one may begin, too, one of a batch, one of a call's own queries, the renewal of the
+-- server's session, or the ROLLBACK before the call's own. Which statements are known, which of them is closed, which execution of a batch comes when, and which query, and where there is a transaction,
 -- says the reading of the connection (`Mirror`).
 abbrev pub Opens : Login → Terms → Call → ℕ → Talk → Type 0
 Opens login terms call n t = ((st : Statements) × (opening login terms st call n ≡ Some t))
-    ⊎ (((id : ℕ) × (kind_of call ≡ callkinds.Prepare) × (closing terms id ≡ t)) ⊎ (IsRun terms call t ⊎ (IsQuery login terms call t ⊎ IsUndo terms call t)))
+    ⊎ (((id : ℕ) × (kind_of call ≡ callkinds.Prepare) × (closing terms id ≡ t)) ⊎ (IsRun terms call t ⊎ (IsQuery login terms call t ⊎ (IsRenewal login terms call t ⊎ IsUndo terms call t))))
 
 -- the newest of these exchanges ended with this ERR
 abbrev pub EndedBy : ServerError → List Entry → Type 0
@@ -161,6 +178,7 @@ needs_own calls.DropResult = false
 needs_own calls.TakeSet = false
 needs_own calls.SkipTaken = false
 needs_own calls.ForgetTransaction = false
+needs_own calls.CleanForPool = false
 needs_own calls.Quit = false
 needs_own (calls.Batch statement lists) = is_some (slice_get lists 0)
 needs_own _ = true

@@ -93,7 +93,7 @@ pub record IsLawful (login : Login) (h : History) : Type 0 where
   pub read : AreGiven (in_order (shares (newest ∷ older))) (cut (in_order (origins (newest ∷ older))) h.taken).talks
   -- so of each set, callers were given a beginning, in order, and an end only after the whole
   pub fronts : AreFronts (in_order (shares (newest ∷ older))) (cut (in_order (origins (newest ∷ older))) h.taken).talks
-  -- callers got each ERR that the grammar finds there, once and in order, but perhaps the last; not those of exchanges by which a transaction
+  -- callers got each ERR that the grammar finds there, or a call passed over it, once and in order, but perhaps the last; not those of exchanges by which a transaction
   -- that couldn't be committed was rolled back
   pub hushed : AreHushed login (newest ∷ older)
   pub unheard : Option ServerError

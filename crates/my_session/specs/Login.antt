@@ -1,5 +1,6 @@
--- What a client with some options says of itself when a connection is made.
-use Rattle.std.specs.Prelude.{[], unwrap_or}
+-- What a client with some options says of itself: when a connection is made, and of its account.
+use Rattle.std.specs.Prelude.{[], None, unwrap_or}
+use Rattle.my_grammar.specs.declared.account.Account.{Account}
 use Rattle.my_grammar.specs.declared.login.Login.{Login}
 use Rattle.my_frame.specs.declared.limits.TheConstants.{DEFAULT_MAX_ALLOWED_PACKET}
 use Rattle.my_opts.specs.Opts.{OptsView}
@@ -19,3 +20,14 @@ login_of o = record {
   setup = o.setup;
   statements = o.stmt_cache_size;
 }
+
+-- the account of options
+abbrev pub account_in : OptsView → Account
+account_in o = record { user = o.user; password = o.pass; database = o.db_name }
+
+-- the options with this account, and without any
+abbrev pub with_account : Account → OptsView → OptsView
+with_account a o = record o { user = a.user; pass = a.password; db_name = a.database }
+
+abbrev pub without_account : OptsView → OptsView
+without_account o = record o { user = None; pass = None; db_name = None }

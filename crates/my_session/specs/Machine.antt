@@ -13,6 +13,7 @@ use Rattle.my_handshake.specs.Version.{version_of}
 use Rattle.my_params.specs.declared.params.Params.{Params}
 use Rattle.my_value.specs.RowParts.{RowParts}
 use Rattle.my_value.specs.declared.value.Value.{Value}
+use Rattle.my_grammar.specs.declared.account.Account.{Account}
 use Rattle.my_grammar.specs.declared.login.Login.{Login}
 use Rattle.my_grammar.specs.declared.spot.Spot.{Spot}
 use Rattle.my_grammar.specs.declared.spot.Terms.{Terms}
@@ -27,7 +28,7 @@ use Rattle.my_statements.specs.Cache.{Held}
 use Rattle.my_statements.specs.Prepared.{StatementView}
 use Rattle.my_reading.specs.declared.call.Call.{Call}
 use Rattle.my_reading.specs.declared.call.CallKind.{CallKind}
-use Rattle.my_reading.specs.declared.call.CallKind.TheVariants.{Prepare, Execute, Batch, CloseStmt, Reset, Begin, Commit, Rollback}
+use Rattle.my_reading.specs.declared.call.CallKind.TheVariants.{Prepare, Execute, Batch, CloseStmt, Reset, ChangeUser, Begin, Commit, Rollback, CleanForPool}
 use Rattle.my_reading.specs.declared.error.DriverError.{DriverError}
 use Rattle.my_reading.specs.declared.error.ServerError.{ServerError}
 use Rattle.my_reading.specs.declared.transaction.Trial.{Trial}
@@ -46,9 +47,10 @@ use Rattle.my_reading.specs.declared.error.Error.TheVariants as errors
 use Rattle.my_session.specs.declared.session.receiving.Arrival.{Arrival}
 use Rattle.my_session.specs.declared.answer.Tick.{Tick}
 use Rattle.my_session.specs.declared.answer.Tick.TheVariants as ticks
-use Rattle.my_reading.specs.Calls.{call_of, id_in, lists_in, opts_in, params_in, statement_in, text_in}
+use Rattle.my_reading.specs.Accounts.{changed}
+use Rattle.my_reading.specs.Calls.{call_of, change_in, id_in, lists_in, opts_in, params_in, statement_in, text_in}
 use Rattle.my_session.specs.Tasks.{kind_in, fault_in}
-use Rattle.my_reading.specs.Commands.{closing, command_of, connecting, execution, queried}
+use Rattle.my_reading.specs.Commands.{closing, command_of, connecting, execution, queried, renewal, renews_by_reset}
 use Rattle.my_reading.specs.Course.{first_above}
 pub use Rattle.my_reading.specs.Course.{is_greeting}
 use Rattle.my_reading.specs.Place.{is_rows}
@@ -58,7 +60,7 @@ use Rattle.my_session.specs.LinkErrors.{link_error}
 use Rattle.my_session.specs.Found.{IsPlaced, payload_in}
 use Rattle.my_reading.specs.Facts.{facts_after, prepared_by}
 use Rattle.my_reading.specs.Statements.{Statements, cleared, emptied, held_in, is_cached, is_mixed_text, leaving, names_of, query_of, statement_with, with_columns, with_fetched, with_prepared, without_statement}
-use Rattle.my_reading.specs.Told.{Told, ToldReady, ToldRow, ToldEnd, ToldNone, ToldStatement, ToldFlag, ToldError, told}
+use Rattle.my_reading.specs.Told.{Told, ToldReady, ToldRow, ToldEnd, ToldNone, ToldStatement, ToldFlag, ToldError, ToldPassed, told}
 use Rattle.my_reading.specs.Transactions.{begin_refusal, given_up, is_given_up, rollback_text, rolled_back}
 use Rattle.my_reading.specs.Versions.{can_reset}
 use Rattle.my_session.specs.Queries.{queries_of}
@@ -81,26 +83,30 @@ pub record Move : Type 0 where
 
 -- the call ends, the session is closed, what was owed is dropped, and no prepared statement is known any more
 abbrev pub fell : Seen → Seen
-fell s = record { context = s.context; task = tasks.Nothing; call = s.call; untold = s.untold; taken = s.taken; closed = true; ended = s.ended; number = s.number; unread = s.unread; owed = []; facts = s.facts; statements = emptied s.statements; status = s.status; trial = s.trial; login = s.login }
+fell s = record { context = s.context; task = tasks.Nothing; call = s.call; untold = s.untold; taken = s.taken; closed = true; ended = s.ended; number = s.number; unread = s.unread; owed = []; facts = s.facts; statements = emptied s.statements; status = s.status; account = s.account; trial = s.trial; login = s.login }
 
 abbrev pub with_task : Seen → Task → Bool → Seen
-with_task s t untold = record { context = s.context; task = t; call = s.call; untold = untold; taken = s.taken; closed = s.closed; ended = s.ended; number = s.number; unread = s.unread; owed = s.owed; facts = s.facts; statements = s.statements; status = s.status; trial = s.trial; login = s.login }
+with_task s t untold = record { context = s.context; task = t; call = s.call; untold = untold; taken = s.taken; closed = s.closed; ended = s.ended; number = s.number; unread = s.unread; owed = s.owed; facts = s.facts; statements = s.statements; status = s.status; account = s.account; trial = s.trial; login = s.login }
 
 -- a stream takes the set
 abbrev pub with_taken : Seen → Seen
-with_taken s = record { context = s.context; task = s.task; call = s.call; untold = s.untold; taken = true; closed = s.closed; ended = s.ended; number = s.number; unread = s.unread; owed = s.owed; facts = s.facts; statements = s.statements; status = s.status; trial = s.trial; login = s.login }
+with_taken s = record { context = s.context; task = s.task; call = s.call; untold = s.untold; taken = true; closed = s.closed; ended = s.ended; number = s.number; unread = s.unread; owed = s.owed; facts = s.facts; statements = s.statements; status = s.status; account = s.account; trial = s.trial; login = s.login }
 
 -- these prepared statements are known
 abbrev pub with_statements : Seen → Statements → Seen
-with_statements s st = record { context = s.context; task = s.task; call = s.call; untold = s.untold; taken = s.taken; closed = s.closed; ended = s.ended; number = s.number; unread = s.unread; owed = s.owed; facts = s.facts; statements = st; status = s.status; trial = s.trial; login = s.login }
+with_statements s st = record { context = s.context; task = s.task; call = s.call; untold = s.untold; taken = s.taken; closed = s.closed; ended = s.ended; number = s.number; unread = s.unread; owed = s.owed; facts = s.facts; statements = st; status = s.status; account = s.account; trial = s.trial; login = s.login }
 
 -- the transaction stands so
 abbrev pub with_status : Seen → TxStatus → Seen
-with_status s status = record { context = s.context; task = s.task; call = s.call; untold = s.untold; taken = s.taken; closed = s.closed; ended = s.ended; number = s.number; unread = s.unread; owed = s.owed; facts = s.facts; statements = s.statements; status = status; trial = s.trial; login = s.login }
+with_status s status = record { context = s.context; task = s.task; call = s.call; untold = s.untold; taken = s.taken; closed = s.closed; ended = s.ended; number = s.number; unread = s.unread; owed = s.owed; facts = s.facts; statements = s.statements; status = status; account = s.account; trial = s.trial; login = s.login }
+
+-- the options in force have this account
+abbrev pub with_account : Seen → Account → Seen
+with_account s account = record { context = s.context; task = s.task; call = s.call; untold = s.untold; taken = s.taken; closed = s.closed; ended = s.ended; number = s.number; unread = s.unread; owed = s.owed; facts = s.facts; statements = s.statements; status = s.status; account = account; trial = s.trial; login = s.login }
 
 -- a transaction is being committed, or isn't any more
 abbrev pub with_trial : Seen → Trial → Seen
-with_trial s trial = record { context = s.context; task = s.task; call = s.call; untold = s.untold; taken = s.taken; closed = s.closed; ended = s.ended; number = s.number; unread = s.unread; owed = s.owed; facts = s.facts; statements = s.statements; status = s.status; trial = trial; login = s.login }
+with_trial s trial = record { context = s.context; task = s.task; call = s.call; untold = s.untold; taken = s.taken; closed = s.closed; ended = s.ended; number = s.number; unread = s.unread; owed = s.owed; facts = s.facts; statements = s.statements; status = s.status; account = s.account; trial = trial; login = s.login }
 
 -- a fatal error
 abbrev pub failed_by : Seen → Error → Move
@@ -135,13 +141,14 @@ advanced s k p rest next = record {
   facts = facts_after k p s.facts;
   statements = s.statements;
   status = s.status;
+  account = s.account;
   trial = s.trial;
   login = s.login;
 }
 
 -- an exchange begins, and nothing of an older one is left
 abbrev pub queued : Seen → Task → Talk → Seen
-queued s t talk = record { context = context_of talk; task = t; call = s.call; untold = false; taken = false; closed = s.closed; ended = s.ended; number = number_of (turns talk); unread = s.unread; owed = s.owed ++ client_bytes (turns talk); facts = s.facts; statements = s.statements; status = s.status; trial = s.trial; login = s.login }
+queued s t talk = record { context = context_of talk; task = t; call = s.call; untold = false; taken = false; closed = s.closed; ended = s.ended; number = number_of (turns talk); unread = s.unread; owed = s.owed ++ client_bytes (turns talk); facts = s.facts; statements = s.statements; status = s.status; account = s.account; trial = s.trial; login = s.login }
 
 -- the transaction of the open call couldn't be committed, and is rolled back
 abbrev pub backing : Option CallKind → Task
@@ -167,6 +174,10 @@ abbrev pub passed : Seen → Seen → Option RowParts → Move
 passed s n None = failed_by s (invalid_data s.facts.place)
 passed s n (Some row) = record { seen = n; does = Passes (ToldRow row) }
 
+abbrev pub passed_error : Seen → Seen → Option ErrPacket → Move
+passed_error s n None = failed_by s (invalid_data s.facts.place)
+passed_error s n (Some e) = record { seen = n; does = Passes (ToldPassed (server_error e)) }
+
 -- what a reaction makes of the payload, after which the session would be n; one that fits no case is not read
 abbrev pub reacted : Seen → Seen → List ℕ → Reaction → Move
 reacted s n p (reactions.Goes t) = record { seen = with_task n t n.untold; does = Goes }
@@ -176,6 +187,7 @@ reacted s n p reactions.Gives = gave s n (row_at s.context.rows s.facts.columns 
 reacted s n p reactions.Ends = record { seen = with_task n tasks.Nothing n.untold; does = Tells ToldEnd }
 reacted s n p reactions.PassesRow = passed s n (row_at s.context.rows s.facts.columns p)
 reacted s n p reactions.PassesEnd = record { seen = n; does = Passes ToldEnd }
+reacted s n p reactions.PassesError = passed_error s n (err_at (is_greeting s.context.spot) p)
 reacted s n p reactions.Refuses = refused s n (err_at (is_greeting s.context.spot) p)
 reacted s n p reactions.Breaks = failed_by s (invalid_data s.facts.place)
 
@@ -245,6 +257,7 @@ commanded s t spot rows ahead command =
         facts = s.facts;
         statements = s.statements;
         status = s.status;
+        account = s.account;
         trial = s.trial;
         login = s.login;
       };
@@ -316,6 +329,10 @@ abbrev pub offered : Seen → Bool → Move
 offered s true = record { seen = with_task s (tasks.Cleaning Reset) s.untold; does = Goes }
 offered s false = record { seen = with_task s tasks.Nothing s.untold; does = Tells (ToldFlag false) }
 
+-- the exchange that renews the server's session
+abbrev pub renewing : Seen → CallKind → Talk
+renewing s c = renewal s.login (next_terms s) s.facts s.account (renews_by_reset c (version_of s.facts.version))
+
 -- a transaction that was given up is rolled back before the call goes on
 abbrev pub undone : Seen → CallKind → Bool → Move
 undone s c true = begins s (tasks.Undoing c) (queried (next_terms s) rollback_text)
@@ -377,7 +394,9 @@ planned s (plans.Asks c) = unless_refused s (refusal c s.call) (asked s (tasks.O
 planned s (plans.Runs n) = ran s (suc n) (slice_get (lists_in s.call) n)
 planned s (plans.Arranges n) = arranged s n (connecting s.login (next_terms s) (suc n))
 planned s plans.Resets = offered s (can_reset (version_of s.facts.version))
-planned s plans.Clears = record { seen = with_statements (with_task s (tasks.Asking Reset 0) s.untold) (cleared s.statements); does = Goes }
+planned s plans.Adopts = record { seen = with_account (with_task s (tasks.Cleaning ChangeUser) s.untold) (changed (change_in s.call) s.account); does = Goes }
+planned s (plans.Renews c) = begins s (tasks.Own c) (renewing s c)
+planned s (plans.Clears c) = record { seen = with_statements (with_task s (tasks.Asking c 0) s.untold) (cleared s.statements); does = Goes }
 planned s (plans.Queries c n) = queried_by s c n (slice_get (queries_of s.login c s.call) n)
 planned s (plans.Undoes c) = undone s c (is_given_up s.status)
 planned s (plans.Settles c) = record { seen = with_status (with_task s (tasks.Cleaned c) s.untold) (rolled_back s.status); does = Goes }
@@ -386,6 +405,7 @@ planned s plans.Tries = record { seen = with_trial (with_task s (tasks.Cleaning 
 planned s (plans.Reverts c) = reverted s c (is_given_up s.status)
 planned s plans.Returns = returned s s.trial
 planned s plans.GivesUp = record { seen = with_trial (with_status (with_task s (tasks.Cleaning Rollback) s.untold) txs.RequiresRollback) trials.Off; does = Goes }
+planned s plans.Releases = record { seen = with_status (with_task s (tasks.Cleaning CleanForPool) s.untold) (given_up s.status); does = Goes }
 planned s plans.Forsakes = record { seen = with_status (with_task s tasks.Nothing s.untold) (given_up s.status); does = Tells ToldReady }
 planned s plans.Readies = record { seen = with_task s tasks.Nothing s.untold; does = Tells ToldReady }
 planned s plans.Learns = record {
@@ -431,6 +451,7 @@ abbrev pub doing : Tick → Doing
 doing ticks.Goes = Goes
 doing (ticks.PassedRow row) = Passes (ToldRow row)
 doing ticks.PassedEnd = Passes ToldEnd
+doing (ticks.PassedError e) = Passes (ToldPassed e)
 doing ticks.Sends = Sends
 doing ticks.Needs = Needs
 doing (ticks.Done a) = Tells (told a)
@@ -455,6 +476,7 @@ abbrev pub Does : Move → Seen → Seen → Tick → Type 0
 Does m old new ticks.Goes = Did m new ticks.Goes
 Does m old new (ticks.PassedRow row) = Did m new (ticks.PassedRow row)
 Does m old new ticks.PassedEnd = Did m new ticks.PassedEnd
+Does m old new (ticks.PassedError e) = Did m new (ticks.PassedError e)
 Does m old new ticks.Sends = Did m new ticks.Sends
 Does m old new ticks.Needs = Did m new ticks.Needs
 Does m old new (ticks.Done a) = Did m new (ticks.Done a)

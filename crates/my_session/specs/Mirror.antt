@@ -9,7 +9,7 @@ use Rattle.my_grammar.specs.Talk.{turns, number_of, context_of, Fits, login_in}
 use Rattle.my_reading.specs.declared.call.Call.{Call}
 use Rattle.my_reading.specs.declared.call.Call.TheVariants as calls
 use Rattle.my_reading.specs.declared.call.CallKind.{CallKind}
-use Rattle.my_reading.specs.declared.call.CallKind.TheVariants.{Connect, Query, Prepare, Execute, Batch, CloseStmt, NextRow, DropResult, TakeSet, SkipTaken, Ping, Reset, Begin, Commit, Rollback, ForgetTransaction, Quit}
+use Rattle.my_reading.specs.declared.call.CallKind.TheVariants.{Connect, Query, Prepare, Execute, Batch, CloseStmt, NextRow, DropResult, TakeSet, SkipTaken, Ping, Reset, ChangeUser, Begin, Commit, Rollback, ForgetTransaction, CleanForPool, ResetForPool, Quit}
 use Rattle.my_params.specs.declared.params.Params.{Params}
 use Rattle.my_statements.specs.Prepared.{StatementView}
 use Rattle.my_reading.specs.declared.error.DriverError.{DriverError}
@@ -20,7 +20,7 @@ use Rattle.my_reading.specs.declared.transaction.TxStatus.TheVariants as txs
 use Rattle.my_reading.specs.Calls.{kind_of, call_of, asks, lists_in, opts_in, statement_in}
 use Rattle.my_reading.specs.Executions.{values_for}
 use Rattle.my_reading.specs.Commands.{arranging_texts}
-use Rattle.my_reading.specs.Course.{Part, All, Head, Item, Set, Rest, Command, Run, Reply, Keep, Give, Learn, Clear, Flag, Undo, Undone, Refuse, Settle, Text, Back, Owes, Awaits, Returns, Stops, step, clean, parts_of, parts_of_lists, parts_of_queries, parts_of_texts, is_greeting}
+use Rattle.my_reading.specs.Course.{Part, All, Head, Item, Set, Rest, Command, Run, Reply, Keep, Give, Learn, Clear, Flag, Renew, Drain, Undo, Undone, Refuse, Settle, GiveUp, Text, Back, Owes, Awaits, Returns, Stops, step, clean, parts_of, parts_of_lists, parts_of_queries, parts_of_texts, is_greeting}
 use Rattle.my_reading.specs.Errors.{unexpected_eof}
 use Rattle.my_reading.specs.Leads.{Leads}
 use Rattle.my_reading.specs.Place.{Place, exchanges, facts_at, client_side, connects_in}
@@ -33,7 +33,7 @@ use Rattle.my_session.specs.declared.answer.Tick.TheVariants as ticks
 use Rattle.my_session.specs.declared.task.Task.{Task}
 use Rattle.my_session.specs.declared.task.Task.TheVariants as tasks
 use Rattle.my_session.specs.Machine.{Doing, Goes, Passes, Sends, Needs, Tells, Move, next, refusal, refused_by}
-use Rattle.my_session.specs.Queries.{has_queries, queries_of}
+use Rattle.my_session.specs.Queries.{has_queries, queries_of, sets_up}
 use Rattle.my_session.specs.Seen.{Seen}
 use Rattle.my_session.specs.Stands.{is_off, is_shaking, owes, call_with}
 use Rattle.my_session.specs.Tasks.{kind_in, fault_in}
@@ -63,10 +63,13 @@ own_parts login TakeSet call = Set ∷ []
 own_parts login SkipTaken call = Rest ∷ []
 own_parts login Ping call = All ∷ []
 own_parts login Reset call = All ∷ Clear ∷ parts_of_own Reset (queries_of login Reset call)
+own_parts login ChangeUser call = All ∷ Clear ∷ parts_of_own ChangeUser (queries_of login ChangeUser call)
 own_parts login Begin call = []
 own_parts login Commit call = []
 own_parts login Rollback call = []
 own_parts login ForgetTransaction call = []
+own_parts login CleanForPool call = []
+own_parts login ResetForPool call = All ∷ Clear ∷ parts_of_own ResetForPool (queries_of login ResetForPool call)
 own_parts login Quit call = []
 
 -- what is left of a batch after the parameters of its next execution were looked at
@@ -80,6 +83,9 @@ ask_parts login Batch call = parts_of_runs (lists_in call)
 ask_parts login Begin call = Refuse (opts_in call) ∷ parts_of_own Begin (queries_of login Begin call)
 ask_parts login Commit call = Text commit_text ∷ parts_of_own Commit []
 ask_parts login Rollback call = []
+ask_parts login CleanForPool call = []
+ask_parts login ChangeUser call = Renew ∷ own_parts login ChangeUser call
+ask_parts login ResetForPool call = Renew ∷ own_parts login ResetForPool call
 ask_parts login c call = Command ∷ own_parts login c call
 
 -- what is left of the open call, which carries what this one does
@@ -94,10 +100,11 @@ parts_left login call tasks.Giving = Give ∷ []
 parts_left login call (tasks.Arranging n) = All ∷ parts_of_texts (drop n (arranging_texts login))
 parts_left login call (tasks.Running n) = Head ∷ Learn ∷ All ∷ parts_of_lists (drop n (lists_in call))
 parts_left login call (tasks.Finishing n) = All ∷ parts_of_lists (drop n (lists_in call))
-parts_left login call tasks.Clearing = Clear ∷ parts_of_own Reset (queries_of login Reset call)
+parts_left login call (tasks.Clearing c) = Clear ∷ parts_of_own c (queries_of login c call)
 parts_left login call (tasks.Asking c n) = parts_of_own c (drop n (queries_of login c call))
 parts_left login call (tasks.Backing c) = Undo ∷ Back ∷ []
 parts_left login call (tasks.Reverting c) = Back ∷ []
+parts_left login call tasks.Draining = Drain ∷ GiveUp ∷ clean []
 parts_left login call tasks.Reading = Item ∷ []
 parts_left login call tasks.Dropping = All ∷ []
 parts_left login call tasks.Taking = Set ∷ []
@@ -113,6 +120,7 @@ passes_end (tasks.Arranging n) = true
 passes_end (tasks.Finishing n) = true
 passes_end (tasks.Asking c n) = true
 passes_end (tasks.Reverting c) = true
+passes_end tasks.Draining = true
 passes_end t = false
 
 -- a call has cleaned, its own exchange, or what follows it; or it couldn't commit
@@ -122,7 +130,7 @@ is_own (tasks.Backing c) = true
 is_own (tasks.Own c) = true
 is_own tasks.Giving = true
 is_own (tasks.Running n) = true
-is_own tasks.Clearing = true
+is_own (tasks.Clearing c) = true
 is_own t = false
 
 -- where a task is, while `count` exchanges are those of connecting
@@ -139,10 +147,13 @@ OwnStandsAt TakeSet spot count = ⊥
 OwnStandsAt SkipTaken spot count = ⊥
 OwnStandsAt Ping spot count = spot ≡ spots.Single
 OwnStandsAt Reset spot count = spot ≡ spots.Single
+OwnStandsAt ChangeUser spot count = spot ≡ spots.Single
 OwnStandsAt Begin spot count = ⊥
 OwnStandsAt Commit spot count = ⊥
 OwnStandsAt Rollback spot count = ⊥
 OwnStandsAt ForgetTransaction spot count = ⊥
+OwnStandsAt CleanForPool spot count = ⊥
+OwnStandsAt ResetForPool spot count = spot ≡ spots.Single
 OwnStandsAt Quit spot count = is_greeting spot ≡ false
 
 abbrev pub BegunStandsAt : CallKind → Spot → ℕ → Type 0
@@ -160,10 +171,11 @@ TaskStandsAt tasks.Giving spot count = is_greeting spot ≡ false
 TaskStandsAt (tasks.Arranging n) spot count = (is_greeting spot ≡ false) × (count ≡ suc n)
 TaskStandsAt (tasks.Running n) spot count = is_greeting spot ≡ false
 TaskStandsAt (tasks.Finishing n) spot count = is_greeting spot ≡ false
-TaskStandsAt tasks.Clearing spot count = is_greeting spot ≡ false
+TaskStandsAt (tasks.Clearing c) spot count = (is_greeting spot ≡ false) × (sets_up c ≡ true)
 TaskStandsAt (tasks.Asking c n) spot count = (asks c ≡ true) × (is_greeting spot ≡ false) × (has_queries c ≡ true)
 TaskStandsAt (tasks.Backing c) spot count = (c ≡ Commit) × (spot ≡ spots.Idle)
 TaskStandsAt (tasks.Reverting c) spot count = (c ≡ Commit) × (is_greeting spot ≡ false)
+TaskStandsAt tasks.Draining spot count = is_greeting spot ≡ false
 TaskStandsAt tasks.Reading spot count = is_greeting spot ≡ false
 TaskStandsAt tasks.Dropping spot count = is_greeting spot ≡ false
 TaskStandsAt tasks.Taking spot count = is_greeting spot ≡ false
@@ -211,6 +223,7 @@ pub record StandsAt (s : Seen) (p : Place) : Type 0 where
   pub task_at : TaskStandsAt s.task s.context.spot (connects_in (exchanges p))
   pub statements_are : s.closed ≡ false → s.statements ≡ p.statements
   pub status_is : s.closed ≡ false → s.status ≡ p.status
+  pub account_is : s.closed ≡ false → s.account ≡ p.account
   pub trial_is : s.closed ≡ false → s.trial ≡ p.trial
   -- the parameters of an execution were looked at before anything is sent
   pub checked : refusal_at s.task s.call ≡ None
@@ -285,6 +298,7 @@ abbrev pub TicksTo : Login → Call → List Part → Place → Tick → Seen �
 TicksTo login call parts q ticks.Goes new = OpenAt new call parts q
 TicksTo login call parts q (ticks.PassedRow row) new = OpenAt new call parts q
 TicksTo login call parts q ticks.PassedEnd new = OpenAt new call parts q
+TicksTo login call parts q (ticks.PassedError e) new = OpenAt new call parts q
 TicksTo login call parts q ticks.Sends new = (step login call parts q ≡ Stops q Owes) × OpenAt new call parts q
 TicksTo login call parts q ticks.Needs new = (step login call parts q ≡ Stops q Awaits) × OpenAt new call parts q
 TicksTo login call parts q (ticks.Done a) new = ReturnsAt login call parts q (told a) new

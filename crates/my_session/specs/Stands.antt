@@ -10,7 +10,7 @@ use Rattle.my_grammar.specs.Talk.{Talk, turns, number_of, server_bytes, client_b
 use Rattle.my_reading.specs.declared.call.Call.{Call}
 use Rattle.my_reading.specs.declared.call.Call.TheVariants as calls
 use Rattle.my_reading.specs.declared.call.CallKind.{CallKind}
-use Rattle.my_reading.specs.declared.call.CallKind.TheVariants.{Connect, Query, Prepare, Execute, Batch, CloseStmt, NextRow, DropResult, TakeSet, SkipTaken, Ping, Reset, Begin, Commit, Rollback, ForgetTransaction, Quit}
+use Rattle.my_reading.specs.declared.call.CallKind.TheVariants.{Connect, Query, Prepare, Execute, Batch, CloseStmt, NextRow, DropResult, TakeSet, SkipTaken, Ping, Reset, ChangeUser, Begin, Commit, Rollback, ForgetTransaction, CleanForPool, ResetForPool, Quit}
 use Rattle.my_session.specs.declared.task.Task.{Task}
 use Rattle.my_session.specs.declared.task.Task.TheVariants as tasks
 use Rattle.my_reading.specs.declared.facts.Facts.{Facts}
@@ -26,7 +26,7 @@ use Rattle.my_reading.specs.Transactions.{is_given_up}
 use Rattle.my_session.specs.Groups.{groups, given}
 use Rattle.my_session.specs.History.{History, Made, has_closed}
 use Rattle.my_session.specs.Machine.{is_greeting}
-use Rattle.my_session.specs.Queries.{has_queries}
+use Rattle.my_session.specs.Queries.{has_queries, sets_up}
 use Rattle.my_session.specs.Seen.{Seen}
 use Rattle.my_session.specs.ServerErrors.{errors_of, errors_told, with_pending}
 use Rattle.my_session.specs.Steps.{is_settled}
@@ -156,10 +156,13 @@ OwnAt TakeSet spot connected count newest = ⊥
 OwnAt SkipTaken spot connected count newest = ⊥
 OwnAt Ping spot connected count newest = (connected ≡ true) × (spot ≡ spots.Single)
 OwnAt Reset spot connected count newest = (connected ≡ true) × (spot ≡ spots.Single)
+OwnAt ChangeUser spot connected count newest = (connected ≡ true) × (spot ≡ spots.Single)
 OwnAt Begin spot connected count newest = ⊥
 OwnAt Commit spot connected count newest = ⊥
 OwnAt Rollback spot connected count newest = ⊥
 OwnAt ForgetTransaction spot connected count newest = ⊥
+OwnAt CleanForPool spot connected count newest = ⊥
+OwnAt ResetForPool spot connected count newest = (connected ≡ true) × (spot ≡ spots.Single)
 OwnAt Quit spot connected count newest = connected ≡ true
 
 -- Connect begins before the greeting, and each other call once the connection was made
@@ -179,10 +182,11 @@ TaskIs tasks.Giving spot closed connected count newest = (connected ≡ true) ×
 TaskIs (tasks.Arranging n) spot closed connected count newest = (connected ≡ false) × (count ≡ suc n) × (is_greeting spot ≡ false) × (is_idle spot ≡ true → is_answered newest.talk ≡ true)
 TaskIs (tasks.Running n) spot closed connected count newest = (connected ≡ true) × (is_heading spot ≡ true)
 TaskIs (tasks.Finishing n) spot closed connected count newest = (connected ≡ true) × (is_greeting spot ≡ false)
-TaskIs tasks.Clearing spot closed connected count newest = (connected ≡ true) × (spot ≡ spots.Idle)
+TaskIs (tasks.Clearing c) spot closed connected count newest = (sets_up c ≡ true) × (connected ≡ true) × (spot ≡ spots.Idle)
 TaskIs (tasks.Asking c n) spot closed connected count newest = (has_queries c ≡ true) × (connected ≡ true) × (is_greeting spot ≡ false)
 TaskIs (tasks.Backing c) spot closed connected count newest = (c ≡ Commit) × (connected ≡ true) × (spot ≡ spots.Idle)
 TaskIs (tasks.Reverting c) spot closed connected count newest = (c ≡ Commit) × (connected ≡ true) × (is_greeting spot ≡ false)
+TaskIs tasks.Draining spot closed connected count newest = (connected ≡ true) × (is_greeting spot ≡ false)
 TaskIs tasks.Reading spot closed connected count newest = (connected ≡ true) × (is_reading spot ≡ true)
 TaskIs tasks.Dropping spot closed connected count newest = (connected ≡ true) × (is_reading spot ≡ true)
 TaskIs tasks.Taking spot closed connected count newest = (connected ≡ true) × (is_reading spot ≡ true)
@@ -210,7 +214,7 @@ TieIs tasks.Giving opened spot made call older = OwnsFirst (call_of Prepare open
 TieIs (tasks.Arranging n) opened spot made call older = OwnsFirst calls.Connect (call ∷ calls_in older) (IsTied made)
 TieIs (tasks.Running n) opened spot made call older = OwnsFirst (call_of Batch opened) (call ∷ calls_in older) (IsTied made)
 TieIs (tasks.Finishing n) opened spot made call older = OwnsFirst (call_of Batch opened) (call ∷ calls_in older) (IsTied made)
-TieIs tasks.Clearing opened spot made call older = OwnsFirst (call_of Reset opened) (call ∷ calls_in older) (IsTied made)
+TieIs (tasks.Clearing c) opened spot made call older = OwnsFirst (call_of c opened) (call ∷ calls_in older) (IsTied made)
 TieIs (tasks.Asking c n) opened spot made call older = OwnsFirst (call_of c opened) (call ∷ calls_in older) (IsTied made)
 TieIs (tasks.Backing c) opened spot made call older = OwnsFirst (call_of c opened) (call ∷ calls_in older) (IsTied made) ⊎ IsTied made (begun_of spot call older)
 TieIs (tasks.Reverting c) opened spot made call older = OwnsFirst (call_of c opened) (call ∷ calls_in older) (IsTied made)

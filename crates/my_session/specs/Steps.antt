@@ -4,6 +4,7 @@ use Rattle.my_frame.specs.Front.{Waiting, front_at}
 use Rattle.my_grammar.specs.declared.login.Login.{Login}
 use Rattle.my_grammar.specs.declared.spot.Spot.{Spot}
 use Rattle.my_grammar.specs.declared.spot.Spot.TheVariants as spots
+use Rattle.my_grammar.specs.Account.{account_of}
 use Rattle.my_grammar.specs.Talk.{Start, context_of}
 use Rattle.my_session.specs.declared.answer.SessionStep.{SessionStep}
 use Rattle.my_session.specs.declared.answer.SessionStep.TheVariants as steps
@@ -12,11 +13,11 @@ use Rattle.my_session.specs.declared.answer.Tick.TheVariants as ticks
 use Rattle.my_reading.specs.declared.call.Call.{Call}
 use Rattle.my_reading.specs.declared.call.Call.TheVariants as calls
 use Rattle.my_reading.specs.declared.call.CallKind.{CallKind}
-use Rattle.my_reading.specs.declared.call.CallKind.TheVariants.{Connect, Batch, Prepare, Reset, NextRow, DropResult, TakeSet, SkipTaken}
+use Rattle.my_reading.specs.declared.call.CallKind.TheVariants.{Connect, Batch, Prepare, CleanForPool, NextRow, DropResult, TakeSet, SkipTaken}
 use Rattle.my_session.specs.declared.task.LinkFault.{LinkFault}
 use Rattle.my_session.specs.declared.task.LinkFault.TheVariants.{NoMemory}
 use Rattle.my_session.specs.declared.task.Task.{Task}
-use Rattle.my_session.specs.declared.task.Task.TheVariants.{Nothing, Begun, Cleaning, Undoing, Cleaned, Own, Giving, Arranging, Running, Finishing, Clearing, Asking, Backing, Reverting, Reading, Dropping, Taking, Skipping, Leaving, Failing}
+use Rattle.my_session.specs.declared.task.Task.TheVariants.{Nothing, Begun, Cleaning, Undoing, Cleaned, Own, Giving, Arranging, Running, Finishing, Clearing, Asking, Backing, Reverting, Draining, Reading, Dropping, Taking, Skipping, Leaving, Failing}
 use Rattle.my_reading.specs.Calls.{kind_of, is_unrefused}
 use Rattle.my_session.specs.Tasks.{is_open}
 use Rattle.my_reading.specs.Facts.{first_facts}
@@ -52,7 +53,7 @@ is_begun_at _ spot = is_settled spot
 
 -- before the greeting
 abbrev pub fresh : Login → Seen
-fresh login = record { context = context_of (Start login); task = Nothing; call = calls.Connect; untold = false; taken = false; closed = false; ended = false; number = 0; unread = []; owed = []; facts = first_facts login; statements = first_statements login; status = txs.None; trial = Off; login = login }
+fresh login = record { context = context_of (Start login); task = Nothing; call = calls.Connect; untold = false; taken = false; closed = false; ended = false; number = 0; unread = []; owed = []; facts = first_facts login; statements = first_statements login; status = txs.None; account = account_of login; trial = Off; login = login }
 
 -- whether a stream took the set that is read, or whose end is left
 abbrev pub is_taken : Seen → Bool
@@ -64,17 +65,17 @@ is_refused closed c = closed && not (is_unrefused c)
 
 -- a call begins; on a closed session it has nothing left to do
 abbrev pub begun : Seen → Call → Seen
-begun s call = record { context = s.context; task = (if s.closed then Leaving (kind_of call) else Begun (kind_of call)); call = call; untold = s.untold; taken = s.taken; closed = s.closed; ended = s.ended; number = s.number; unread = s.unread; owed = s.owed; facts = s.facts; statements = s.statements; status = s.status; trial = s.trial; login = s.login }
+begun s call = record { context = s.context; task = (if s.closed then Leaving (kind_of call) else Begun (kind_of call)); call = call; untold = s.untold; taken = s.taken; closed = s.closed; ended = s.ended; number = s.number; unread = s.unread; owed = s.owed; facts = s.facts; statements = s.statements; status = s.status; account = s.account; trial = s.trial; login = s.login }
 
 abbrev pub with_owed : Seen → List ℕ → Seen
-with_owed s owed = record { context = s.context; task = s.task; call = s.call; untold = s.untold; taken = s.taken; closed = s.closed; ended = s.ended; number = s.number; unread = s.unread; owed = owed; facts = s.facts; statements = s.statements; status = s.status; trial = s.trial; login = s.login }
+with_owed s owed = record { context = s.context; task = s.task; call = s.call; untold = s.untold; taken = s.taken; closed = s.closed; ended = s.ended; number = s.number; unread = s.unread; owed = owed; facts = s.facts; statements = s.statements; status = s.status; account = s.account; trial = s.trial; login = s.login }
 
 abbrev pub with_unread : Seen → List ℕ → Seen
-with_unread s unread = record { context = s.context; task = s.task; call = s.call; untold = s.untold; taken = s.taken; closed = s.closed; ended = s.ended; number = s.number; unread = unread; owed = s.owed; facts = s.facts; statements = s.statements; status = s.status; trial = s.trial; login = s.login }
+with_unread s unread = record { context = s.context; task = s.task; call = s.call; untold = s.untold; taken = s.taken; closed = s.closed; ended = s.ended; number = s.number; unread = unread; owed = s.owed; facts = s.facts; statements = s.statements; status = s.status; account = s.account; trial = s.trial; login = s.login }
 
 -- the link reported its end
 abbrev pub with_end : Seen → Seen
-with_end s = record { context = s.context; task = s.task; call = s.call; untold = s.untold; taken = s.taken; closed = s.closed; ended = true; number = s.number; unread = s.unread; owed = s.owed; facts = s.facts; statements = s.statements; status = s.status; trial = s.trial; login = s.login }
+with_end s = record { context = s.context; task = s.task; call = s.call; untold = s.untold; taken = s.taken; closed = s.closed; ended = true; number = s.number; unread = s.unread; owed = s.owed; facts = s.facts; statements = s.statements; status = s.status; account = s.account; trial = s.trial; login = s.login }
 
 -- the open call is made to fail; where none is open, nothing changes
 abbrev pub failing : Task → LinkFault → Task
@@ -88,10 +89,11 @@ failing Giving fault = Failing Prepare fault
 failing (Arranging n) fault = Failing Connect fault
 failing (Running n) fault = Failing Batch fault
 failing (Finishing n) fault = Failing Batch fault
-failing Clearing fault = Failing Reset fault
+failing (Clearing c) fault = Failing c fault
 failing (Asking c n) fault = Failing c fault
 failing (Backing c) fault = Failing c fault
 failing (Reverting c) fault = Failing c fault
+failing Draining fault = Failing CleanForPool fault
 failing Reading fault = Failing NextRow fault
 failing Dropping fault = Failing DropResult fault
 failing Taking fault = Failing TakeSet fault
@@ -100,7 +102,7 @@ failing (Leaving c) fault = Failing c fault
 failing (Failing c old) fault = Failing c fault
 
 abbrev pub with_failing : Seen → LinkFault → Seen
-with_failing s fault = record { context = s.context; task = failing s.task fault; call = s.call; untold = s.untold; taken = s.taken; closed = s.closed; ended = s.ended; number = s.number; unread = s.unread; owed = s.owed; facts = s.facts; statements = s.statements; status = s.status; trial = s.trial; login = s.login }
+with_failing s fault = record { context = s.context; task = failing s.task fault; call = s.call; untold = s.untold; taken = s.taken; closed = s.closed; ended = s.ended; number = s.number; unread = s.unread; owed = s.owed; facts = s.facts; statements = s.statements; status = s.status; account = s.account; trial = s.trial; login = s.login }
 
 -- bytes were received for which there is no memory: the open call is made to fail, or the session is closed
 abbrev pub with_loss : Seen → Seen
@@ -109,7 +111,7 @@ with_loss s = if is_open s.task then with_failing s NoMemory else fell s
 -- moves that go on come to an end
 abbrev pub rank : Task → Bool → ℕ
 rank Nothing untold = 0
-rank (Begun c) untold = 3
+rank (Begun c) untold = 4
 rank (Cleaning c) true = 2
 rank (Cleaning c) false = 1
 rank (Undoing c) true = 2
@@ -122,12 +124,14 @@ rank (Arranging n) false = 0
 rank (Running n) untold = 2
 rank (Finishing n) true = 1
 rank (Finishing n) false = 0
-rank Clearing untold = 2
+rank (Clearing c) untold = 2
 rank (Asking c n) true = 1
 rank (Asking c n) false = 0
 rank (Backing c) untold = 3
 rank (Reverting c) true = 2
 rank (Reverting c) false = 1
+rank Draining true = 3
+rank Draining false = 2
 rank Reading untold = 0
 rank Dropping true = 1
 rank Dropping false = 0
@@ -146,6 +150,7 @@ abbrev pub TickIs : Seen → Seen → Tick → Type 0
 TickIs old new ticks.Goes = (is_open new.task ≡ true) × (left_to_do new < left_to_do old)
 TickIs old new (ticks.PassedRow row) = (is_open new.task ≡ true) × (left_to_do new < left_to_do old)
 TickIs old new ticks.PassedEnd = (is_open new.task ≡ true) × (left_to_do new < left_to_do old)
+TickIs old new (ticks.PassedError e) = (is_open new.task ≡ true) × (left_to_do new < left_to_do old)
 TickIs old new ticks.Sends = (is_open new.task ≡ true) × (new.owed ≢ [])
 TickIs old new ticks.Needs = (is_open new.task ≡ true) × (new.owed ≡ []) × (new.ended ≡ false) × (front_at new.number new.context.terms.limit new.unread ≡ Waiting)
 TickIs old new (ticks.Done a) = new.task ≡ Nothing

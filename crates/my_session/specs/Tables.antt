@@ -6,11 +6,11 @@ use Rattle.my_grammar.specs.declared.spot.Spot.TheVariants as spots
 use Rattle.my_grammar.specs.declared.spot.Kind.{Kind}
 use Rattle.my_grammar.specs.declared.spot.Kind.TheVariants as kinds
 use Rattle.my_reading.specs.declared.call.CallKind.{CallKind}
-use Rattle.my_reading.specs.declared.call.CallKind.TheVariants.{Connect, Query, Prepare, Execute, Batch, CloseStmt, NextRow, DropResult, TakeSet, SkipTaken, Ping, Reset, Begin, Commit, Rollback, ForgetTransaction, Quit}
+use Rattle.my_reading.specs.declared.call.CallKind.TheVariants.{Connect, Query, Prepare, Execute, Batch, CloseStmt, NextRow, DropResult, TakeSet, SkipTaken, Ping, Reset, ChangeUser, Begin, Commit, Rollback, ForgetTransaction, CleanForPool, ResetForPool, Quit}
 use Rattle.my_reading.specs.Calls.{is_quit}
 pub use Rattle.my_reading.specs.Endings.{awaits_head}
 use Rattle.my_session.specs.declared.task.Task.{Task}
-use Rattle.my_session.specs.declared.task.Task.TheVariants.{Nothing, Begun, Cleaning, Undoing, Cleaned, Own, Giving, Arranging, Running, Finishing, Clearing, Asking, Backing, Reverting, Reading, Dropping, Taking, Skipping, Leaving, Failing}
+use Rattle.my_session.specs.declared.task.Task.TheVariants.{Nothing, Begun, Cleaning, Undoing, Cleaned, Own, Giving, Arranging, Running, Finishing, Clearing, Asking, Backing, Reverting, Draining, Reading, Dropping, Taking, Skipping, Leaving, Failing}
 use Rattle.my_session.specs.declared.tables.Plan.{Plan}
 use Rattle.my_session.specs.declared.tables.Plan.TheVariants as plans
 use Rattle.my_session.specs.declared.reactions.Reaction.{Reaction}
@@ -30,21 +30,25 @@ first_task TakeSet = Taking
 first_task SkipTaken = Skipping
 first_task Ping = Cleaning Ping
 first_task Reset = Cleaning Reset
+first_task ChangeUser = Cleaning ChangeUser
 first_task Begin = Cleaning Begin
 first_task Commit = Cleaning Commit
 first_task Rollback = Cleaning Rollback
 first_task ForgetTransaction = Nothing
+first_task CleanForPool = Draining
+first_task ResetForPool = Cleaning ResetForPool
 first_task Quit = Cleaning Quit
 
 -- what a call does first: a statement to prepare is looked for in the cache, parameters are looked at, those of a batch's first execution
--- among them, a statement to close isn't kept any more, before a reset the server's version is looked at, a transaction is about to be
--- committed, or one that is rolled back or forgotten is given up
+-- among them, a statement to close isn't kept any more, before a reset the server's version is looked at, the options are changed before a
+-- change of user, a transaction is about to be committed, or one that is rolled back or forgotten is given up
 abbrev pub first_plan : CallKind → Plan
 first_plan Prepare = plans.Finds
 first_plan Execute = plans.Checks
 first_plan Batch = plans.Batches
 first_plan CloseStmt = plans.Forgets
 first_plan Reset = plans.Resets
+first_plan ChangeUser = plans.Adopts
 first_plan Commit = plans.Tries
 first_plan Rollback = plans.GivesUp
 first_plan ForgetTransaction = plans.Forsakes
@@ -61,6 +65,9 @@ ask_plan Batch = plans.Runs 0
 ask_plan Begin = plans.Admits
 ask_plan Commit = plans.Queries Commit 0
 ask_plan Rollback = plans.Readies
+ask_plan CleanForPool = plans.Readies
+ask_plan ChangeUser = plans.Renews ChangeUser
+ask_plan ResetForPool = plans.Renews ResetForPool
 ask_plan c = plans.Asks c
 
 abbrev pub read_plan : Spot → Plan
@@ -126,10 +133,11 @@ plan_of Giving s untold = plans.Gives
 plan_of (Arranging n) s untold = clean_plan (plans.Arranges n) s untold
 plan_of (Running n) s untold = run_plan n s
 plan_of (Finishing n) s untold = clean_plan (plans.Runs n) s untold
-plan_of Clearing s untold = plans.Clears
+plan_of (Clearing c) s untold = plans.Clears c
 plan_of (Asking c n) s untold = clean_plan (plans.Queries c n) s untold
 plan_of (Backing c) s untold = plans.Reverts c
 plan_of (Reverting c) s untold = clean_plan plans.Returns s untold
+plan_of Draining s untold = clean_plan plans.Releases s untold
 plan_of Reading s untold = if untold then plans.Ends else read_plan s
 plan_of Dropping s untold = if untold then plans.Passes else drop_plan s
 plan_of Taking s untold = if untold then plans.Takes else take_plan s
@@ -151,6 +159,11 @@ react_whole t (kinds.Prepared params columns) = reactions.Goes t
 react_whole t kinds.Parameter = reactions.Goes t
 react_whole t kinds.Field = reactions.Goes t
 react_whole t kinds.Bad = reactions.Breaks
+
+-- one that is read for nobody, whose error is passed over
+abbrev pub react_draining : Kind → Reaction
+react_draining kinds.Failed = reactions.PassesError
+react_draining k = react_whole Draining k
 
 -- after the login the connection is set up
 abbrev pub react_connect : Kind → Reaction
@@ -189,9 +202,9 @@ react_single good k = reactions.Breaks
 abbrev pub react_ping : Kind → Reaction
 react_ping k = react_single (reactions.Readies false) k
 
--- a reset that was accepted is followed by the queries that set the server's session up
-abbrev pub react_reset : Kind → Reaction
-react_reset k = react_single (reactions.Goes Clearing) k
+-- a new session of the server is followed by the queries that set it up
+abbrev pub react_renewal : CallKind → Kind → Reaction
+react_renewal c k = react_single (reactions.Goes (Clearing c)) k
 
 abbrev pub react_own : CallKind → Kind → Reaction
 react_own Connect k = react_connect k
@@ -199,7 +212,9 @@ react_own Query k = react_query Query k
 react_own Prepare k = react_whole (Own Prepare) k
 react_own Execute k = react_query Execute k
 react_own Ping k = react_ping k
-react_own Reset k = react_reset k
+react_own Reset k = react_renewal Reset k
+react_own ChangeUser k = react_renewal ChangeUser k
+react_own ResetForPool k = react_renewal ResetForPool k
 react_own _ k = reactions.Breaks
 
 abbrev pub react_reading : Kind → Reaction
@@ -250,6 +265,7 @@ react (Running n) k = react_running n k
 react (Finishing n) k = react_whole (Finishing n) k
 react (Asking c n) k = react_whole (Asking c n) k
 react (Reverting c) k = react_whole (Reverting c) k
+react Draining k = react_draining k
 react Reading k = react_reading k
 react Dropping k = react_dropping k
 react Taking k = react_taking k
@@ -278,10 +294,11 @@ closes_when_cancelled Giving s = true
 closes_when_cancelled (Arranging n) s = true
 closes_when_cancelled (Running n) s = true
 closes_when_cancelled (Finishing n) s = true
-closes_when_cancelled Clearing s = true
+closes_when_cancelled (Clearing c) s = true
 closes_when_cancelled (Asking c n) s = true
 closes_when_cancelled (Backing c) s = true
 closes_when_cancelled (Reverting c) s = true
+closes_when_cancelled Draining s = true
 closes_when_cancelled Reading s = awaits_head s
 closes_when_cancelled Dropping s = awaits_head s
 closes_when_cancelled Taking s = awaits_head s

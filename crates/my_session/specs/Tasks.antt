@@ -1,10 +1,10 @@
 -- What the task of an open call says of it.
 use Rattle.std.specs.Prelude.{Option, Some, None, Bool, true, false}
 use Rattle.my_reading.specs.declared.call.CallKind.{CallKind}
-use Rattle.my_reading.specs.declared.call.CallKind.TheVariants.{Connect, Batch, Prepare, Reset, NextRow, DropResult, TakeSet, SkipTaken}
+use Rattle.my_reading.specs.declared.call.CallKind.TheVariants.{Connect, Batch, Prepare, CleanForPool, NextRow, DropResult, TakeSet, SkipTaken}
 use Rattle.my_session.specs.declared.task.LinkFault.{LinkFault}
 use Rattle.my_session.specs.declared.task.Task.{Task}
-use Rattle.my_session.specs.declared.task.Task.TheVariants.{Nothing, Begun, Cleaning, Undoing, Cleaned, Own, Giving, Arranging, Running, Finishing, Clearing, Asking, Backing, Reverting, Reading, Dropping, Taking, Skipping, Leaving, Failing}
+use Rattle.my_session.specs.declared.task.Task.TheVariants.{Nothing, Begun, Cleaning, Undoing, Cleaned, Own, Giving, Arranging, Running, Finishing, Clearing, Asking, Backing, Reverting, Draining, Reading, Dropping, Taking, Skipping, Leaving, Failing}
 
 -- the open call's kind
 abbrev pub kind_in : Task → Option CallKind
@@ -18,10 +18,11 @@ kind_in Giving = Some Prepare
 kind_in (Arranging n) = Some Connect
 kind_in (Running n) = Some Batch
 kind_in (Finishing n) = Some Batch
-kind_in Clearing = Some Reset
+kind_in (Clearing c) = Some c
 kind_in (Asking c n) = Some c
 kind_in (Backing c) = Some c
 kind_in (Reverting c) = Some c
+kind_in Draining = Some CleanForPool
 kind_in Reading = Some NextRow
 kind_in Dropping = Some DropResult
 kind_in Taking = Some TakeSet

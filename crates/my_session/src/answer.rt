@@ -1,6 +1,6 @@
 //! What the open call asks for on the way, or comes to.
 
-use my_reading::{Answer, Error};
+use my_reading::{Answer, Error, ServerError};
 use my_value::Row;
 
 /// What one move of the open call comes to.
@@ -12,6 +12,8 @@ pub enum Tick {
     PassedRow(Row),
     /// It goes on, and passed over a set's end.
     PassedEnd,
+    /// It goes on, and passed over this error of the server.
+    PassedError(ServerError),
     /// Bytes are to be sent.
     Sends,
     /// More bytes are awaited.

@@ -18,8 +18,8 @@ pub use law::{
 pub use login::login_for;
 pub use reactions::Reaction;
 pub use routine::{
-    ExecBulkRoutine, ExecRoutine, NextSetRoutine, PingRoutine, PrepareRoutine, QueryRoutine,
-    ResetRoutine, Routine,
+    ChangeUser, ExecBulkRoutine, ExecRoutine, NextSetRoutine, PingRoutine, PrepareRoutine,
+    QueryRoutine, ResetRoutine, Routine,
 };
 pub use session::Session;
 pub use tables::Plan;

@@ -1,7 +1,7 @@
 //! What a task makes of a payload.
 
 ghost use Rattle.std.specs.Prelude.{◌≡◌, true, false};
-ghost use Rattle.my_session.specs.Tables.{react, react_head, react_single, react_whole, is_breaking};
+ghost use Rattle.my_session.specs.Tables.{react, react_draining, react_head, react_single, react_whole, is_breaking};
 
 use crate::task::Task;
 use my_grammar::Kind;
@@ -24,6 +24,8 @@ pub enum Reaction {
     PassesRow,
     /// The set's end is passed over.
     PassesEnd,
+    /// The server's error is passed over.
+    PassesError,
     /// The server's error ends the call.
     Refuses,
     /// The payload fits no case.
@@ -46,6 +48,16 @@ fn react_whole(task: Task, kind: Kind) -> Reaction
         | Kind::Field => Reaction::Goes(task),
         Kind::Failed => Reaction::Refuses,
         Kind::Greets(_) | Kind::Bad => Reaction::Breaks,
+    }
+}
+
+// So is one that is read for nobody, and its error is passed over.
+fn react_draining(kind: Kind) -> Reaction
+    ensures { result ≡ react_draining kind }
+{
+    match kind {
+        Kind::Failed => Reaction::PassesError,
+        _ => react_whole(Task::Draining, kind),
     }
 }
 
@@ -98,7 +110,9 @@ fn react_own(call: CallKind, kind: Kind) -> Reaction
         }
         CallKind::Prepare => react_whole(Task::Own(call), kind),
         CallKind::Ping => react_single(Reaction::Readies(false), kind),
-        CallKind::Reset => react_single(Reaction::Goes(Task::Clearing), kind),
+        CallKind::Reset | CallKind::ChangeUser | CallKind::ResetForPool => {
+            react_single(Reaction::Goes(Task::Clearing(call)), kind)
+        }
         CallKind::Batch
         | CallKind::CloseStmt
         | CallKind::NextRow
@@ -109,6 +123,7 @@ fn react_own(call: CallKind, kind: Kind) -> Reaction
         | CallKind::Commit
         | CallKind::Rollback
         | CallKind::ForgetTransaction
+        | CallKind::CleanForPool
         | CallKind::Quit => Reaction::Breaks,
     }
 }
@@ -167,7 +182,7 @@ pub fn react_to(task: Task, kind: Kind) -> Reaction
         | Task::Begun(_)
         | Task::Cleaned(_)
         | Task::Giving
-        | Task::Clearing
+        | Task::Clearing(_)
         | Task::Backing(_)
         | Task::Leaving(_)
         | Task::Failing(_, _) => Reaction::Breaks,
@@ -179,6 +194,7 @@ pub fn react_to(task: Task, kind: Kind) -> Reaction
         | Task::Reverting(_) => react_whole(task, kind),
         Task::Running(sent) => react_head(Reaction::Goes(Task::Finishing(sent)), task, kind),
         Task::Own(call) => react_own(call, kind),
+        Task::Draining => react_draining(kind),
         Task::Reading => react_reading(kind),
         Task::Dropping => react_dropping(kind),
         Task::Taking => react_head(Reaction::Takes, task, kind),
@@ -199,6 +215,7 @@ pub fn is_breaking(reaction: Reaction) -> bool
         | Reaction::Ends
         | Reaction::PassesRow
         | Reaction::PassesEnd
+        | Reaction::PassesError
         | Reaction::Refuses => false,
     }
 }

@@ -1,10 +1,12 @@
 //! Routines: what is done on a connection, each as the call that it begins.
 
 ghost use Rattle.std.specs.Prelude.{◌≡◌, IfOk};
+ghost use Rattle.my_opts.specs.ChangeUser.{no_change};
 ghost use Rattle.my_reading.specs.declared.call.Call.{Call as CallOf};
 ghost use Rattle.my_reading.specs.declared.call.Call.TheVariants as calls;
 
 use my_frame::{Blob, Listed, NoMemory};
+use my_opts::ChangeUserOpts;
 use my_params::Params;
 use my_reading::Call;
 use my_statements::Statement;
@@ -162,5 +164,23 @@ impl Routine for ResetRoutine {
 
     fn into_call(self) -> Result<Call, NoMemory> {
         Ok(Call::Reset)
+    }
+}
+
+/// Gives the session of the server anew to its user: no part of the account changes.
+#[derive(Clone, Copy, Debug, Drop)]
+pub struct ChangeUser;
+
+impl ChangeUser {
+    pub fn new() -> ChangeUser {
+        ChangeUser
+    }
+}
+
+impl Routine for ChangeUser {
+    ghost call_of = { λ routine. calls.ChangeUser no_change };
+
+    fn into_call(self) -> Result<Call, NoMemory> {
+        Ok(Call::ChangeUser(ChangeUserOpts::new()))
     }
 }

@@ -9,6 +9,7 @@ mod facts;
 mod payload;
 mod preparing;
 mod receiving;
+mod refusing;
 mod resetting;
 mod sending;
 mod stepping;
@@ -55,6 +56,7 @@ pub struct Session {
     // Whether it is being committed.
     trial: Trial,
     login: Login,
+    // The options in force: those that it was made with, as each change of user changed them.
     opts: Opts,
     is_socket: bool,
     // The moment at which the connection ends, where it has one.
@@ -97,6 +99,7 @@ fn failing(task: Task, fault: LinkFault) -> Task
         | Task::Undoing(call)
         | Task::Cleaned(call)
         | Task::Own(call)
+        | Task::Clearing(call)
         | Task::Asking(call, _)
         | Task::Backing(call)
         | Task::Reverting(call)
@@ -105,7 +108,7 @@ fn failing(task: Task, fault: LinkFault) -> Task
         Task::Giving => Task::Failing(CallKind::Prepare, fault),
         Task::Arranging(_) => Task::Failing(CallKind::Connect, fault),
         Task::Running(_) | Task::Finishing(_) => Task::Failing(CallKind::Batch, fault),
-        Task::Clearing => Task::Failing(CallKind::Reset, fault),
+        Task::Draining => Task::Failing(CallKind::CleanForPool, fault),
         Task::Reading => Task::Failing(CallKind::NextRow, fault),
         Task::Dropping => Task::Failing(CallKind::DropResult, fault),
         Task::Taking => Task::Failing(CallKind::TakeSet, fault),

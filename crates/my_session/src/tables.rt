@@ -24,10 +24,14 @@ pub enum Plan {
     Forgets,
     /// A reset begins: the server's version is looked at.
     Resets,
+    /// The options are changed: they have the account of the call.
+    Adopts,
     /// The transaction is about to be committed.
     Tries,
     /// The transaction is given up, so that it is rolled back.
     GivesUp,
+    /// The transaction is given up, where there is one, before a connection goes back to its pool.
+    Releases,
     /// The call is answered: the transaction is given up, where there is one.
     Forsakes,
     /// The end of a lone OK that no read returned is dropped.
@@ -46,8 +50,10 @@ pub enum Plan {
     /// The next query that sets the connection up is owed, after this many others; where none is left, the
     /// connection is made.
     Arranges(usize),
-    /// No statement is kept any more: the reset was accepted.
-    Clears,
+    /// The command is owed that renews the server's session: a reset, or a change of user.
+    Renews(CallKind),
+    /// No statement is kept any more: the server's session is a new one.
+    Clears(CallKind),
     /// The next query that the call has of its own is owed, after this many others; where none is left, the call is answered.
     Queries(CallKind, usize),
     /// A transaction that couldn't be committed is rolled back.
@@ -91,14 +97,17 @@ fn first_task(call: CallKind) -> Task
         | CallKind::CloseStmt
         | CallKind::Ping
         | CallKind::Reset
+        | CallKind::ChangeUser
         | CallKind::Begin
         | CallKind::Commit
         | CallKind::Rollback
+        | CallKind::ResetForPool
         | CallKind::Quit => Task::Cleaning(call),
         CallKind::NextRow => Task::Reading,
         CallKind::DropResult => Task::Dropping,
         CallKind::TakeSet => Task::Taking,
         CallKind::SkipTaken => Task::Skipping,
+        CallKind::CleanForPool => Task::Draining,
         CallKind::ForgetTransaction => Task::Nothing,
     }
 }
@@ -112,6 +121,7 @@ fn first_plan(call: CallKind) -> Plan
         CallKind::Batch => Plan::Batches,
         CallKind::CloseStmt => Plan::Forgets,
         CallKind::Reset => Plan::Resets,
+        CallKind::ChangeUser => Plan::Adopts,
         CallKind::Commit => Plan::Tries,
         CallKind::Rollback => Plan::GivesUp,
         CallKind::ForgetTransaction => Plan::Forsakes,
@@ -123,6 +133,8 @@ fn first_plan(call: CallKind) -> Plan
         | CallKind::SkipTaken
         | CallKind::Ping
         | CallKind::Begin
+        | CallKind::CleanForPool
+        | CallKind::ResetForPool
         | CallKind::Quit => Plan::Starts(first_task(call)),
     }
 }
@@ -181,10 +193,13 @@ fn own_plan(call: CallKind, spot: Spot) -> Plan
         | CallKind::SkipTaken
         | CallKind::Ping
         | CallKind::Reset
+        | CallKind::ChangeUser
         | CallKind::Begin
         | CallKind::Commit
         | CallKind::Rollback
-        | CallKind::ForgetTransaction => Plan::Reads,
+        | CallKind::ForgetTransaction
+        | CallKind::CleanForPool
+        | CallKind::ResetForPool => Plan::Reads,
     }
 }
 
@@ -196,7 +211,8 @@ fn ask_plan(call: CallKind) -> Plan
         CallKind::Batch => Plan::Runs(0),
         CallKind::Begin => Plan::Admits,
         CallKind::Commit => Plan::Queries(CallKind::Commit, 0),
-        CallKind::Rollback => Plan::Readies,
+        CallKind::Rollback | CallKind::CleanForPool => Plan::Readies,
+        CallKind::ChangeUser | CallKind::ResetForPool => Plan::Renews(call),
         CallKind::Connect
         | CallKind::Query
         | CallKind::Prepare
@@ -285,10 +301,11 @@ pub fn plan_for(task: Task, spot: Spot, untold: bool) -> Plan
         Task::Arranging(sent) => clean_plan(Plan::Arranges(sent), spot, untold),
         Task::Running(sent) => run_plan(sent, spot),
         Task::Finishing(sent) => clean_plan(Plan::Runs(sent), spot, untold),
-        Task::Clearing => Plan::Clears,
+        Task::Clearing(call) => Plan::Clears(call),
         Task::Asking(call, sent) => clean_plan(Plan::Queries(call, sent), spot, untold),
         Task::Backing(call) => Plan::Reverts(call),
         Task::Reverting(_) => clean_plan(Plan::Returns, spot, untold),
+        Task::Draining => clean_plan(Plan::Releases, spot, untold),
         Task::Reading => read_plan(spot, untold),
         Task::Dropping => drop_plan(spot, untold),
         Task::Taking => take_plan(spot, untold),
@@ -331,10 +348,11 @@ pub fn closes_when_cancelled(task: Task, spot: Spot) -> bool
         | Task::Arranging(_)
         | Task::Running(_)
         | Task::Finishing(_)
-        | Task::Clearing
+        | Task::Clearing(_)
         | Task::Asking(_, _)
         | Task::Backing(_)
         | Task::Reverting(_)
+        | Task::Draining
         | Task::Failing(_, _) => true,
         Task::Reading | Task::Dropping | Task::Taking | Task::Skipping => awaits_head(spot),
     }

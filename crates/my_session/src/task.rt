@@ -35,15 +35,17 @@ pub enum Task {
     Running(usize),
     /// This many executions of a batch were sent. The rest of the last response is read whole.
     Finishing(usize),
-    /// A reset was accepted.
-    Clearing,
-    /// This many queries that the call has of its own were sent: those that set the server's session up after a reset, or
+    /// The server's session was reset, or has another user.
+    Clearing(CallKind),
+    /// This many queries that the call has of its own were sent: those that set the server's session up again, or
     /// those that begin a transaction. Their answers are read whole.
     Asking(CallKind, usize),
     /// A transaction couldn't be committed.
     Backing(CallKind),
     /// A transaction that couldn't be committed is rolled back. The response is read whole.
     Reverting(CallKind),
+    /// What is left of the last response is read for nobody, and a server's error in it dropped.
+    Draining,
     /// The next row is awaited.
     Reading,
     /// What is left is passed over.

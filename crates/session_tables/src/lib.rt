@@ -5,6 +5,8 @@
 #[cfg(test)]
 mod batches;
 #[cfg(test)]
+mod changes;
+#[cfg(test)]
 mod connects;
 #[cfg(test)]
 mod examples;

@@ -6,7 +6,7 @@ ghost use Rattle.my_session.specs.Tasks.{is_open};
 use crate::hex::bytes_of;
 use my_flags::CapabilityFlags;
 use my_frame::{Blob, CodecFault, Listed, NoMemory};
-use my_opts::{IsolationLevel, Opts, OptsBuilder, TxOpts};
+use my_opts::{ChangeUserOpts, IsolationLevel, Opts, OptsBuilder, TxOpts};
 use my_reading::{Answer, Call, DriverError, Error, IoError, IoFault, IoKind};
 use my_session::{LinkFault, Session, SessionStep};
 use my_statements::Statement;
@@ -109,6 +109,31 @@ fn begin_of(words: &str) -> TxOpts {
     opts
 }
 
+// What a part of a change becomes: `=` keeps it, and `-` clears it.
+fn part_of(alloc: Global, word: &str) -> Result<Option<Option<String>>, AllocError> {
+    match word {
+        "=" => Ok(None),
+        "-" => Ok(Some(None)),
+        _ => Ok(Some(Some(String::from_str(alloc, word)?))),
+    }
+}
+
+// A change of user, in words: the user, the password and the database.
+fn change_of(alloc: Global, words: &str) -> Result<ChangeUserOpts, NoMemory> {
+    let mut change = ChangeUserOpts::new();
+    for (place, word) in words.split(' ').enumerate() {
+        if let Some(part) = part_of(alloc, word)? {
+            change = match place {
+                1 => change.with_user(part),
+                2 => change.with_pass(part),
+                3 => change.with_db_name(part),
+                _ => change,
+            };
+        }
+    }
+    Ok(change)
+}
+
 /// The call of this name, or a query of this text.
 pub fn call_of(alloc: Global, text: &str) -> Result<Call, NoMemory> {
     match text {
@@ -120,11 +145,14 @@ pub fn call_of(alloc: Global, text: &str) -> Result<Call, NoMemory> {
         "skip" => Ok(Call::SkipTaken),
         "ping" => Ok(Call::Ping),
         "reset" => Ok(Call::Reset),
+        "clean" => Ok(Call::CleanForPool),
+        "renew" => Ok(Call::ResetForPool),
         "prepare" => Ok(Call::Prepare(Blob::from_slice(alloc, b"DO ?")?)),
         "commit" => Ok(Call::Commit),
         "rollback" => Ok(Call::Rollback),
         "forget" => Ok(Call::ForgetTransaction),
         "quit" => Ok(Call::Quit),
+        _ if text.starts_with("user ") => Ok(Call::ChangeUser(change_of(alloc, text)?)),
         _ if text.starts_with("begin") => Ok(Call::Begin(begin_of(text))),
         _ => Ok(Call::Query(Blob::from_slice(alloc, text.as_bytes())?)),
     }

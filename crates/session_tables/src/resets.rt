@@ -39,8 +39,8 @@ const PREPARES: (&str, &str, &str) = ("prepare", REPLY, "0500000016444f203f stat
 
 const FINDS: (&str, &str, &str) = ("prepare", "", "statement 1 7 0 0");
 
-// Two texts set the connection up.
-const SET_UP: Visit<'static> = Visit {
+/// Two texts set the connection up.
+pub const SET_UP: Visit<'static> = Visit {
     setup: "AB",
     head: OK,
     rest: OK,

@@ -3,11 +3,12 @@
 use crate::statements::{ONE_PARAMETER, options, prepared};
 use my_frame::limits::DEFAULT_MAX_ALLOWED_PACKET;
 use my_frame::{Blob, Listed, NoMemory};
+use my_opts::ChangeUserOpts;
 use my_params::Params;
 use my_reading::Call;
 use my_session::{
-    ExecBulkRoutine, ExecRoutine, NextSetRoutine, PingRoutine, PrepareRoutine, QueryRoutine,
-    ResetRoutine, Routine, Session,
+    ChangeUser, ExecBulkRoutine, ExecRoutine, NextSetRoutine, PingRoutine, PrepareRoutine,
+    QueryRoutine, ResetRoutine, Routine, Session,
 };
 use my_statements::Statement;
 use std::alloc::Global;
@@ -52,7 +53,8 @@ fn all_give(alloc: Global, session: &mut Session) -> Result<bool, NoMemory> {
             && texts_give(alloc)?
             && gives(NextSetRoutine::new(), Call::NextRow)?
             && gives(PingRoutine::new(), Call::Ping)?
-            && gives(ResetRoutine::new(), Call::Reset)?,
+            && gives(ResetRoutine::new(), Call::Reset)?
+            && gives(ChangeUser::new(), Call::ChangeUser(ChangeUserOpts::new()))?,
     )
 }
 

@@ -12,15 +12,15 @@ use Rattle.my_grammar.specs.Sets.{Sets, NoSets, Lone, Failed, Heading, Headed, B
 use Rattle.my_grammar.specs.Talk.{Talk, Start, Unwelcome, Greeted, Settled, Asked, Replied, Queried, Preparing, Silent, context_of}
 use Rattle.my_grammar.proofs.Growth.Known.{is_greeting_kind, is_single_kind, is_head_kind, is_column_kind, is_close_kind, is_row_kind}
 use Rattle.my_reading.specs.declared.call.CallKind.{CallKind}
-use Rattle.my_reading.specs.declared.call.CallKind.TheVariants.{Connect, Query, Prepare, Execute, Batch, CloseStmt, NextRow, DropResult, TakeSet, SkipTaken, Ping, Reset, Begin, Commit, Rollback, ForgetTransaction, Quit}
+use Rattle.my_reading.specs.declared.call.CallKind.TheVariants.{Connect, Query, Prepare, Execute, Batch, CloseStmt, NextRow, DropResult, TakeSet, SkipTaken, Ping, Reset, ChangeUser, Begin, Commit, Rollback, ForgetTransaction, CleanForPool, ResetForPool, Quit}
 use Rattle.my_session.specs.declared.task.Task.{Task}
-use Rattle.my_session.specs.declared.task.Task.TheVariants.{Nothing, Begun, Cleaning, Undoing, Cleaned, Own, Giving, Arranging, Running, Finishing, Clearing, Asking, Backing, Reverting, Reading, Dropping, Taking, Skipping, Leaving, Failing}
+use Rattle.my_session.specs.declared.task.Task.TheVariants.{Nothing, Begun, Cleaning, Undoing, Cleaned, Own, Giving, Arranging, Running, Finishing, Clearing, Asking, Backing, Reverting, Draining, Reading, Dropping, Taking, Skipping, Leaving, Failing}
 use Rattle.my_session.specs.declared.reactions.Reaction.{Reaction}
 use Rattle.my_session.specs.declared.reactions.Reaction.TheVariants as reactions
 use Rattle.my_session.specs.Entries.{sets_of}
 use Rattle.my_session.specs.Machine.{is_greeting}
 use Rattle.my_session.specs.Stands.{is_first, is_heading, is_shaking}
-use Rattle.my_session.specs.Tables.{react, react_head, react_whole, react_connect, react_query, react_single, react_own, is_breaking}
+use Rattle.my_session.specs.Tables.{react, react_head, react_whole, react_connect, react_draining, react_query, react_single, react_own, is_breaking}
 use Rattle.my_session.proofs.Stands.Spots.{is_known}
 use Rattle.my_session.proofs.Stands.Firsts.{is_queried}
 
@@ -28,6 +28,7 @@ use Rattle.my_session.proofs.Stands.Firsts.{is_queried}
 abbrev pub FitsKind : Reaction → Kind → Type 0
 FitsKind reactions.Gives k = k ≡ kinds.Row
 FitsKind reactions.PassesRow k = k ≡ kinds.Row
+FitsKind reactions.PassesError k = k ≡ kinds.Failed
 FitsKind reactions.Refuses k = k ≡ kinds.Failed
 FitsKind r k = Unit {0}
 
@@ -99,12 +100,29 @@ own_fits DropResult k = tt
 own_fits TakeSet k = tt
 own_fits SkipTaken k = tt
 own_fits Ping k = single_fits (reactions.Readies false) k (λ _. tt)
-own_fits Reset k = single_fits (reactions.Goes Clearing) k (λ _. tt)
+own_fits Reset k = single_fits (reactions.Goes (Clearing Reset)) k (λ _. tt)
+own_fits ChangeUser k = single_fits (reactions.Goes (Clearing ChangeUser)) k (λ _. tt)
 own_fits Begin k = tt
 own_fits Commit k = tt
 own_fits Rollback k = tt
 own_fits ForgetTransaction k = tt
+own_fits CleanForPool k = tt
+own_fits ResetForPool k = single_fits (reactions.Goes (Clearing ResetForPool)) k (λ _. tt)
 own_fits Quit k = tt
+
+draining_fits : (k : Kind) → FitsKind (react_draining k) k
+draining_fits (kinds.Greets n) = tt
+draining_fits (kinds.Good status) = tt
+draining_fits kinds.Failed = refl
+draining_fits (kinds.Count n) = tt
+draining_fits kinds.Column = tt
+draining_fits kinds.ColumnsDone = tt
+draining_fits kinds.Row = tt
+draining_fits (kinds.End status) = tt
+draining_fits (kinds.Prepared params columns) = tt
+draining_fits kinds.Parameter = tt
+draining_fits kinds.Field = tt
+draining_fits kinds.Bad = tt
 
 pub react_fits : (t : Task) (k : Kind) → FitsKind (react t k) k
 react_fits Nothing k = tt
@@ -117,10 +135,11 @@ react_fits Giving k = tt
 react_fits (Arranging n) k = whole_fits (Arranging n) k
 react_fits (Running n) k = head_fits (reactions.Goes (Finishing n)) (Running n) k (λ _. tt)
 react_fits (Finishing n) k = whole_fits (Finishing n) k
-react_fits Clearing k = tt
+react_fits (Clearing c) k = tt
 react_fits (Asking c n) k = whole_fits (Asking c n) k
 react_fits (Backing c) k = tt
 react_fits (Reverting c) k = whole_fits (Reverting c) k
+react_fits Draining k = draining_fits k
 react_fits Reading (kinds.Greets n) = tt
 react_fits Reading (kinds.Good status) = tt
 react_fits Reading kinds.Failed = refl
@@ -199,6 +218,20 @@ whole_breaks t spot past (kinds.Prepared params columns) e b = cc
 whole_breaks t spot past kinds.Parameter e b = cc
 whole_breaks t spot past kinds.Field e b = cc
 whole_breaks t spot past kinds.Bad e b = refl
+
+draining_breaks : (spot : Spot) → is_greeting spot ≡ false → (k : Kind) → is_known spot k ≡ true → is_breaking (react_draining k) ≡ true → is_bad k ≡ true
+draining_breaks spot past (kinds.Greets n) e b = no_greets spot n past e
+draining_breaks spot past (kinds.Good status) e b = cc
+draining_breaks spot past kinds.Failed e b = cc
+draining_breaks spot past (kinds.Count n) e b = cc
+draining_breaks spot past kinds.Column e b = cc
+draining_breaks spot past kinds.ColumnsDone e b = cc
+draining_breaks spot past kinds.Row e b = cc
+draining_breaks spot past (kinds.End status) e b = cc
+draining_breaks spot past (kinds.Prepared params columns) e b = cc
+draining_breaks spot past kinds.Parameter e b = cc
+draining_breaks spot past kinds.Field e b = cc
+draining_breaks spot past kinds.Bad e b = refl
 
 reading_breaks : (spot : Spot) → is_greeting spot ≡ false → (k : Kind) → is_known spot k ≡ true → is_breaking (react Reading k) ≡ true → is_bad k ≡ true
 reading_breaks spot past (kinds.Greets n) e b = no_greets spot n past e
@@ -362,6 +395,9 @@ undoing_awaits c spot waits past = record { waits = waits; breaks = whole_breaks
 pub reverting_awaits : (c : CallKind) (spot : Spot) → is_idle spot ≡ false → is_greeting spot ≡ false → Awaits (Reverting c) spot
 reverting_awaits c spot waits past = record { waits = waits; breaks = whole_breaks (Reverting c) spot past }
 
+pub draining_awaits : (spot : Spot) → is_idle spot ≡ false → is_greeting spot ≡ false → Awaits Draining spot
+draining_awaits spot waits past = record { waits = waits; breaks = draining_breaks spot past }
+
 pub reading_awaits : (spot : Spot) → is_idle spot ≡ false → is_greeting spot ≡ false → Awaits Reading spot
 reading_awaits spot waits past = record { waits = waits; breaks = reading_breaks spot past }
 
@@ -372,7 +408,13 @@ pub ping_awaits : Awaits (Own Ping) spots.Single
 ping_awaits = record { waits = refl; breaks = answer_breaks (reactions.Readies false) refl }
 
 pub reset_awaits : Awaits (Own Reset) spots.Single
-reset_awaits = record { waits = refl; breaks = answer_breaks (reactions.Goes Clearing) refl }
+reset_awaits = record { waits = refl; breaks = answer_breaks (reactions.Goes (Clearing Reset)) refl }
+
+pub change_awaits : Awaits (Own ChangeUser) spots.Single
+change_awaits = record { waits = refl; breaks = answer_breaks (reactions.Goes (Clearing ChangeUser)) refl }
+
+pub renewal_awaits : Awaits (Own ResetForPool) spots.Single
+renewal_awaits = record { waits = refl; breaks = answer_breaks (reactions.Goes (Clearing ResetForPool)) refl }
 
 pub connect_awaits : (spot : Spot) → is_shaking spot ≡ true → Awaits (Own Connect) spot
 connect_awaits spots.Idle e = cc

@@ -2,21 +2,22 @@
 use Rattle.std.proofs.Common.{◌≡◌, ◌||◌, Bool, true, false, Option, Some, None, refl, ◌∙◌}
 use Rattle.my_reading.specs.declared.call.CallKind.{CallKind}
 use Rattle.my_session.specs.declared.task.Task.{Task}
-use Rattle.my_session.specs.declared.task.Task.TheVariants.{Nothing, Begun, Cleaning, Undoing, Cleaned, Own, Giving, Arranging, Running, Finishing, Clearing, Asking, Backing, Reverting, Reading, Dropping, Taking, Skipping, Leaving, Failing}
+use Rattle.my_session.specs.declared.task.Task.TheVariants.{Nothing, Begun, Cleaning, Undoing, Cleaned, Own, Giving, Arranging, Running, Finishing, Clearing, Asking, Backing, Reverting, Draining, Reading, Dropping, Taking, Skipping, Leaving, Failing}
 use Rattle.my_reading.specs.declared.error.Error.{Error}
 use Rattle.my_reading.specs.declared.transaction.Trial.{Trial}
 use Rattle.my_reading.specs.declared.transaction.TxStatus.{TxStatus}
 use Rattle.my_reading.specs.Calls.{asks, is_connect, is_unrefused}
 use Rattle.my_session.specs.Tasks.{kind_in, fault_in}
 use Rattle.my_session.specs.Fits.{may_be_told, OwnError, is_begun}
-use Rattle.my_reading.specs.Told.{Told, ToldReady, ToldRow, ToldEnd, ToldNone, ToldStatement, ToldFlag, ToldError, Dropped}
-use Rattle.my_session.specs.Machine.{Doing, Goes, Passes, Sends, Needs, Tells, Move, fell, with_task, with_taken, with_statements, with_status, with_trial, failed_by}
-use Rattle.my_session.specs.Queries.{has_queries}
+use Rattle.my_reading.specs.Told.{Told, ToldReady, ToldRow, ToldEnd, ToldNone, ToldStatement, ToldFlag, ToldError, ToldPassed, Dropped}
+use Rattle.my_session.specs.Machine.{Doing, Goes, Passes, Sends, Needs, Tells, Move, fell, with_account, with_task, with_taken, with_statements, with_status, with_trial, failed_by}
+use Rattle.my_session.specs.Queries.{has_queries, sets_up}
+use Rattle.my_grammar.specs.declared.account.Account.{Account}
 use Rattle.my_reading.specs.Statements.{Statements}
 use Rattle.my_session.specs.Seen.{Seen}
 use Rattle.my_session.specs.Stands.{is_refused_trial}
 
--- only a call that sends a command cleans, only such a call or the handshake has an exchange of its own, only two kinds have queries of
+-- only a call that sends a command cleans, only such a call or the handshake has an exchange of its own, only some kinds have queries of
 -- their own, two have nothing to do on a closed session, and a transaction is rolled back after one that couldn't be committed
 abbrev pub is_proper : Task → Trial → Bool
 is_proper Nothing trial = true
@@ -29,10 +30,11 @@ is_proper Giving trial = true
 is_proper (Arranging n) trial = true
 is_proper (Running n) trial = true
 is_proper (Finishing n) trial = true
-is_proper Clearing trial = true
+is_proper (Clearing c) trial = sets_up c
 is_proper (Asking c n) trial = has_queries c
 is_proper (Backing c) trial = is_refused_trial trial
 is_proper (Reverting c) trial = is_refused_trial trial
+is_proper Draining trial = true
 is_proper Reading trial = true
 is_proper Dropping trial = true
 is_proper Taking trial = true
@@ -76,6 +78,9 @@ on_taken s n w = record { login = w.login; ended = w.ended; alive = w.alive }
 pub on_statements : (s n : Seen) (st : Statements) → IsOn s n → IsOn s (with_statements n st)
 on_statements s n st w = record { login = w.login; ended = w.ended; alive = w.alive }
 
+pub on_account : (s n : Seen) (account : Account) → IsOn s n → IsOn s (with_account n account)
+on_account s n account w = record { login = w.login; ended = w.ended; alive = w.alive }
+
 pub on_status : (s n : Seen) (status : TxStatus) → IsOn s n → IsOn s (with_status n status)
 on_status s n status w = record { login = w.login; ended = w.ended; alive = w.alive }
 
@@ -97,6 +102,7 @@ OwnTold ended ToldNone = Unit {0}
 OwnTold ended (ToldStatement statement) = Unit {0}
 OwnTold ended (ToldFlag flag) = Unit {0}
 OwnTold ended (ToldError e) = OwnError ended e
+OwnTold ended (ToldPassed e) = Unit {0}
 OwnTold ended (Dropped closing) = Unit {0}
 
 abbrev pub OwnDoing : Bool → Doing → Type 0

@@ -17,9 +17,9 @@ use Rattle.my_reading.specs.Executions.{Values, Fitting, Unfitting, values_for}
 use Rattle.my_reading.specs.Facts.{prepared_by}
 use Rattle.my_reading.specs.Statements.{held_in, is_mixed_text, known_in, leaving, names_of, query_of, statement_with}
 use Rattle.my_reading.specs.declared.call.CallKind.{CallKind}
-use Rattle.my_reading.specs.declared.call.CallKind.TheVariants.{Connect, Query, Prepare, Execute, Batch, CloseStmt, NextRow, DropResult, TakeSet, SkipTaken, Ping, Reset, Begin, Commit, Rollback, ForgetTransaction, Quit}
+use Rattle.my_reading.specs.declared.call.CallKind.TheVariants.{Connect, Query, Prepare, Execute, Batch, CloseStmt, NextRow, DropResult, TakeSet, SkipTaken, Ping, Reset, ChangeUser, Begin, Commit, Rollback, ForgetTransaction, CleanForPool, ResetForPool, Quit}
 use Rattle.my_session.specs.declared.task.Task.{Task}
-use Rattle.my_session.specs.declared.task.Task.TheVariants.{Nothing, Begun, Cleaning, Undoing, Cleaned, Own, Giving, Arranging, Running, Finishing, Clearing, Asking, Backing, Reverting, Reading, Dropping, Taking, Skipping, Leaving, Failing}
+use Rattle.my_session.specs.declared.task.Task.TheVariants.{Nothing, Begun, Cleaning, Undoing, Cleaned, Own, Giving, Arranging, Running, Finishing, Clearing, Asking, Backing, Reverting, Draining, Reading, Dropping, Taking, Skipping, Leaving, Failing}
 use Rattle.my_session.specs.declared.tables.Plan.{Plan}
 use Rattle.my_session.specs.declared.tables.Plan.TheVariants as plans
 use Rattle.my_reading.specs.Calls.{asks, call_of, id_in, opts_in, params_in, statement_in, text_in, lists_in}
@@ -34,13 +34,13 @@ use Rattle.my_session.specs.Stands.{is_refused_trial}
 use Rattle.my_reading.specs.Transactions.{begin_refusal, is_given_up, rollback_text, rolled_back}
 use Rattle.my_reading.specs.Versions.{can_reset}
 use Rattle.my_handshake.specs.Version.{version_of}
-use Rattle.my_session.specs.Machine.{Goes, Sends, Move, next_terms, unless_exceeds, unless_refused, refusal, refused_by, looked, with_kept, kept, asked, batched, ran, arranged, offered, undone, done, queried_by, admitted, queued, planned, returned, reverted, with_status, with_task}
-use Rattle.my_session.specs.Queries.{has_queries, queries_of}
+use Rattle.my_session.specs.Machine.{Goes, Sends, Move, next_terms, unless_exceeds, unless_refused, refusal, refused_by, looked, with_kept, kept, asked, begins, renewing, batched, ran, arranged, offered, undone, done, queried_by, admitted, queued, planned, returned, reverted, with_status, with_task}
+use Rattle.my_session.specs.Queries.{has_queries, queries_of, sets_up}
 use Rattle.my_session.specs.Seen.{Seen}
 use Rattle.my_session.specs.Tables.{plan_of, clean_plan, leave_plan, ask_plan, run_plan, own_plan, query_plan, execute_plan, prepare_plan, read_plan, drop_plan, take_plan, skip_plan, first_plan}
-use Rattle.my_session.proofs.Fits.Moves.{is_proper, GoesOn, going, IsOn, on_here, on_task, on_taken, on_statements, on_status, on_trial, on_fell, MoveFits, any_error, failed_fits}
+use Rattle.my_session.proofs.Fits.Moves.{is_proper, GoesOn, going, IsOn, on_here, on_task, on_taken, on_statements, on_account, on_status, on_trial, on_fell, MoveFits, any_error, failed_fits}
 use Rattle.my_session.proofs.Fits.Reacts.{reading_fits}
-use Rattle.my_session.proofs.CallKinds.{of_queries, of_unrefused}
+use Rattle.my_session.proofs.CallKinds.{of_queries, of_unrefused, set_up_queries}
 use Rattle.my_session.proofs.Refusals.{refusal_own, values_own, begin_own}
 use Rattle.my_params.specs.declared.params.Params.{Params}
 use Rattle.std.specs.List.{slice_get}
@@ -75,10 +75,13 @@ asked_fits s TakeSet a o r = cc
 asked_fits s SkipTaken a o r = cc
 asked_fits s Ping a o r = begins_if s s (Some Ping) (Own Ping) (Asked (next_terms s) (packet_bytes packets.Ping)) _ (on_here s) refl refl
 asked_fits s Reset a o r = begins_if s s (Some Reset) (Own Reset) (Asked (next_terms s) (packet_bytes packets.ResetConnection)) _ (on_here s) refl refl
+asked_fits s ChangeUser a o r = cc
 asked_fits s Begin a o r = cc
 asked_fits s Commit a o r = cc
 asked_fits s Rollback a o r = cc
 asked_fits s ForgetTransaction a o r = cc
+asked_fits s CleanForPool a o r = cc
+asked_fits s ResetForPool a o r = cc
 asked_fits s Quit a o r = begins_if s s (Some Quit) (Own Quit) (Silent (next_terms s) (packet_bytes packets.Quit)) _ (on_here s) refl refl
 
 arranged_fits : (s : Seen) (c : Option CallKind) (n : ℕ) (o : Option Talk) → may_be_told c ToldReady ≡ true → MoveFits c s (arranged s n o)
@@ -112,6 +115,8 @@ offered_fits s false = record { fits = refl; is_on = on_task s s Nothing s.untol
 -- the queries of a call's own
 done_fits : (s : Seen) (c : CallKind) → has_queries c ≡ true → MoveFits (Some c) s (done s c)
 done_fits s c own = of_queries (λ x. MoveFits (Some x) s (done s x))
+    (record { fits = refl; is_on = on_task s s Nothing s.untold (on_here s); own = λ _. tt })
+    (record { fits = refl; is_on = on_task s s Nothing s.untold (on_here s); own = λ _. tt })
     (record { fits = refl; is_on = on_task s s Nothing s.untold (on_here s); own = λ _. tt })
     (record { fits = refl; is_on = on_trial s (with_status (with_task s Nothing s.untold) txs.InTransaction) trials.Off (on_status s (with_task s Nothing s.untold) txs.InTransaction (on_task s s Nothing s.untold (on_here s))); own = λ _. tt })
     (record { fits = refl; is_on = on_trial s (with_status (with_task s Nothing s.untold) txs.None) trials.Off (on_status s (with_task s Nothing s.untold) txs.None (on_task s s Nothing s.untold (on_here s))); own = λ _. tt })
@@ -156,7 +161,10 @@ PlanFits t c plans.Batches = Some Batch ≡ c
 PlanFits t c (plans.Notes n) = Some Batch ≡ c
 PlanFits t c (plans.Arranges n) = may_be_told c ToldReady ≡ true
 PlanFits t c plans.Resets = Some Reset ≡ c
-PlanFits t c plans.Clears = Some Reset ≡ c
+PlanFits t c plans.Adopts = Some ChangeUser ≡ c
+PlanFits t c (plans.Renews d) = Some d ≡ c
+PlanFits t c (plans.Clears d) = (sets_up d ≡ true) × (Some d ≡ c)
+PlanFits t c plans.Releases = Some CleanForPool ≡ c
 PlanFits t c (plans.Queries d n) = (has_queries d ≡ true) × (Some d ≡ c)
 PlanFits t c (plans.Undoes d) = (asks d ≡ true) × (Some d ≡ c)
 PlanFits t c (plans.Settles d) = (asks d ≡ true) × (Some d ≡ c)
@@ -193,7 +201,10 @@ planned_fits s (plans.Runs n) a e f = subst (λ (k : Option CallKind). MoveFits 
 planned_fits s (plans.Notes n) a e f = record { fits = going (kind_in s.task) (Finishing n) refl f refl refl; is_on = on_statements s (with_task s (Finishing n) s.untold) _ (on_task s s (Finishing n) s.untold (on_here s)); own = λ _. tt }
 planned_fits s (plans.Arranges n) a e f = arranged_fits s (kind_in s.task) n (connecting s.login (next_terms s) (suc n)) f
 planned_fits s plans.Resets a e f = subst (λ (k : Option CallKind). MoveFits k s (offered s (can_reset (version_of s.facts.version)))) f (offered_fits s (can_reset (version_of s.facts.version)))
-planned_fits s plans.Clears a e f = record { fits = going (kind_in s.task) (Asking Reset 0) refl f refl refl; is_on = on_statements s (with_task s (Asking Reset 0) s.untold) _ (on_task s s (Asking Reset 0) s.untold (on_here s)); own = λ _. tt }
+planned_fits s plans.Adopts a e f = record { fits = going (kind_in s.task) (Cleaning ChangeUser) refl f refl refl; is_on = on_account s (with_task s (Cleaning ChangeUser) s.untold) _ (on_task s s (Cleaning ChangeUser) s.untold (on_here s)); own = λ _. tt }
+planned_fits s (plans.Renews c) a e f = subst (λ (k : Option CallKind). MoveFits k s (begins s (Own c) (renewing s c))) f (begins_if s s (Some c) (Own c) (renewing s c) _ (on_here s) refl refl)
+planned_fits s (plans.Clears c) a e f = record { fits = going (kind_in s.task) (Asking c 0) (set_up_queries c f.0) f.1 refl refl; is_on = on_statements s (with_task s (Asking c 0) s.untold) _ (on_task s s (Asking c 0) s.untold (on_here s)); own = λ _. tt }
+planned_fits s plans.Releases a e f = record { fits = going (kind_in s.task) (Cleaning CleanForPool) refl f refl refl; is_on = on_status s (with_task s (Cleaning CleanForPool) s.untold) _ (on_task s s (Cleaning CleanForPool) s.untold (on_here s)); own = λ _. tt }
 planned_fits s (plans.Queries c n) a e f = subst (λ (k : Option CallKind). MoveFits k s (queried_by s c n (slice_get (queries_of s.login c s.call) n))) f.1 (queried_fits s c n (slice_get (queries_of s.login c s.call) n) f.0)
 planned_fits s (plans.Undoes c) a e f = subst (λ (k : Option CallKind). MoveFits k s (undone s c (is_given_up s.status))) f.1 (undone_fits s c (is_given_up s.status) f.0)
 planned_fits s (plans.Settles c) a e f = record { fits = going (kind_in s.task) (Cleaned c) f.0 f.1 refl refl; is_on = on_status s (with_task s (Cleaned c) s.untold) _ (on_task s s (Cleaned c) s.untold (on_here s)); own = λ _. tt }
@@ -227,10 +238,13 @@ first_plan_fits t TakeSet = λ _. going (Some TakeSet) Taking refl refl refl ref
 first_plan_fits t SkipTaken = λ _. going (Some SkipTaken) Skipping refl refl refl refl
 first_plan_fits t Ping = λ _. going (Some Ping) (Cleaning Ping) refl refl refl refl
 first_plan_fits t Reset = refl
+first_plan_fits t ChangeUser = refl
 first_plan_fits t Begin = λ _. going (Some Begin) (Cleaning Begin) refl refl refl refl
 first_plan_fits t Commit = refl
 first_plan_fits t Rollback = refl
 first_plan_fits t ForgetTransaction = refl
+first_plan_fits t CleanForPool = λ _. going (Some CleanForPool) Draining refl refl refl refl
+first_plan_fits t ResetForPool = λ _. going (Some ResetForPool) (Cleaning ResetForPool) refl refl refl refl
 first_plan_fits t Quit = λ _. going (Some Quit) (Cleaning Quit) refl refl refl refl
 
 clean_plan_fits : (t : Task) (c : Option CallKind) (p : Plan) → is_begun t ≡ false → PlanFits t c p → (spot : Spot) (untold : Bool) → PlanFits t c (clean_plan p spot untold)
@@ -311,10 +325,13 @@ own_plan_fits TakeSet spot = refl
 own_plan_fits SkipTaken spot = refl
 own_plan_fits Ping spot = refl
 own_plan_fits Reset spot = refl
+own_plan_fits ChangeUser spot = refl
 own_plan_fits Begin spot = refl
 own_plan_fits Commit spot = refl
 own_plan_fits Rollback spot = refl
 own_plan_fits ForgetTransaction spot = refl
+own_plan_fits CleanForPool spot = refl
+own_plan_fits ResetForPool spot = refl
 own_plan_fits Quit spot = refl
 
 read_plan_fits : (spot : Spot) → PlanFits Reading (Some NextRow) (read_plan spot)
@@ -394,10 +411,13 @@ ask_plan_fits t TakeSet a = (a, refl, refl)
 ask_plan_fits t SkipTaken a = (a, refl, refl)
 ask_plan_fits t Ping a = (a, refl, refl)
 ask_plan_fits t Reset a = (a, refl, refl)
+ask_plan_fits t ChangeUser a = refl
 ask_plan_fits t Begin a = refl
 ask_plan_fits t Commit a = (refl, refl)
 ask_plan_fits t Rollback a = refl
 ask_plan_fits t ForgetTransaction a = (a, refl, refl)
+ask_plan_fits t CleanForPool a = refl
+ask_plan_fits t ResetForPool a = refl
 ask_plan_fits t Quit a = (a, refl, refl)
 
 run_plan_fits : (n : ℕ) (spot : Spot) → PlanFits (Running n) (Some Batch) (run_plan n spot)
@@ -427,10 +447,11 @@ plan_fits Giving spot untold trial a e = refl
 plan_fits (Arranging n) spot untold trial a e = clean_plan_fits (Arranging n) (Some Connect) (plans.Arranges n) refl refl spot untold
 plan_fits (Running n) spot untold trial a e = run_plan_fits n spot
 plan_fits (Finishing n) spot untold trial a e = clean_plan_fits (Finishing n) (Some Batch) (plans.Runs n) refl refl spot untold
-plan_fits Clearing spot untold trial a e = refl
+plan_fits (Clearing c) spot untold trial a e = (a, refl)
 plan_fits (Asking c n) spot untold trial a e = clean_plan_fits (Asking c n) (Some c) (plans.Queries c n) refl (a, refl) spot untold
 plan_fits (Backing c) spot untold trial a e = (refl, refl)
 plan_fits (Reverting c) spot untold trial a e = clean_plan_fits (Reverting c) (Some c) plans.Returns refl (c, refl) spot untold
+plan_fits Draining spot untold trial a e = clean_plan_fits Draining (Some CleanForPool) plans.Releases refl refl spot untold
 plan_fits Reading spot true trial a e = refl
 plan_fits Reading spot false trial a e = read_plan_fits spot
 plan_fits Dropping spot true trial a e = refl

@@ -8,9 +8,9 @@ use Rattle.my_grammar.specs.declared.spot.Kind.{Kind}
 use Rattle.my_grammar.specs.declared.spot.Kind.TheVariants as kinds
 use Rattle.my_grammar.specs.Kinds.{kind_there}
 use Rattle.my_reading.specs.declared.call.CallKind.{CallKind}
-use Rattle.my_reading.specs.declared.call.CallKind.TheVariants.{Connect, Query, Prepare, Execute, Batch, CloseStmt, NextRow, DropResult, TakeSet, SkipTaken, Ping, Reset, Begin, Commit, Rollback, ForgetTransaction, Quit}
+use Rattle.my_reading.specs.declared.call.CallKind.TheVariants.{Connect, Query, Prepare, Execute, Batch, CloseStmt, NextRow, DropResult, TakeSet, SkipTaken, Ping, Reset, ChangeUser, Begin, Commit, Rollback, ForgetTransaction, CleanForPool, ResetForPool, Quit}
 use Rattle.my_session.specs.declared.task.Task.{Task}
-use Rattle.my_session.specs.declared.task.Task.TheVariants.{Nothing, Begun, Cleaning, Undoing, Cleaned, Own, Giving, Arranging, Running, Finishing, Clearing, Asking, Backing, Reverting, Reading, Dropping, Taking, Skipping, Leaving, Failing}
+use Rattle.my_session.specs.declared.task.Task.TheVariants.{Nothing, Begun, Cleaning, Undoing, Cleaned, Own, Giving, Arranging, Running, Finishing, Clearing, Asking, Backing, Reverting, Draining, Reading, Dropping, Taking, Skipping, Leaving, Failing}
 use Rattle.my_session.specs.declared.reactions.Reaction.{Reaction}
 use Rattle.my_session.specs.declared.reactions.Reaction.TheVariants as reactions
 use Rattle.my_session.specs.Tasks.{kind_in, fault_in}
@@ -21,10 +21,10 @@ use Rattle.my_reading.specs.declared.transaction.TxStatus.TheVariants as txs
 use Rattle.my_reading.specs.Errors.{invalid_data, server_error, unexpected_eof}
 use Rattle.my_session.specs.Fits.{may_be_told, is_begun}
 use Rattle.my_reading.specs.Told.{ToldReady, ToldRow, ToldEnd}
-use Rattle.my_session.specs.Machine.{Needs, Move, fell, advanced, with_status, with_task, backing, failed_by, reply_to, above, unless_above, refused, refused_by_server, gave, passed, reacted, read_by, is_doubled, reading}
+use Rattle.my_session.specs.Machine.{Needs, Move, fell, advanced, with_status, with_task, backing, failed_by, reply_to, above, unless_above, refused, refused_by_server, gave, passed, passed_error, reacted, read_by, is_doubled, reading}
 use Rattle.my_reading.specs.Rows.{row_at}
 use Rattle.my_session.specs.Seen.{Seen}
-use Rattle.my_session.specs.Tables.{react, react_whole, is_breaking, is_connecting, react_head, react_single}
+use Rattle.my_session.specs.Tables.{react, react_whole, is_breaking, is_connecting, react_draining, react_head, react_single}
 use Rattle.my_session.proofs.Fits.Moves.{is_proper, GoesOn, going, IsOn, on_here, on_status, on_task, on_taken, on_trial, on_fell, MoveFits, any_error, failed_fits}
 
 -- a task that may follow this one, whatever the trial is
@@ -40,6 +40,7 @@ ReactionFits t c reactions.Gives = (row : RowParts) → may_be_told c (ToldRow r
 ReactionFits t c reactions.Ends = may_be_told c ToldEnd ≡ true
 ReactionFits t c reactions.PassesRow = (is_begun t ≡ false) × (fault_in t ≡ None)
 ReactionFits t c reactions.PassesEnd = (is_begun t ≡ false) × (fault_in t ≡ None)
+ReactionFits t c reactions.PassesError = (is_begun t ≡ false) × (fault_in t ≡ None)
 ReactionFits t c reactions.Refuses = Unit {0}
 ReactionFits t c reactions.Breaks = Unit {0}
 
@@ -153,12 +154,29 @@ own_react DropResult k = tt
 own_react TakeSet k = tt
 own_react SkipTaken k = tt
 own_react Ping k = single_react (Own Ping) (reactions.Readies false) k refl
-own_react Reset k = single_react (Own Reset) (reactions.Goes Clearing) k (λ _ _. going (Some Reset) Clearing refl refl refl refl)
+own_react Reset k = single_react (Own Reset) (reactions.Goes (Clearing Reset)) k (λ _ _. going (Some Reset) (Clearing Reset) refl refl refl refl)
+own_react ChangeUser k = single_react (Own ChangeUser) (reactions.Goes (Clearing ChangeUser)) k (λ _ _. going (Some ChangeUser) (Clearing ChangeUser) refl refl refl refl)
 own_react Begin k = tt
 own_react Commit k = tt
 own_react Rollback k = tt
 own_react ForgetTransaction k = tt
+own_react CleanForPool k = tt
+own_react ResetForPool k = single_react (Own ResetForPool) (reactions.Goes (Clearing ResetForPool)) k (λ _ _. going (Some ResetForPool) (Clearing ResetForPool) refl refl refl refl)
 own_react Quit k = tt
+
+draining_react : (k : Kind) → ReactionFits Draining (Some CleanForPool) (react_draining k)
+draining_react (kinds.Greets n) = tt
+draining_react (kinds.Good status) = λ _ _. going (Some CleanForPool) Draining refl refl refl refl
+draining_react kinds.Failed = (refl, refl)
+draining_react (kinds.Count n) = λ _ _. going (Some CleanForPool) Draining refl refl refl refl
+draining_react kinds.Column = λ _ _. going (Some CleanForPool) Draining refl refl refl refl
+draining_react kinds.ColumnsDone = λ _ _. going (Some CleanForPool) Draining refl refl refl refl
+draining_react kinds.Row = λ _ _. going (Some CleanForPool) Draining refl refl refl refl
+draining_react (kinds.End status) = λ _ _. going (Some CleanForPool) Draining refl refl refl refl
+draining_react (kinds.Prepared params columns) = λ _ _. going (Some CleanForPool) Draining refl refl refl refl
+draining_react kinds.Parameter = λ _ _. going (Some CleanForPool) Draining refl refl refl refl
+draining_react kinds.Field = λ _ _. going (Some CleanForPool) Draining refl refl refl refl
+draining_react kinds.Bad = tt
 
 react_fits : (t : Task) (k : Kind) → ReactionFits t (kind_in t) (react t k)
 react_fits Nothing k = tt
@@ -171,10 +189,11 @@ react_fits Giving k = tt
 react_fits (Arranging n) k = whole_react (Arranging n) k refl refl
 react_fits (Running n) k = head_react (Running n) (reactions.Goes (Finishing n)) k (λ _ _. going (Some Batch) (Running n) refl refl refl refl) (λ _ _. going (Some Batch) (Finishing n) refl refl refl refl)
 react_fits (Finishing n) k = whole_react (Finishing n) k refl refl
-react_fits Clearing k = tt
+react_fits (Clearing c) k = tt
 react_fits (Asking c n) k = whole_react (Asking c n) k refl refl
 react_fits (Backing c) k = tt
 react_fits (Reverting c) k = whole_react (Reverting c) k refl refl
+react_fits Draining k = draining_react k
 react_fits Reading k = reading_react k
 react_fits Dropping k = dropping_react k
 react_fits Taking k = head_react Taking reactions.Takes k (λ _ _. going (Some TakeSet) Taking refl refl refl refl) refl
@@ -195,6 +214,10 @@ same_task s n t same a b = going (kind_in s.task) n.task (ap (is_proper n.task) 
 passed_fits : (s n : Seen) (x : Option RowParts) → IsOn s n → n.task ≡ s.task → n.trial ≡ s.trial → is_proper s.task s.trial ≡ true → IsSteady s.task → MoveFits (kind_in s.task) s (passed s n x)
 passed_fits s n None l t same a b = failed_fits s (invalid_data s.facts.place) (kind_in s.task) (λ _. tt)
 passed_fits s n (Some row) l t same a b = record { fits = same_task s n t same a b; is_on = l; own = λ _. tt }
+
+passed_error_fits : (s n : Seen) (x : Option ErrPacket) → IsOn s n → n.task ≡ s.task → n.trial ≡ s.trial → is_proper s.task s.trial ≡ true → IsSteady s.task → MoveFits (kind_in s.task) s (passed_error s n x)
+passed_error_fits s n None l t same a b = failed_fits s (invalid_data s.facts.place) (kind_in s.task) (λ _. tt)
+passed_error_fits s n (Some x) l t same a b = record { fits = same_task s n t same a b; is_on = l; own = λ _. tt }
 
 on_either : (s n m : Seen) (b : Bool) → IsOn s n → IsOn s m → IsOn s (cond {A = Seen} b n m)
 on_either s n m true e f = e
@@ -223,6 +246,7 @@ reacted_fits s n p reactions.Gives l e same a f = gave_fits s n (kind_in s.task)
 reacted_fits s n p reactions.Ends l e same a f = record { fits = f; is_on = on_task s n Nothing n.untold l; own = λ _. tt }
 reacted_fits s n p reactions.PassesRow l e same a f = passed_fits s n (row_at s.context.rows s.facts.columns p) l e same a f
 reacted_fits s n p reactions.PassesEnd l e same a f = record { fits = same_task s n e same a f; is_on = l; own = λ _. tt }
+reacted_fits s n p reactions.PassesError l e same a f = passed_error_fits s n (err_at _ p) l e same a f
 reacted_fits s n p reactions.Refuses l e same a f = refused_fits s n (err_at _ p) l
 reacted_fits s n p reactions.Breaks l e same a f = failed_fits s (invalid_data s.facts.place) (kind_in s.task) (λ _. tt)
 

@@ -3,6 +3,7 @@ use Rattle.std.proofs.Common.{◌≡◌, ◌≢◌, ℕ, zero, suc, List, [], �
 use Rattle.std.specs.List.{slice_get}
 use Rattle.my_command.specs.declared.client.ClientPacket.TheVariants as packets
 use Rattle.my_command.specs.Client.Packet.{client_bytes as packet_bytes}
+use Rattle.my_grammar.specs.declared.account.Account.{Account}
 use Rattle.my_grammar.specs.declared.spot.Context.{Context}
 use Rattle.my_grammar.specs.declared.spot.Spot.TheVariants as spots
 use Rattle.my_grammar.specs.declared.spot.Terms.{Terms}
@@ -19,13 +20,13 @@ use Rattle.my_grammar.specs.Talk.{Talk, Asked, Preparing, Queried, Silent, comma
 use Rattle.my_reading.specs.declared.call.Call.{Call}
 use Rattle.my_reading.specs.declared.call.Call.TheVariants as calls
 use Rattle.my_reading.specs.declared.call.CallKind.{CallKind}
-use Rattle.my_reading.specs.declared.call.CallKind.TheVariants.{Connect, Query, Prepare, Execute, Batch, CloseStmt, NextRow, DropResult, TakeSet, SkipTaken, Ping, Reset, Begin, Commit, Rollback, ForgetTransaction, Quit}
+use Rattle.my_reading.specs.declared.call.CallKind.TheVariants.{Connect, Query, Prepare, Execute, Batch, CloseStmt, NextRow, DropResult, TakeSet, SkipTaken, Ping, Reset, ChangeUser, Begin, Commit, Rollback, ForgetTransaction, CleanForPool, ResetForPool, Quit}
 use Rattle.my_reading.specs.Calls.{kind_of, call_of, asks, id_in, lists_in, opts_in, params_in, statement_in, text_in}
-use Rattle.my_reading.specs.Commands.{arranging, arranging_texts, closing, command_of, connecting, execution, opening, queried}
+use Rattle.my_reading.specs.Commands.{arranging, arranging_texts, closing, command_of, connecting, execution, opening, queried, renewal, renewal_packet, renews_by_reset}
 use Rattle.my_reading.specs.Course as course
-use Rattle.my_reading.specs.Course.{Part, All, Head, Command, Check, Run, Reply, Keep, Give, Learn, Clear, Text, Flag, Refuse, Settle, unless_refused as unless_refused_at, Goes, step, return, first_above, unless_long, with_command, checked, reads, parts_of_lists, parts_of_texts, is_greeting}
+use Rattle.my_reading.specs.Course.{Part, All, Head, Command, Check, Renew, Run, Reply, Keep, Give, Learn, Clear, Text, Flag, Refuse, Settle, unless_refused as unless_refused_at, Goes, step, return, first_above, unless_long, with_command, checked, reads, parts_of_lists, parts_of_texts, is_greeting}
 use Rattle.my_reading.specs.Leads.{Here, Then}
-use Rattle.my_reading.specs.Place.{Place, exchanges, connects_in, next_exchange, terms_of, with_exchange, with_status, with_trial, without_end}
+use Rattle.my_reading.specs.Place.{Place, exchanges, facts_at, connects_in, next_exchange, terms_of, with_exchange, with_status, with_trial, without_end}
 use Rattle.my_reading.specs.Told.{ToldReady, closes}
 use Rattle.my_reading.specs.Transactions.{begin_refusal, commit_text}
 use Rattle.my_reading.specs.declared.facts.Facts.{Facts}
@@ -39,7 +40,7 @@ use Rattle.my_session.specs.declared.task.Task.TheVariants as tasks
 use Rattle.my_session.specs.Machine as machine
 use Rattle.my_session.specs.Machine.{Sends, Tells, queued, begins, unless_exceeds, unless_refused, refused_by, asked, executed, ran, arranged, queried_by, admitted, planned, with_status as with_seen_status, with_task, with_trial as with_seen_trial, next_terms}
 use Rattle.my_session.specs.Queries.{has_queries, queries_of}
-use Rattle.my_session.specs.Mirror.{Mirrors, MoveReads, StandsAt, TaskStandsAt, ask_parts, last_parts, parts_left, parts_of_own, parts_of_runs, refusal_at, refusal_of, refused_at}
+use Rattle.my_session.specs.Mirror.{Mirrors, MoveReads, OwnStandsAt, StandsAt, TaskStandsAt, ask_parts, own_parts, last_parts, parts_left, parts_of_own, parts_of_runs, refusal_at, refusal_of, refused_at}
 use Rattle.my_session.specs.Seen.{Seen}
 use Rattle.my_session.specs.Stands.{owes, call_with}
 use Rattle.my_session.specs.Tables.{ask_plan}
@@ -125,6 +126,7 @@ module _ (s : Seen) (call : Call) (p : Place) (m : Mirrors s.context s.number s.
                 statements_are = λ _. known_are.0;
                 status_is = λ _. known_are.1;
                 trial_is = λ _. known_are.2;
+                account_is = λ _. known_are.4;
                 checked = checks;
               };
               alive = alive;
@@ -243,7 +245,7 @@ module _ (s : Seen) (call : Call) (p : Place) (m : Mirrors s.context s.number s.
 
   -- the call ends, and the session rests
   pub rests_here : StandsAt (with_task s tasks.Nothing s.untold) p
-  rests_here = record { mirrors = m; end_is = λ _ _. none_left ∙ sym (ap (λ b. b && true) told); taken_is = marked; own_end = λ no. cc; task_at = tt; settled = λ _. nothing; statements_are = λ _. known_are.0; status_is = λ _. known_are.1; trial_is = λ _. known_are.2; checked = refl }
+  rests_here = record { mirrors = m; end_is = λ _ _. none_left ∙ sym (ap (λ b. b && true) told); taken_is = marked; own_end = λ no. cc; task_at = tt; settled = λ _. nothing; statements_are = λ _. known_are.0; status_is = λ _. known_are.1; trial_is = λ _. known_are.2; account_is = λ _. known_are.4; checked = refl }
 
   pub ends_here : closes ToldReady (kind_of call) ≡ false → MoveReads s call [] p (record { seen = with_task s tasks.Nothing s.untold; does = Tells ToldReady })
   ends_here stays_open = record {
@@ -302,7 +304,7 @@ module _ (s : Seen) (call : Call) (p : Place) (m : Mirrors s.context s.number s.
         comes = inl (record {
           place = q;
           stops = step_here s.context s.number s.unread s.owed s.closed s.facts s.login q call [] alive w nothing;
-          at = record { mirrors = w; end_is = λ _ _. none_left ∙ sym (ap (λ b. b && true) told); taken_is = marked; own_end = λ no. cc; task_at = tt; settled = λ _. nothing; statements_are = λ _. known_are.0; status_is = λ _. refl; trial_is = λ _. refl; checked = refl };
+          at = record { mirrors = w; end_is = λ _ _. none_left ∙ sym (ap (λ b. b && true) told); taken_is = marked; own_end = λ no. cc; task_at = tt; settled = λ _. nothing; statements_are = λ _. known_are.0; status_is = λ _. refl; trial_is = λ _. refl; account_is = λ _. known_are.4; checked = refl };
           closed_is = alive ∙ sym stays_open;
         });
       }
@@ -321,7 +323,7 @@ module _ (s : Seen) (call : Call) (p : Place) (m : Mirrors s.context s.number s.
   }
 
   done_reads : (c : CallKind) → has_queries c ≡ true → call ≡ call_of c s.call → MoveReads s call (last_parts c) p (machine.done s c)
-  done_reads c own is = of_queries (λ x. call ≡ call_of x s.call → MoveReads s call (last_parts x) p (machine.done s x)) (λ _. resets_so) (λ x. settles_so txs.InTransaction (ap (λ c. closes ToldReady (kind_of c)) x)) (λ x. settles_so txs.None (ap (λ c. closes ToldReady (kind_of c)) x)) c own is
+  done_reads c own is = of_queries (λ x. call ≡ call_of x s.call → MoveReads s call (last_parts x) p (machine.done s x)) (λ _. resets_so) (λ x. ends_here (ap (λ c. closes ToldReady (kind_of c)) x)) (λ x. ends_here (ap (λ c. closes ToldReady (kind_of c)) x)) (λ x. settles_so txs.InTransaction (ap (λ c. closes ToldReady (kind_of c)) x)) (λ x. settles_so txs.None (ap (λ c. closes ToldReady (kind_of c)) x)) c own is
 
   -- the next query of the call's own is sent, or none is left
   pub queries_reads : (c : CallKind) (n : ℕ) → has_queries c ≡ true → kind_in s.task ≡ Some c → call ≡ call_of c s.call → (o : Option (List ℕ)) → slice_get (queries_of s.login c s.call) n ≡ o
@@ -379,6 +381,21 @@ module _ (s : Seen) (call : Call) (p : Place) (m : Mirrors s.context s.number s.
         });
       }
 
+  -- the command that renews the server's session
+  renews : (c : CallKind) → s.task ≡ tasks.Cleaned c → kind_of (call_of c s.call) ≡ c → call ≡ call_of c s.call → refusal_at (tasks.Own c) s.call ≡ None → OwnStandsAt c spots.Single (connects_in (exchanges (with_exchange p call (machine.renewing s c)))) → MoveReads s call (Renew ∷ own_parts s.login c s.call) p (begins s (tasks.Own c) (machine.renewing s c))
+  renews c task kind is checks stands =
+      let rest = own_parts s.login c s.call in
+      let talk : Talk = machine.renewing s c in
+      let sends : step s.login call (Renew ∷ rest) p ≡ unless_long p s.facts.settings.limit (first_above s.facts.settings.limit (commands_in talk)) (Goes rest (with_exchange p call talk)) =
+      step_here s.context s.number s.unread s.owed s.closed s.facts s.login p call (Renew ∷ rest) alive m nothing
+      ∙ ap (λ k. with_command call rest p (Some (renewal s.login (terms_of s.login (exchanges p)) (facts_at s.login p) p.account (renews_by_reset k (version_of (facts_at s.login p).version))))) (ap kind_of is ∙ kind)
+      ∙ ap (λ (f : Facts). with_command call rest p (Some (renewal s.login (terms_of s.login (exchanges p)) f p.account (renews_by_reset c (version_of f.version))))) (sym m.facts_are)
+      ∙ ap (λ (a : Account). with_command call rest p (Some (renewal s.login (terms_of s.login (exchanges p)) s.facts a (renews_by_reset c (version_of s.facts.version))))) (sym known_are.4)
+      ∙ ap (λ t. with_command call rest p (Some (renewal s.login t s.facts s.account (renews_by_reset c (version_of s.facts.version))))) (terms_here s.context s.number s.unread s.owed s.closed s.facts s.login p m) in
+      begins_here (tasks.Own c) rest call talk (ap kind_in (sym task)) refl refl checks refl (record { kinds = tt; within = tt }) refl refl refl
+      (some_bytes (packet_bytes (renewal_packet s.login s.context.terms.kept s.facts s.account (renews_by_reset c (version_of s.facts.version)))) 0) stands
+      (Renew ∷ rest) p (first_above s.facts.settings.limit (commands_in talk)) sends
+
   -- what a call does once it has cleaned
   pub asks_reads : (c : CallKind) → s.task ≡ tasks.Cleaned c → asks c ≡ true → call ≡ call_of c s.call → refusal_of c s.call ≡ None → MoveReads s call (ask_parts s.login c s.call) p (planned s (ask_plan c))
   asks_reads Connect task sends is fit = cc
@@ -416,6 +433,9 @@ module _ (s : Seen) (call : Call) (p : Place) (m : Mirrors s.context s.number s.
       (step_here s.context s.number s.unread s.owed s.closed s.facts s.login p call (Text commit_text ∷ parts_of_own Commit []) alive m nothing)
   asks_reads Rollback task sends is fit = ends_here (ap (λ c. closes ToldReady (kind_of c)) is)
   asks_reads ForgetTransaction task sends is fit = cc
+  asks_reads ChangeUser task sends is fit = renews ChangeUser task refl is refl refl
+  asks_reads ResetForPool task sends is fit = renews ResetForPool task refl is refl refl
+  asks_reads CleanForPool task sends is fit = ends_here (ap (λ c. closes ToldReady (kind_of c)) is)
   asks_reads Quit task sends is fit =
       let talk : Talk = Silent (next_terms s) (packet_bytes packets.Quit) in
       begun (tasks.Own Quit) [] talk (opens_own Quit talk is (λ _ _ _. refl) refl) (ap kind_in (sym task)) refl refl refl refl refl (record { kinds = tt; within = tt }) refl refl refl

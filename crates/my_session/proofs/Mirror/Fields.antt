@@ -4,6 +4,7 @@ use Rattle.std.proofs.lemmas.List.{append_assoc, append-nil, take-append-drop, d
 use Rattle.my_frame.specs.Front.{front_at}
 use Rattle.my_frame.specs.FrontLaws.{IsWhole}
 use Rattle.my_frame.specs.Chunks.{number_after_payload}
+use Rattle.my_grammar.specs.declared.account.Account.{Account}
 use Rattle.my_grammar.specs.declared.login.Login.{Login}
 use Rattle.my_grammar.specs.declared.spot.Context.{Context}
 use Rattle.my_grammar.specs.declared.spot.Kind.{Kind}
@@ -22,7 +23,7 @@ use Rattle.my_reading.specs.declared.transaction.Trial.{Trial}
 use Rattle.my_reading.specs.declared.transaction.TxStatus.{TxStatus}
 use Rattle.my_reading.specs.Course.{Part, Stops, Owes, step, step_of, unless_owed, is_greeting}
 use Rattle.my_reading.specs.Facts.{facts_after, facts_by}
-use Rattle.my_reading.specs.Place.{Place, exchanges, facts_at, facts_of, client_side, owed, terms_of, with_bytes, without_end, with_end, with_statements, with_status, with_trial, with_taken, with_talk, with_exchange}
+use Rattle.my_reading.specs.Place.{Place, exchanges, facts_at, facts_of, client_side, owed, terms_of, with_bytes, without_end, with_account, with_end, with_statements, with_status, with_trial, with_taken, with_talk, with_exchange}
 use Rattle.my_reading.specs.Statements.{Statements}
 use Rattle.my_session.specs.Machine.{reply_to, reply_bytes, reply_number}
 use Rattle.my_session.specs.Mirror.{Mirrors}
@@ -34,7 +35,7 @@ use Rattle.my_session.proofs.Stands.Wired.{reply_is, next_is, limit_is}
 
 -- what the session knows beside the exchanges; only a call that commits has a trial
 abbrev pub Knows : Seen → Place → Type 0
-Knows s p = (s.statements ≡ p.statements) × (s.status ≡ p.status) × (s.trial ≡ p.trial) × (is_off s.trial ≡ false → kind_in s.task ≡ Some Commit)
+Knows s p = (s.statements ≡ p.statements) × (s.status ≡ p.status) × (s.trial ≡ p.trial) × (is_off s.trial ≡ false → kind_in s.task ≡ Some Commit) × (s.account ≡ p.account)
 
 module _ (context : Context) (number : ℕ) (unread bytes_owed : List ℕ) (closed : Bool) (facts : Facts) (login : Login) (p : Place) where
   -- the session is closed
@@ -100,6 +101,21 @@ module _ (context : Context) (number : ℕ) (unread bytes_owed : List ℕ) (clos
   -- nor how a transaction stands
   pub mirrors_with_status : (status : TxStatus) → Mirrors context number unread bytes_owed closed facts login p → Mirrors context number unread bytes_owed closed facts login (with_status status p)
   mirrors_with_status status m = record {
+    context_is = m.context_is;
+    number_is = m.number_is;
+    unread_is = m.unread_is;
+    facts_are = m.facts_are;
+    login_is = m.login_is;
+    fits = m.fits;
+    unsent = m.unsent;
+    all_is = m.all_is;
+    owed_is = m.owed_is;
+    first = m.first;
+  }
+
+  -- nor what account the options have
+  pub mirrors_with_account : (account : Account) → Mirrors context number unread bytes_owed closed facts login p → Mirrors context number unread bytes_owed closed facts login (with_account account p)
+  mirrors_with_account account m = record {
     context_is = m.context_is;
     number_is = m.number_is;
     unread_is = m.unread_is;

@@ -3,13 +3,14 @@ use Rattle.std.proofs.Common.{◌≡◌, ℕ, List, [], ◌∷◌, ◌&&◌, ◌
 use Rattle.my_frame.specs.Front.{Front, Waiting, Broken, Whole, front_at}
 use Rattle.my_frame.specs.FrontLaws.{AreBytes, IsWhole}
 use Rattle.my_frame.proofs.Meanings.{whole_stands}
+use Rattle.my_grammar.specs.declared.account.Account.{Account}
 use Rattle.my_grammar.specs.declared.spot.Context.{Context}
 use Rattle.my_grammar.specs.declared.spot.Kind.{Kind}
 use Rattle.my_grammar.specs.Cut.{is_over, is_idle}
 use Rattle.my_grammar.specs.Kinds.{kind_there}
 use Rattle.my_reading.specs.declared.call.Call.{Call}
 use Rattle.my_reading.specs.declared.call.CallKind.{CallKind}
-use Rattle.my_reading.specs.declared.call.CallKind.TheVariants.{Connect, Query, Prepare, Execute, Batch, CloseStmt, NextRow, DropResult, TakeSet, SkipTaken, Ping, Reset, Begin, Commit, Rollback, ForgetTransaction, Quit}
+use Rattle.my_reading.specs.declared.call.CallKind.TheVariants.{Connect, Query, Prepare, Execute, Batch, CloseStmt, NextRow, DropResult, TakeSet, SkipTaken, Ping, Reset, ChangeUser, Begin, Commit, Rollback, ForgetTransaction, CleanForPool, ResetForPool, Quit}
 use Rattle.my_reply.specs.declared.replies.PrepareOk.{PrepareOk}
 use Rattle.my_reply.specs.Replies.{prepare_ok_at}
 use Rattle.my_grammar.specs.Growth.{grow}
@@ -18,7 +19,7 @@ use Rattle.my_reading.specs.Calls.{kind_of, call_of, asks, is_connect}
 use Rattle.my_reading.specs.Statements.{Statements, is_cached}
 use Rattle.my_reading.specs.declared.transaction.Trial.{Trial}
 use Rattle.my_reading.specs.declared.transaction.TxStatus.{TxStatus}
-use Rattle.my_reading.specs.Course.{Part, All, Head, Item, Reply, Undo, Undone, Back, Step, Goes, clean, step, step_of, return, failure, unfit, unless_cached, after_payload, with_front, reads, returned, is_rows, is_greeting}
+use Rattle.my_reading.specs.Course.{Part, All, Head, Item, Drain, Reply, Undo, Undone, Back, Step, Goes, clean, step, step_of, return, failure, unfit, unless_cached, after_payload, with_front, reads, returned, is_rows, is_greeting}
 use Rattle.my_reading.specs.Errors.{invalid_data, unexpected_eof}
 use Rattle.my_reading.specs.Leads.{Leads, Here, Then}
 use Rattle.my_reading.specs.Place.{Place, exchanges, connects_in, without_end, with_talk}
@@ -26,7 +27,7 @@ use Rattle.my_reading.specs.Told.{ToldEnd, ToldNone, ToldError}
 use Rattle.my_session.specs.declared.tables.Plan.TheVariants as plans
 use Rattle.my_session.specs.declared.task.Task.{Task}
 use Rattle.my_session.specs.declared.task.Task.TheVariants as tasks
-use Rattle.my_session.specs.Machine.{Goes as MachineGoes, Needs, failed_by, with_task, with_statements, with_status, with_trial, is_cached_in, is_doubled, kept, reading, reacted, above, unless_above, reply_to, advanced, planned, next}
+use Rattle.my_session.specs.Machine.{Goes as MachineGoes, Needs, failed_by, with_account, with_task, with_statements, with_status, with_trial, is_cached_in, is_doubled, kept, reading, reacted, above, unless_above, reply_to, advanced, planned, next}
 use Rattle.my_session.specs.Mirror.{Mirrors, StandsAt, OpenAt, MoveReads, TaskStandsAt, ask_parts, is_own, parts_left, passes_end, refusal_at}
 use Rattle.my_session.specs.Seen.{Seen}
 use Rattle.my_session.specs.Stands.{call_with, is_off}
@@ -58,10 +59,13 @@ kind_of_call TakeSet opened = refl
 kind_of_call SkipTaken opened = refl
 kind_of_call Ping opened = refl
 kind_of_call Reset opened = refl
+kind_of_call ChangeUser opened = refl
 kind_of_call Begin opened = refl
 kind_of_call Commit opened = refl
 kind_of_call Rollback opened = refl
 kind_of_call ForgetTransaction opened = refl
+kind_of_call CleanForPool opened = refl
+kind_of_call ResetForPool opened = refl
 kind_of_call Quit opened = refl
 
 pub asks_not : (c : CallKind) → asks c ≡ true → is_connect c ≡ false
@@ -77,10 +81,13 @@ asks_not TakeSet e = refl
 asks_not SkipTaken e = refl
 asks_not Ping e = refl
 asks_not Reset e = refl
+asks_not ChangeUser e = refl
 asks_not Begin e = refl
 asks_not Commit e = refl
 asks_not Rollback e = refl
 asks_not ForgetTransaction e = refl
+asks_not CleanForPool e = refl
+asks_not ResetForPool e = refl
 asks_not Quit e = refl
 
 or_true_is : (b : Bool) → b || true ≡ true
@@ -106,13 +113,13 @@ module _ (s : Seen) (call : Call) (p : Place) (o : OpenAt s call (parts_left s.l
   end_at t e = o.at.end_is o.alive o.sound ∙ ap (λ u. s.untold && not (passes_end u)) e
 
   pub known_here : Knows s p
-  known_here = (o.at.statements_are o.alive, o.at.status_is o.alive, o.at.trial_is o.alive, o.tries)
+  known_here = (o.at.statements_are o.alive, o.at.status_is o.alive, o.at.trial_is o.alive, o.tries, o.at.account_is o.alive)
 
   -- the session goes on with this task at the same place, or rests there
-  pub goes_as : (status : TxStatus) (trial : Trial) (t : Task) (untold : Bool) (q : Place) → (s.statements ≡ q.statements) × (status ≡ q.status) × (trial ≡ q.trial) × (is_off trial ≡ false → kind_in s.task ≡ Some Commit) → refusal_at t s.call ≡ None → (is_own t ≡ true → untold ≡ false) → Mirrors s.context s.number s.unread s.owed s.closed s.facts s.login q → q.taken ≡ s.taken → kind_in t ≡ kind_in s.task → fault_in t ≡ None
+  pub goes_as : (status : TxStatus) (trial : Trial) (t : Task) (untold : Bool) (q : Place) → (s.statements ≡ q.statements) × (status ≡ q.status) × (trial ≡ q.trial) × (is_off trial ≡ false → kind_in s.task ≡ Some Commit) × (s.account ≡ q.account) → refusal_at t s.call ≡ None → (is_own t ≡ true → untold ≡ false) → Mirrors s.context s.number s.unread s.owed s.closed s.facts s.login q → q.taken ≡ s.taken → kind_in t ≡ kind_in s.task → fault_in t ≡ None
       → q.end_left ≡ untold && not (passes_end t) → TaskStandsAt t s.context.spot (connects_in (exchanges q)) → OpenAt (with_trial (with_status (with_task s t untold) status) trial) call (parts_left s.login s.call t) q
   goes_as status trial t untold q known checks own w marked same sound end stands = record {
-    at = record { mirrors = w; end_is = λ _ _. end; taken_is = marked; own_end = own; task_at = stands; settled = λ _. nothing; statements_are = λ _. known.0; status_is = λ _. known.1; trial_is = λ _. known.2; checked = checks };
+    at = record { mirrors = w; end_is = λ _ _. end; taken_is = marked; own_end = own; task_at = stands; settled = λ _. nothing; statements_are = λ _. known.0; status_is = λ _. known.1; trial_is = λ _. known.2; account_is = λ _. known.4; checked = checks };
     alive = o.alive;
     sound = sound;
     call_is = ap (λ c. call_with c s.call) same ∙ o.call_is;
@@ -124,11 +131,11 @@ module _ (s : Seen) (call : Call) (p : Place) (o : OpenAt s call (parts_left s.l
       → q.end_left ≡ untold && not (passes_end t) → TaskStandsAt t s.context.spot (connects_in (exchanges q)) → OpenAt (with_task s t untold) call (parts_left s.login s.call t) q
   goes_at = goes_as s.status s.trial
 
-  pub rests_as : (status : TxStatus) (trial : Trial) (untold : Bool) (q : Place) → (s.statements ≡ q.statements) × (status ≡ q.status) × (trial ≡ q.trial) → Mirrors s.context s.number s.unread s.owed s.closed s.facts s.login q → q.taken ≡ s.taken → q.end_left ≡ untold && true → StandsAt (with_trial (with_status (with_task s tasks.Nothing untold) status) trial) q
-  rests_as status trial untold q known w marked end = record { mirrors = w; end_is = λ _ _. end; taken_is = marked; own_end = λ no. cc; task_at = tt; settled = λ _. nothing; statements_are = λ _. known.0; status_is = λ _. known.1; trial_is = λ _. known.2; checked = refl }
+  pub rests_as : (status : TxStatus) (trial : Trial) (untold : Bool) (q : Place) → (s.statements ≡ q.statements) × (status ≡ q.status) × (trial ≡ q.trial) × (s.account ≡ q.account) → Mirrors s.context s.number s.unread s.owed s.closed s.facts s.login q → q.taken ≡ s.taken → q.end_left ≡ untold && true → StandsAt (with_trial (with_status (with_task s tasks.Nothing untold) status) trial) q
+  rests_as status trial untold q known w marked end = record { mirrors = w; end_is = λ _ _. end; taken_is = marked; own_end = λ no. cc; task_at = tt; settled = λ _. nothing; statements_are = λ _. known.0; status_is = λ _. known.1; trial_is = λ _. known.2; account_is = λ _. known.3; checked = refl }
 
   pub rests_at : (untold : Bool) (q : Place) → Knows s q → Mirrors s.context s.number s.unread s.owed s.closed s.facts s.login q → q.taken ≡ s.taken → q.end_left ≡ untold && true → StandsAt (with_task s tasks.Nothing untold) q
-  rests_at untold q known = rests_as s.status s.trial untold q (known.0, known.1, known.2)
+  rests_at untold q known = rests_as s.status s.trial untold q (known.0, known.1, known.2, known.4)
 
   abbrev quiet : Place
   quiet = without_end p
@@ -162,6 +169,12 @@ module _ (s : Seen) (call : Call) (p : Place) (o : OpenAt s call (parts_left s.l
       here (Back ∷ [])
       ∙ ap (λ b. cond b (returned p p.trial) (reads s.login Back [] p)) (ap (λ (c : Context). is_idle c.spot) (sym m.context_is) ∙ on)
       ∙ ap (λ (tr : Trial). cond b (returned p tr) (reads s.login Back [] p)) (sym known_here.2)
+
+  pub drain_here : (parts : List Part) → p.end_left ≡ false → is_idle s.context.spot ≡ false → step s.login call (Drain ∷ parts) p ≡ reads s.login Drain parts p
+  drain_here parts none on =
+      here (Drain ∷ parts)
+      ∙ ap (λ b. cond b (Goes (Drain ∷ parts) quiet) (cond (is_over p.talk) (Goes parts p) (reads s.login Drain parts p))) none
+      ∙ ap (λ b. cond b (Goes parts p) (reads s.login Drain parts p)) (ap (λ (c : Context). is_idle c.spot) (sym m.context_is) ∙ on)
 
   -- a statement that is still cached may not be prepared once more
   cached_unfit : (ok : Option PrepareOk) (x : Step) → is_cached_in s.statements ok ≡ true → unless_cached s.login p ok x ≡ unfit s.login p
@@ -279,15 +292,15 @@ module _ (s : Seen) (call : Call) (p : Place) (o : OpenAt s call (parts_left s.l
 
   -- before its first command a call passes over an end that is left
   module _ (c : CallKind) (task : s.task ≡ tasks.Begun c) (sends : asks c ≡ true) (past : is_greeting s.context.spot ≡ false) (fit : refusal_at (tasks.Cleaning c) s.call ≡ None)
-      (first : List Part) (q : Place) (known : Statements) (status : TxStatus) (trial : Trial) (leads : Leads s.login call first p (clean (ask_parts s.login c s.call)) q)
-      (mq : Mirrors s.context s.number s.unread s.owed s.closed s.facts s.login q) (marked : q.taken ≡ s.taken) (end_same : q.end_left ≡ p.end_left) (known_is : (known ≡ q.statements) × (status ≡ q.status) × (trial ≡ q.trial) × (is_off trial ≡ false → kind_in s.task ≡ Some Commit)) where
+      (first : List Part) (q : Place) (known : Statements) (status : TxStatus) (trial : Trial) (account : Account) (leads : Leads s.login call first p (clean (ask_parts s.login c s.call)) q)
+      (mq : Mirrors s.context s.number s.unread s.owed s.closed s.facts s.login q) (marked : q.taken ≡ s.taken) (end_same : q.end_left ≡ p.end_left) (known_is : (known ≡ q.statements) × (status ≡ q.status) × (trial ≡ q.trial) × (is_off trial ≡ false → kind_in s.task ≡ Some Commit) × (account ≡ q.account)) where
     abbrev cleaning : Seen
-    cleaning = with_trial (with_status (with_statements (with_task s (tasks.Cleaning c) s.untold) known) status) trial
+    cleaning = with_account (with_trial (with_status (with_statements (with_task s (tasks.Cleaning c) s.untold) known) status) trial) account
 
     abbrev undoing : List Part
     undoing = Undo ∷ All ∷ Undone ∷ ask_parts s.login c s.call
 
-    cleaning_at : (r : Place) → Mirrors s.context s.number s.unread s.owed s.closed s.facts s.login r → r.taken ≡ s.taken → r.end_left ≡ false → (known ≡ r.statements) × (status ≡ r.status) × (trial ≡ r.trial) × (is_off trial ≡ false → kind_in s.task ≡ Some Commit) → OpenAt cleaning call (All ∷ undoing) r
+    cleaning_at : (r : Place) → Mirrors s.context s.number s.unread s.owed s.closed s.facts s.login r → r.taken ≡ s.taken → r.end_left ≡ false → (known ≡ r.statements) × (status ≡ r.status) × (trial ≡ r.trial) × (is_off trial ≡ false → kind_in s.task ≡ Some Commit) × (account ≡ r.account) → OpenAt cleaning call (All ∷ undoing) r
     cleaning_at r w mark end is = record {
       at = record {
         mirrors = w;
@@ -299,6 +312,7 @@ module _ (s : Seen) (call : Call) (p : Place) (o : OpenAt s call (parts_left s.l
         statements_are = λ _. is.0;
         status_is = λ _. is.1;
         trial_is = λ _. is.2;
+        account_is = λ _. is.4;
         checked = fit;
       };
       alive = o.alive;
@@ -331,4 +345,4 @@ module _ (s : Seen) (call : Call) (p : Place) (o : OpenAt s call (parts_left s.l
   -- a call that cleans at once
   pub cleans_now : (c : CallKind) → s.task ≡ tasks.Begun c → asks c ≡ true → refusal_at (tasks.Cleaning c) s.call ≡ None → is_greeting s.context.spot ≡ false
       → MoveReads s call (clean (ask_parts s.login c s.call)) p (planned s (plans.Starts (tasks.Cleaning c)))
-  cleans_now c task sends fit past = cleans_first c task sends past fit (clean (ask_parts s.login c s.call)) p s.statements s.status s.trial (Here (clean (ask_parts s.login c s.call)) p) m o.at.taken_is refl known_here s.untold refl
+  cleans_now c task sends fit past = cleans_first c task sends past fit (clean (ask_parts s.login c s.call)) p s.statements s.status s.trial s.account (Here (clean (ask_parts s.login c s.call)) p) m o.at.taken_is refl known_here s.untold refl

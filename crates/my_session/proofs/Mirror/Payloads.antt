@@ -23,7 +23,7 @@ use Rattle.my_grammar.specs.Response.{response}
 use Rattle.my_grammar.specs.Talk.{context_of}
 use Rattle.my_reading.specs.declared.call.Call.{Call}
 use Rattle.my_reading.specs.declared.call.CallKind.{CallKind}
-use Rattle.my_reading.specs.declared.call.CallKind.TheVariants.{Connect, Prepare, NextRow, TakeSet, SkipTaken, Ping, Reset, Commit}
+use Rattle.my_reading.specs.declared.call.CallKind.TheVariants.{Connect, Prepare, NextRow, TakeSet, SkipTaken, Ping, Commit}
 use Rattle.my_reading.specs.declared.call.Call.TheVariants as calls
 use Rattle.my_reading.specs.declared.error.Error.TheVariants as errors
 use Rattle.my_reading.specs.declared.error.ServerError.{ServerError}
@@ -33,7 +33,7 @@ use Rattle.my_reading.specs.declared.transaction.TxStatus.TheVariants as txs
 use Rattle.my_reading.specs.declared.facts.Facts.{Facts}
 use Rattle.my_reading.specs.Calls.{kind_of as call_kind, id_in, is_connect}
 use Rattle.my_reading.specs.Commands.{arranging_texts}
-use Rattle.my_reading.specs.Course.{Part, All, Head, Item, Set, Rest, Reply, Keep, Give, Learn, Clear, Undo, Back, Step, Goes, step, step_of, unless_cached, failure, unfit, return, with_front, reads, refused_at, after_payload, parts_of_texts, is_rows, is_greeting}
+use Rattle.my_reading.specs.Course.{Part, All, Head, Item, Set, Rest, Reply, Keep, Give, Learn, Clear, Drain, Undo, Back, Step, Goes, step, step_of, unless_cached, failure, unfit, return, with_front, reads, dropped_at, refused_at, after_payload, parts_of_texts, is_rows, is_greeting}
 use Rattle.my_reading.specs.Errors.{codec_error, invalid_data, server_error}
 use Rattle.my_reading.specs.Leads.{Leads, Here, Then}
 use Rattle.my_reading.specs.Place.{Place, exchanges, facts_at, facts_of, connects_in, with_end, with_statements as place_with, with_status as place_as, with_trial as place_tried, with_taken, with_talk}
@@ -44,12 +44,12 @@ use Rattle.my_session.specs.declared.reactions.Reaction.{Reaction}
 use Rattle.my_session.specs.declared.reactions.Reaction.TheVariants as reactions
 use Rattle.my_session.specs.declared.task.Task.{Task}
 use Rattle.my_session.specs.declared.task.Task.TheVariants as tasks
-use Rattle.my_session.specs.Machine.{Goes as MachineGoes, Passes, Tells, Move, advanced, fell, failed_by, backing, with_status, with_task, with_trial, with_taken as with_mark, refused, refused_by_server, gave, passed, reacted, above, unless_above, reply_to, reply_bytes}
+use Rattle.my_session.specs.Machine.{Goes as MachineGoes, Passes, Tells, Move, advanced, fell, failed_by, backing, with_status, with_task, with_trial, with_taken as with_mark, refused, refused_by_server, gave, passed, passed_error, reacted, above, unless_above, reply_to, reply_bytes}
 use Rattle.my_session.specs.Mirror.{Mirrors, StandsAt, OpenAt, MoveReads, TaskStandsAt, own_parts, parts_left, parts_of_own, refusal_at}
-use Rattle.my_session.specs.Queries.{queries_of}
+use Rattle.my_session.specs.Queries.{queries_of, sets_up}
 use Rattle.my_session.specs.Seen.{Seen}
 use Rattle.my_session.specs.Stands.{owes, call_with, is_off, is_shaking}
-use Rattle.my_session.specs.Tables.{react, react_head, react_single, react_whole, is_breaking, is_connecting}
+use Rattle.my_session.specs.Tables.{react, react_head, react_renewal, react_single, react_whole, is_breaking, is_connecting}
 use Rattle.my_session.specs.Tasks.{kind_in, fault_in}
 use Rattle.my_session.proofs.Faults.Payloads.{row_reads}
 use Rattle.my_reading.proofs.Described.{told_columns}
@@ -69,6 +69,7 @@ fallen_at s q n m marked = record {
   statements_are = λ no. cc;
   status_is = λ no. cc;
   trial_is = λ no. cc;
+  account_is = λ no. cc;
   checked = refl;
 }
 
@@ -84,6 +85,7 @@ resting_at s q shut nothing at = record {
   statements_are = at.statements_are;
   status_is = at.status_is;
   trial_is = at.trial_is;
+  account_is = at.account_is;
   checked = refl;
 }
 
@@ -233,7 +235,7 @@ module _ (s : Seen) (call : Call) (p : Place) (m : Mirrors s.context s.number s.
       → TaskStandsAt t (spot_by k) (connects_in (exchanges p)) → (owes t ≡ false → not_greets k ≡ true)
       → OpenAt (with_task (following k) t false) call (parts_left s.login s.call t) (new k)
   goes_to t k checks e good same sound stands quiet = record {
-    at = record { mirrors = mirrors_new k e good; end_is = λ _ _. refl; taken_is = taken_new k e good; own_end = λ _. refl; task_at = stands; settled = λ no. none_owed k (quiet no); statements_are = λ _. known_are.0; status_is = λ _. known_are.1; trial_is = λ _. known_are.2; checked = checks };
+    at = record { mirrors = mirrors_new k e good; end_is = λ _ _. refl; taken_is = taken_new k e good; own_end = λ _. refl; task_at = stands; settled = λ no. none_owed k (quiet no); statements_are = λ _. known_are.0; status_is = λ _. known_are.1; trial_is = λ _. known_are.2; account_is = λ _. known_are.4; checked = checks };
     alive = alive;
     sound = sound;
     call_is = ap (λ c. call_with c s.call) same ∙ call_is;
@@ -251,7 +253,7 @@ module _ (s : Seen) (call : Call) (p : Place) (m : Mirrors s.context s.number s.
 
   -- the call ends, and the session rests
   rests_at : (k : Kind) → kind_there s.context s.facts.columns payload ≡ k → is_bad k ≡ false → not_greets k ≡ true → StandsAt (with_task (following k) tasks.Nothing false) (new k)
-  rests_at k e good quiet = record { mirrors = mirrors_new k e good; end_is = λ _ _. refl; taken_is = taken_new k e good; own_end = λ _. refl; task_at = tt; settled = λ _. none_owed k quiet; statements_are = λ _. known_are.0; status_is = λ _. known_are.1; trial_is = λ _. known_are.2; checked = refl }
+  rests_at k e good quiet = record { mirrors = mirrors_new k e good; end_is = λ _ _. refl; taken_is = taken_new k e good; own_end = λ _. refl; task_at = tt; settled = λ _. none_owed k quiet; statements_are = λ _. known_are.0; status_is = λ _. known_are.1; trial_is = λ _. known_are.2; account_is = λ _. known_are.4; checked = refl }
 
   one : (parts more : List Part) (q : Place) → step s.login call parts p ≡ Goes more q → Leads s.login call parts p more q
   one parts more q e = Then parts p more q more q e (Here more q)
@@ -302,6 +304,7 @@ module _ (s : Seen) (call : Call) (p : Place) (m : Mirrors s.context s.number s.
               statements_are = λ _. known_are.0;
               status_is = λ _. refl;
               trial_is = λ _. refl;
+              account_is = λ _. known_are.4;
               checked = refl;
             };
             alive = alive;
@@ -355,6 +358,7 @@ module _ (s : Seen) (call : Call) (p : Place) (m : Mirrors s.context s.number s.
                   statements_are = w.statements_are;
                   status_is = w.status_is;
                   trial_is = λ _. refl;
+                  account_is = w.account_is;
                   checked = refl;
                 })
                 (alive ∙ sym (not_connecting (ap is_off tr)))
@@ -441,6 +445,49 @@ module _ (s : Seen) (call : Call) (p : Place) (m : Mirrors s.context s.number s.
     reverting_reads kinds.Parameter e = back_goes kinds.Parameter e refl refl (back_is kinds.Parameter e)
     reverting_reads kinds.Field e = back_goes kinds.Field e refl refl (back_is kinds.Field e)
     reverting_reads kinds.Bad e = unfits (Back ∷ []) (back_is kinds.Bad e)
+
+  -- what is left is read for nobody
+  module _ (parts : List Part) (reading : step s.login call (Drain ∷ parts) p ≡ reads s.login Drain parts p) (left : Drain ∷ parts ≡ parts_left s.login s.call tasks.Draining) (task : s.task ≡ tasks.Draining) (past : is_greeting s.context.spot ≡ false) where
+    drain_is : (k : Kind) → kind_there s.context s.facts.columns payload ≡ k → step s.login call (Drain ∷ parts) p ≡ after_payload s.login Drain parts p (new k) payload k
+    drain_is k e = reading ∙ reads_it Drain parts k e
+
+    drain_goes : (k : Kind) → kind_there s.context s.facts.columns payload ≡ k → is_bad k ≡ false → not_greets k ≡ true → step s.login call (Drain ∷ parts) p ≡ Goes (Drain ∷ parts) (new k)
+        → MoveReads s call (Drain ∷ parts) p (record { seen = with_task (following k) tasks.Draining false; does = MachineGoes })
+    drain_goes k e good quiet stepped = record {
+      rest = Drain ∷ parts;
+      place = new k;
+      leads = one (Drain ∷ parts) (Drain ∷ parts) (new k) stepped;
+      comes = subst (λ xs. OpenAt (with_task (following k) tasks.Draining false) call xs (new k)) (sym left)
+          (goes_to tasks.Draining k refl e good (ap kind_in (sym task)) refl (not_greeting s.context.spot (deprecates_eof s.context.terms.kept) k) (λ _. quiet));
+    }
+
+    -- an ERR is passed over
+    drain_passes : (x : Option ErrPacket) → err_at (is_greeting s.context.spot) payload ≡ x → kind_there s.context s.facts.columns payload ≡ kinds.Failed → MoveReads s call (Drain ∷ parts) p (passed_error s (following kinds.Failed) x)
+    drain_passes x is k = by_err x (ap (λ (c : Context). err_at (is_greeting c.spot) payload) (sym m.context_is) ∙ is)
+      where
+        by_err : (x : Option ErrPacket) → err_at (is_greeting (context_of p.talk).spot) payload ≡ x → MoveReads s call (Drain ∷ parts) p (passed_error s (following kinds.Failed) x)
+        by_err None i = unfits (Drain ∷ parts) (drain_is kinds.Failed k ∙ ap (dropped_at s.login parts p (new kinds.Failed)) i)
+        by_err (Some packet) i = record {
+          rest = Drain ∷ parts;
+          place = new kinds.Failed;
+          leads = one (Drain ∷ parts) (Drain ∷ parts) (new kinds.Failed) (drain_is kinds.Failed k ∙ ap (dropped_at s.login parts p (new kinds.Failed)) i);
+          comes = subst (λ xs. OpenAt (following kinds.Failed) call xs (new kinds.Failed)) (sym left)
+              (stays tasks.Draining kinds.Failed refl task k refl refl (not_greeting s.context.spot (deprecates_eof s.context.terms.kept) kinds.Failed) (λ _. refl));
+        }
+
+    pub draining_reads : (k : Kind) → kind_there s.context s.facts.columns payload ≡ k → MoveReads s call (Drain ∷ parts) p (move_at tasks.Draining k)
+    draining_reads (kinds.Greets n) e = absurd (no_greeting parts n past e)
+    draining_reads (kinds.Good status) e = drain_goes (kinds.Good status) e refl refl (drain_is (kinds.Good status) e)
+    draining_reads kinds.Failed e = drain_passes (err_at (is_greeting s.context.spot) payload) refl e
+    draining_reads (kinds.Count n) e = drain_goes (kinds.Count n) e refl refl (drain_is (kinds.Count n) e)
+    draining_reads kinds.Column e = drain_goes kinds.Column e refl refl (drain_is kinds.Column e)
+    draining_reads kinds.ColumnsDone e = drain_goes kinds.ColumnsDone e refl refl (drain_is kinds.ColumnsDone e)
+    draining_reads kinds.Row e = drain_goes kinds.Row e refl refl (drain_is kinds.Row e)
+    draining_reads (kinds.End status) e = drain_goes (kinds.End status) e refl refl (drain_is (kinds.End status) e)
+    draining_reads (kinds.Prepared params columns) e = drain_goes (kinds.Prepared params columns) e refl refl (drain_is (kinds.Prepared params columns) e ∙ alone params columns e _)
+    draining_reads kinds.Parameter e = drain_goes kinds.Parameter e refl refl (drain_is kinds.Parameter e)
+    draining_reads kinds.Field e = drain_goes kinds.Field e refl refl (drain_is kinds.Field e)
+    draining_reads kinds.Bad e = unfits (Drain ∷ parts) (drain_is kinds.Bad e)
 
   -- a payload that is a row reads as one
   row_there : kind_there s.context s.facts.columns payload ≡ kinds.Row → (row : RowParts) × (row_at s.context.rows s.facts.columns payload ≡ Some row)
@@ -590,22 +637,23 @@ module _ (s : Seen) (call : Call) (p : Place) (m : Mirrors s.context s.number s.
             });
           }
 
-  -- the answer to a reset
-  abbrev resetting : List Part
-  resetting = Clear ∷ parts_of_own Reset (queries_of s.login Reset s.call)
+  -- the answer to a reset, or to a renewal of the session
+  abbrev resetting : CallKind → List Part
+  resetting c = Clear ∷ parts_of_own c (queries_of s.login c s.call)
 
-  pub reset_reads : step s.login call (All ∷ resetting) p ≡ reads s.login All resetting p → s.task ≡ tasks.Own Reset → s.context.spot ≡ spots.Single → call_kind call ≡ Reset
-      → (k : Kind) → kind_there s.context s.facts.columns payload ≡ k → MoveReads s call (All ∷ resetting) p (move_at (tasks.Own Reset) k)
-  reset_reads reading task single reset = single_reads resetting reading single (reactions.Goes tasks.Clearing) (ap is_connecting task) (ap is_connect reset) accepted
+  pub renewal_reads : (c : CallKind) → sets_up c ≡ true → is_connecting (tasks.Own c) ≡ false → is_connect c ≡ false → step s.login call (All ∷ resetting c) p ≡ reads s.login All (resetting c) p → s.task ≡ tasks.Own c → s.context.spot ≡ spots.Single → call_kind call ≡ c
+      → (k : Kind) → kind_there s.context s.facts.columns payload ≡ k → MoveReads s call (All ∷ resetting c) p (cond (is_breaking (react_renewal c k)) (failed_by s (invalid_data s.facts.place))
+      (unless_above s (above s.context.terms.limit (reply_to s.login k payload)) (reacted s (following k) payload (react_renewal c k))))
+  renewal_reads c own free other reading task single is = single_reads (resetting c) reading single (reactions.Goes (tasks.Clearing c)) (ap is_connecting task ∙ free) (ap is_connect is ∙ other) accepted
     where
-      accepted : (status : StatusFlags) → kind_there s.context s.facts.columns payload ≡ kinds.Good status → MoveReads s call (All ∷ resetting) p (record { seen = with_task (following (kinds.Good status)) tasks.Clearing false; does = MachineGoes })
+      accepted : (status : StatusFlags) → kind_there s.context s.facts.columns payload ≡ kinds.Good status → MoveReads s call (All ∷ resetting c) p (record { seen = with_task (following (kinds.Good status)) (tasks.Clearing c) false; does = MachineGoes })
       accepted status e =
           let k : Kind = kinds.Good status in
           record {
-            rest = resetting;
+            rest = resetting c;
             place = new k;
-            leads = answered resetting reading single status e;
-            comes = goes_to tasks.Clearing k refl e refl (ap kind_in (sym task)) refl (not_greeting s.context.spot (deprecates_eof s.context.terms.kept) k) (λ _. refl);
+            leads = answered (resetting c) reading single status e;
+            comes = goes_to (tasks.Clearing c) k refl e refl (ap kind_in (sym task)) refl (not_greeting s.context.spot (deprecates_eof s.context.terms.kept) k, own) (λ _. refl);
           }
 
   -- the head of a first set, after which the session goes on with the same task, or does what it does after a lone OK
@@ -678,7 +726,7 @@ module _ (s : Seen) (call : Call) (p : Place) (m : Mirrors s.context s.number s.
       comes = inl (record {
         place = ended;
         stops = lone_here [];
-        at = record { mirrors = lone_mirrors; end_is = λ _ _. refl; taken_is = taken_new lone e refl; own_end = λ no. cc; task_at = tt; settled = λ _. none_owed lone refl; statements_are = λ _. known_are.0; status_is = λ _. known_are.1; trial_is = λ _. known_are.2; checked = refl };
+        at = record { mirrors = lone_mirrors; end_is = λ _ _. refl; taken_is = taken_new lone e refl; own_end = λ no. cc; task_at = tt; settled = λ _. none_owed lone refl; statements_are = λ _. known_are.0; status_is = λ _. known_are.1; trial_is = λ _. known_are.2; account_is = λ _. known_are.4; checked = refl };
         closed_is = alive ∙ sym stays_open ∙ ap (closes ToldReady) (sym is);
       });
     }
@@ -794,7 +842,7 @@ module _ (s : Seen) (call : Call) (p : Place) (m : Mirrors s.context s.number s.
         let w = mirrors_with_end n.context n.number rest n.owed s.closed n.facts s.login (new k) (not_greeting s.context.spot (deprecates_eof s.context.terms.kept) k) (mirrors_new k e refl) in
         let v = mirrors_with_taken n.context n.number rest n.owed s.closed n.facts s.login (with_end (new k)) w in
         returns (Set ∷ []) ToldReady (with_mark (with_task n tasks.Nothing true)) (with_taken (with_end (new k))) (set_is k e)
-        (record { mirrors = v; end_is = λ _ _. refl; taken_is = refl; own_end = λ no. cc; task_at = tt; settled = λ _. none_owed k refl; statements_are = λ _. known_are.0; status_is = λ _. known_are.1; trial_is = λ _. known_are.2; checked = refl })
+        (record { mirrors = v; end_is = λ _ _. refl; taken_is = refl; own_end = λ no. cc; task_at = tt; settled = λ _. none_owed k refl; statements_are = λ _. known_are.0; status_is = λ _. known_are.1; trial_is = λ _. known_are.2; account_is = λ _. known_are.4; checked = refl })
         (alive ∙ ap (closes ToldReady) (sym take))
 
     pub taking_reads : (k : Kind) → kind_there s.context s.facts.columns payload ≡ k → MoveReads s call (Set ∷ []) p (move_at tasks.Taking k)

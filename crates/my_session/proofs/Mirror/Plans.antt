@@ -12,7 +12,7 @@ use Rattle.my_grammar.specs.Talk.{context_of}
 use Rattle.my_flags.specs.Sets.{deprecates_eof}
 use Rattle.my_reading.specs.declared.call.Call.{Call}
 use Rattle.my_reading.specs.declared.call.CallKind.{CallKind}
-use Rattle.my_reading.specs.declared.call.CallKind.TheVariants.{Connect, Query, Prepare, Execute, Batch, CloseStmt, NextRow, DropResult, TakeSet, SkipTaken, Ping, Reset, Begin, Commit, Rollback, ForgetTransaction, Quit}
+use Rattle.my_reading.specs.declared.call.CallKind.TheVariants.{Connect, Query, Prepare, Execute, Batch, CloseStmt, NextRow, DropResult, TakeSet, SkipTaken, Ping, Reset, ChangeUser, Begin, Commit, Rollback, ForgetTransaction, CleanForPool, ResetForPool, Quit}
 use Rattle.my_reading.specs.Calls.{kind_of, call_of, is_connect, is_quit, lists_in, params_in, statement_in, text_in}
 use Rattle.my_reading.specs.Commands.{arranging_texts}
 use Rattle.my_reading.specs.Executions.{values_for}
@@ -32,17 +32,17 @@ use Rattle.my_session.specs.declared.task.Task.{Task}
 use Rattle.my_session.specs.declared.task.Task.TheVariants as tasks
 use Rattle.my_session.specs.Machine.{failed_by, with_task, reacted, above, unless_above, reply_to, advanced, planned, when_owed, next_by, next}
 use Rattle.my_session.specs.Mirror.{OpenAt, MoveReads, EachMoveReads, TaskStandsAt, OwnStandsAt, BegunStandsAt, ask_parts, is_own, own_parts, parts_left, parts_of_own, passes_end, refusal_at}
-use Rattle.my_session.specs.Queries.{queries_of}
+use Rattle.my_session.specs.Queries.{queries_of, sets_up}
 use Rattle.my_session.specs.Seen.{Seen}
 use Rattle.my_session.specs.Stands.{call_with, is_shaking}
-use Rattle.my_session.specs.Tables.{plan_of, clean_plan, read_plan, drop_plan, take_plan, skip_plan, query_plan, own_plan, first_plan, react, react_whole, is_breaking, is_connecting}
+use Rattle.my_session.specs.Tables.{plan_of, clean_plan, read_plan, drop_plan, take_plan, skip_plan, query_plan, own_plan, first_plan, react, react_renewal, react_whole, is_breaking, is_connecting}
 use Rattle.my_session.specs.Tasks.{kind_in, fault_in}
 use Rattle.my_session.proofs.Mirror.Fields.{mirrors_with_taken, owes_here}
-use Rattle.my_session.proofs.Mirror.Payloads.{fallen_at, connect_reads, head_reads, ping_reads, reset_reads, readies, reading_reads, dropping_reads, taking_reads, skipping_reads, whole_reads_all}
+use Rattle.my_session.proofs.Mirror.Payloads.{fallen_at, connect_reads, head_reads, ping_reads, renewal_reads, readies, reading_reads, dropping_reads, taking_reads, skipping_reads, whole_reads_all}
 use Rattle.my_session.proofs.Mirror.Commands.{after_rest, rest_first, asks_reads, queries_reads, runs_on, arranges_reads, passed}
 use Rattle.my_session.proofs.Stands.Spots.{not_greeting}
 use Rattle.my_session.proofs.Mirror.Opened.{and_false, and_true, asks_not, call_here, kind_here_is, end_at, known_here, goes_at, rests_at, quiet_mirrors, here, all_here, item_here, head_here, reads_front, starts, cleans_now}
-use Rattle.my_session.proofs.Mirror.Resets.{offered_reads, clears_reads}
+use Rattle.my_session.proofs.Mirror.Resets.{offered_reads, adopts_reads, clears_reads, drains_first, drains_by}
 use Rattle.my_session.proofs.Mirror.Transactions.{attempts, backing_reads, reverting_by, undoes_reads, settles_reads, gives_up, forsakes}
 use Rattle.my_session.proofs.Mirror.Prepared.{looked_reads, checked_reads, batched_reads, forgets, running_by, execution_by, prepare_by, gives_reads}
 
@@ -68,10 +68,13 @@ module _ (s : Seen) (call : Call) (p : Place) (o : OpenAt s call (parts_left s.l
   begun_reads SkipTaken task at = starts s call p o nothing bytes tasks.Skipping (Rest ∷ []) refl refl (ap kind_in (sym task)) refl refl (ap passes_end task) (λ no. cc) at
   begun_reads Ping task at = cleans_now s call p o nothing bytes Ping task refl refl at
   begun_reads Reset task at = offered_reads s call p o nothing bytes task at (can_reset (version_of s.facts.version)) refl
+  begun_reads ChangeUser task at = adopts_reads s call p o nothing bytes task at
   begun_reads Begin task at = cleans_now s call p o nothing bytes Begin task refl refl at
   begun_reads Commit task at = attempts s call p o nothing bytes task at
   begun_reads Rollback task at = gives_up s call p o nothing bytes task at
   begun_reads ForgetTransaction task at = forsakes s call p o nothing bytes task
+  begun_reads CleanForPool task at = drains_first s call p o nothing bytes task at s.untold refl
+  begun_reads ResetForPool task at = cleans_now s call p o nothing bytes ResetForPool task refl refl at
   begun_reads Quit task at = cleans_now s call p o nothing bytes Quit task refl refl at
 
   -- a task that reads the rest of an older response, and then does what the plan says
@@ -246,6 +249,7 @@ module _ (s : Seen) (call : Call) (p : Place) (o : OpenAt s call (parts_left s.l
           statements_are = λ _. (known_here s call p o nothing bytes).0;
           status_is = o.at.status_is;
           trial_is = o.at.trial_is;
+          account_is = o.at.account_is;
           checked = refl;
         };
         closed_is = o.alive ∙ ap (closes ToldReady) (sym (kind_here_is s call p o nothing bytes TakeSet (ap kind_in task)));
@@ -395,6 +399,18 @@ module _ (s : Seen) (call : Call) (p : Place) (o : OpenAt s call (parts_left s.l
   shaking_on (spots.Fields left) e = cc
   shaking_on spots.FieldsEnd e = cc
 
+  -- the exchange that makes the server's session a new one
+  module _ (c : CallKind) (own : sets_up c ≡ true) (free : is_connecting (tasks.Own c) ≡ false) (other : is_connect c ≡ false) (same : (k : Kind) → react (tasks.Own c) k ≡ react_renewal c k) (task : s.task ≡ tasks.Own c) (at : s.context.spot ≡ spots.Single) (none : p.end_left ≡ false) where
+    renewed_by : All ∷ Clear ∷ parts_of_own c (queries_of s.login c s.call) ≡ own_parts s.login c s.call → MoveReads s call (All ∷ Clear ∷ parts_of_own c (queries_of s.login c s.call)) p (planned s plans.Reads)
+    renewed_by left =
+        let on : is_idle s.context.spot ≡ false = ap is_idle at in
+        let parts = Clear ∷ parts_of_own c (queries_of s.login c s.call) in
+        reads_front s call p o nothing bytes All parts (tasks.Own c) task (all_here s call p o nothing bytes parts none on)
+        (λ payload rest next e whole single k kind. subst (λ r. MoveReads s call (All ∷ parts) p (cond (is_breaking r) (failed_by s (invalid_data s.facts.place))
+        (unless_above s (above s.context.terms.limit (reply_to s.login k payload)) (reacted s (advanced s k payload rest next) payload r)))) (sym (same k))
+        (renewal_reads s call p o.at.mirrors o.at.taken_is (known_here s call p o nothing bytes) o.alive nothing o.call_is payload rest next e whole single c own free other (all_here s call p o nothing bytes parts none on) task at (kind_here_is s call p o nothing bytes c (ap kind_in task)) k kind))
+        (left ∙ ap (parts_left s.login s.call) (sym task))
+
   -- nothing is left to be passed over where the own exchange of connecting, of a ping, or of a reset, is read
   own_reads : (c : CallKind) → s.task ≡ tasks.Own c → OwnStandsAt c s.context.spot (connects_in (exchanges p)) → p.end_left ≡ false → MoveReads s call (own_parts s.login c s.call) p (planned s (own_plan c s.context.spot))
   own_reads Connect task at none =
@@ -426,16 +442,14 @@ module _ (s : Seen) (call : Call) (p : Place) (o : OpenAt s call (parts_left s.l
       reads_front s call p o nothing bytes All [] (tasks.Own Ping) task (all_here s call p o nothing bytes [] none on)
       (λ payload rest next e whole single k kind. ping_reads s call p o.at.mirrors o.at.taken_is (known_here s call p o nothing bytes) o.alive nothing o.call_is payload rest next e whole single (all_here s call p o nothing bytes [] none on) task at (kind_here_is s call p o nothing bytes Ping (ap kind_in task)) k kind)
       (ap (parts_left s.login s.call) (sym task))
-  own_reads Reset task at none =
-      let on : is_idle s.context.spot ≡ false = ap is_idle at in
-      let parts = Clear ∷ parts_of_own Reset (queries_of s.login Reset s.call) in
-      reads_front s call p o nothing bytes All parts (tasks.Own Reset) task (all_here s call p o nothing bytes parts none on)
-      (λ payload rest next e whole single k kind. reset_reads s call p o.at.mirrors o.at.taken_is (known_here s call p o nothing bytes) o.alive nothing o.call_is payload rest next e whole single (all_here s call p o nothing bytes parts none on) task at (kind_here_is s call p o nothing bytes Reset (ap kind_in task)) k kind)
-      (ap (parts_left s.login s.call) (sym task))
+  own_reads Reset task at none = renewed_by Reset refl refl refl (λ k. refl) task at none refl
+  own_reads ChangeUser task at none = renewed_by ChangeUser refl refl refl (λ k. refl) task at none refl
   own_reads Begin task at none = absurd at
   own_reads Commit task at none = absurd at
   own_reads Rollback task at none = absurd at
   own_reads ForgetTransaction task at none = absurd at
+  own_reads CleanForPool task at none = absurd at
+  own_reads ResetForPool task at none = renewed_by ResetForPool refl refl refl (λ k. refl) task at none refl
   own_reads Quit task at none = record {
     rest = [];
     place = p;
@@ -497,7 +511,7 @@ module _ (s : Seen) (call : Call) (p : Place) (o : OpenAt s call (parts_left s.l
       (λ k. not_greeting s.context.spot (deprecates_eof s.context.terms.kept) k) at (λ _. refl) false (ap is_connecting task)
       (ap is_connect (kind_here_is s call p o nothing bytes Batch (ap kind_in task))) (plans.Runs n)
       (λ told none idle. runs_on s call p o.at.mirrors o.at.taken_is (known_here s call p o nothing bytes) o.alive nothing o.call_is told none idle n (ap kind_in task) (call_here s call p o nothing bytes Batch (ap kind_in task)) (slice_get (lists_in s.call) n) refl) s.context.spot refl
-  plan_reads tasks.Clearing task at = clears_reads s call p o nothing bytes task at
+  plan_reads (tasks.Clearing c) task at = clears_reads s call p o nothing bytes c task at.0 at.1
   plan_reads (tasks.Asking c n) task at =
       let texts = drop n (queries_of s.login c s.call) in
       subst (λ xs. MoveReads s call xs p (planned s (plan_of (tasks.Asking c n) s.context.spot s.untold))) (rest_first c texts)
@@ -507,6 +521,7 @@ module _ (s : Seen) (call : Call) (p : Place) (o : OpenAt s call (parts_left s.l
       (λ told none idle. queries_reads s call p o.at.mirrors o.at.taken_is (known_here s call p o nothing bytes) o.alive nothing o.call_is told none idle c n at.2 (ap kind_in task) (call_here s call p o nothing bytes c (ap kind_in task)) (slice_get (queries_of s.login c s.call) n) refl) s.context.spot refl)
   plan_reads (tasks.Backing c) task at = backing_reads s call p o nothing bytes c task at.0 at.1 (is_given_up s.status) refl
   plan_reads (tasks.Reverting c) task at = reverting_by s call p o nothing bytes c task at.0 at.1 s.context.spot refl
+  plan_reads tasks.Draining task at = drains_by s call p o nothing bytes task at s.context.spot refl
   plan_reads tasks.Reading task at = items task at s.untold refl
   plan_reads tasks.Dropping task at = drops task at s.untold refl
   plan_reads tasks.Taking task at = takes task at s.untold refl

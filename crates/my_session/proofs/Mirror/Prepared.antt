@@ -71,7 +71,7 @@ module _ (s : Seen) (call : Call) (p : Place) (o : OpenAt s call (parts_left s.l
       leads = Here (Find ∷ preparing) p;
       comes = inl (record { place = p; stops = looks true e h is; at = rests_at s call p o nothing bytes s.untold p (known_here s call p o nothing bytes) o.at.mirrors o.at.taken_is (end_at s call p o nothing bytes (tasks.Begun Prepare) task); closed_is = o.alive });
     }
-    looked_reads false e None is = cleans_first s call p o nothing bytes Prepare task refl past refl (Find ∷ preparing) p s.statements s.status s.trial (Then (Find ∷ preparing) p preparing p preparing p (looks false e None is) (Here preparing p)) o.at.mirrors o.at.taken_is refl (known_here s call p o nothing bytes) s.untold refl
+    looked_reads false e None is = cleans_first s call p o nothing bytes Prepare task refl past refl (Find ∷ preparing) p s.statements s.status s.trial s.account (Then (Find ∷ preparing) p preparing p preparing p (looks false e None is) (Here preparing p)) o.at.mirrors o.at.taken_is refl (known_here s call p o nothing bytes) s.untold refl
     looked_reads false e (Some h) is =
         let q : Place = place_with (with_fetched (query_of text) p.statements) p in
         record {
@@ -91,6 +91,7 @@ module _ (s : Seen) (call : Call) (p : Place) (o : OpenAt s call (parts_left s.l
               statements_are = λ _. ap (with_fetched (query_of text)) (known_here s call p o nothing bytes).0;
               status_is = o.at.status_is;
               trial_is = o.at.trial_is;
+              account_is = o.at.account_is;
               checked = refl;
             };
             closed_is = o.alive;
@@ -112,7 +113,7 @@ module _ (s : Seen) (call : Call) (p : Place) (o : OpenAt s call (parts_left s.l
 
     pub checked_reads : (v : Values) → values_for (statement_in s.call) params ≡ v → MoveReads s call (Check params ∷ executing) p (unless_refused s (refused_by v) (record { seen = with_task s (tasks.Cleaning c) s.untold; does = MachineGoes }))
     checked_reads (Fitting values) is =
-        cleans_first s call p o nothing bytes c task sends past (first_refusal ∙ ap refused_by is) (Check params ∷ executing) p s.statements s.status s.trial (Then (Check params ∷ executing) p executing p executing p (checks_it (Fitting values) is) (Here executing p)) o.at.mirrors o.at.taken_is refl (known_here s call p o nothing bytes) s.untold refl
+        cleans_first s call p o nothing bytes c task sends past (first_refusal ∙ ap refused_by is) (Check params ∷ executing) p s.statements s.status s.trial s.account (Then (Check params ∷ executing) p executing p executing p (checks_it (Fitting values) is) (Here executing p)) o.at.mirrors o.at.taken_is refl (known_here s call p o nothing bytes) s.untold refl
     checked_reads (Unfitting e) is = record {
       rest = Check params ∷ executing;
       place = p;
@@ -152,9 +153,9 @@ module _ (s : Seen) (call : Call) (p : Place) (o : OpenAt s call (parts_left s.l
       here s call p o nothing bytes (Forget ∷ closing_parts)
       ∙ ap (λ (x : Call). Goes closing_parts (place_with (without_statement (id_in x) p.statements) p)) (call_here s call p o nothing bytes CloseStmt (ap kind_in task))
       ∙ ap (λ known. Goes closing_parts (place_with (without_statement (id_in s.call) known) p)) (sym (known_here s call p o nothing bytes).0) in
-      cleans_first s call p o nothing bytes CloseStmt task refl past refl (Forget ∷ closing_parts) q known s.status s.trial
+      cleans_first s call p o nothing bytes CloseStmt task refl past refl (Forget ∷ closing_parts) q known s.status s.trial s.account
       (Then (Forget ∷ closing_parts) p closing_parts q closing_parts q one (Here closing_parts q))
-      (mirrors_with_statements s.context s.number s.unread s.owed s.closed s.facts s.login p known o.at.mirrors) o.at.taken_is refl (refl, (known_here s call p o nothing bytes).1, (known_here s call p o nothing bytes).2, (known_here s call p o nothing bytes).3) s.untold refl
+      (mirrors_with_statements s.context s.number s.unread s.owed s.closed s.facts s.login p known o.at.mirrors) o.at.taken_is refl (refl, (known_here s call p o nothing bytes).1, (known_here s call p o nothing bytes).2, (known_here s call p o nothing bytes).3, (known_here s call p o nothing bytes).4) s.untold refl
 
   -- after the head of an execution the columns are known
   learns : (after : List Part) → is_rows s.context.spot ≡ true → (c : CallKind) → kind_in s.task ≡ Some c
@@ -204,6 +205,7 @@ module _ (s : Seen) (call : Call) (p : Place) (o : OpenAt s call (parts_left s.l
               statements_are = λ _. refl;
               status_is = o.at.status_is;
               trial_is = o.at.trial_is;
+              account_is = o.at.account_is;
               checked = refl;
             };
             alive = o.alive;
@@ -255,7 +257,7 @@ module _ (s : Seen) (call : Call) (p : Place) (o : OpenAt s call (parts_left s.l
           comes = inl (record {
             place = q;
             stops = step_here s.context s.number s.unread s.owed s.closed s.facts s.login q call [] o.alive w nothing;
-            at = record { mirrors = w; end_is = λ _ _. end_at s call p o nothing bytes (tasks.Own Execute) task; taken_is = o.at.taken_is; own_end = λ no. cc; task_at = tt; settled = λ _. nothing; statements_are = λ _. refl; status_is = o.at.status_is; trial_is = o.at.trial_is; checked = refl };
+            at = record { mirrors = w; end_is = λ _ _. end_at s call p o nothing bytes (tasks.Own Execute) task; taken_is = o.at.taken_is; own_end = λ no. cc; task_at = tt; settled = λ _. nothing; statements_are = λ _. refl; status_is = o.at.status_is; trial_is = o.at.trial_is; account_is = o.at.account_is; checked = refl };
             closed_is = o.alive ∙ ap (closes ToldReady) (sym (kind_here_is s call p o nothing bytes Execute (ap kind_in task)));
           });
         }
@@ -322,7 +324,7 @@ module _ (s : Seen) (call : Call) (p : Place) (o : OpenAt s call (parts_left s.l
       place = kept_place;
       leads = Then replying p (Keep ∷ Give ∷ []) p (Give ∷ []) kept_place (reply_here s call p o nothing bytes (Keep ∷ Give ∷ []) true idle) (Then (Keep ∷ Give ∷ []) p (Give ∷ []) kept_place (Give ∷ []) kept_place (keeps_it None is) (Here (Give ∷ []) kept_place));
       comes = record {
-        at = record { mirrors = mirrors_kept; end_is = λ _ _. no_end; taken_is = o.at.taken_is; own_end = λ _. refl; task_at = past; settled = λ _. nothing; statements_are = λ _. refl; status_is = o.at.status_is; trial_is = o.at.trial_is; checked = refl };
+        at = record { mirrors = mirrors_kept; end_is = λ _ _. no_end; taken_is = o.at.taken_is; own_end = λ _. refl; task_at = past; settled = λ _. nothing; statements_are = λ _. refl; status_is = o.at.status_is; trial_is = o.at.trial_is; account_is = o.at.account_is; checked = refl };
         alive = o.alive;
         sound = refl;
         call_is = ap (λ k. call_with k s.call) (ap kind_in (sym task)) ∙ o.call_is;
@@ -336,7 +338,7 @@ module _ (s : Seen) (call : Call) (p : Place) (o : OpenAt s call (parts_left s.l
             → MoveReads s call replying p (unless_exceeds (with_kept s) long (record { seen = queued (with_kept s) tasks.Giving (closing (next_terms s) id); does = Sends }))
         closing_by long e =
             let talk : Talk = closing (next_terms s) id in
-            let w = begins_here (with_kept s) call kept_place mirrors_kept o.at.taken_is (refl, (known_here s call p o nothing bytes).1, (known_here s call p o nothing bytes).2, (known_here s call p o nothing bytes).3) o.alive nothing o.call_is told_here no_end idle tasks.Giving (Give ∷ []) (calls.Prepare (text_in s.call)) talk (ap kind_in (sym task)) refl refl refl refl (record { kinds = tt; within = tt }) refl refl refl
+            let w = begins_here (with_kept s) call kept_place mirrors_kept o.at.taken_is (refl, (known_here s call p o nothing bytes).1, (known_here s call p o nothing bytes).2, (known_here s call p o nothing bytes).3, (known_here s call p o nothing bytes).4) o.alive nothing o.call_is told_here no_end idle tasks.Giving (Give ∷ []) (calls.Prepare (text_in s.call)) talk (ap kind_in (sym task)) refl refl refl refl (record { kinds = tt; within = tt }) refl refl refl
             (some_bytes (packet_bytes (packets.CloseStatement id)) 0) refl (Keep ∷ Give ∷ []) p long
             (keeps_it (Some id) is ∙ ap (λ x. unless_long kept_place s.facts.settings.limit x (Goes (Give ∷ []) (with_exchange kept_place (calls.Prepare (text_in s.call)) talk))) e) in
             record {

@@ -73,7 +73,7 @@ module _ (s : Seen) (call : Call) (p : Place) (o : OpenAt s call (parts_left s.l
       rest = asking;
       place = after;
       leads = Then settling p (Undone ∷ asking) p asking after (read_on (Undone ∷ asking)) (Then (Undone ∷ asking) p asking after asking after (here s call p o nothing bytes (Undone ∷ asking)) (Here asking after));
-      comes = goes_as s call p o nothing bytes status s.trial (tasks.Cleaned c) s.untold after ((known_here s call p o nothing bytes).0, is, (known_here s call p o nothing bytes).2, (known_here s call p o nothing bytes).3) fit (λ _. told)
+      comes = goes_as s call p o nothing bytes status s.trial (tasks.Cleaned c) s.untold after ((known_here s call p o nothing bytes).0, is, (known_here s call p o nothing bytes).2, (known_here s call p o nothing bytes).3, (known_here s call p o nothing bytes).4) fit (λ _. told)
           (mirrors_with_status s.context s.number s.unread s.owed s.closed s.facts s.login p (rolled_back p.status) o.at.mirrors) o.at.taken_is (sym open_kind) refl (none_left ∙ sym (ap (λ b. b && true) told)) (sends, idle_spot s.context.spot over);
     }
 
@@ -108,10 +108,10 @@ module _ (s : Seen) (call : Call) (p : Place) (o : OpenAt s call (parts_left s.l
   pub gives_up : s.task ≡ tasks.Begun Rollback → is_greeting s.context.spot ≡ false → MoveReads s call (Settle txs.RequiresRollback ∷ clean []) p (planned s plans.GivesUp)
   gives_up task past =
       let q : Place = place_tried trials.Off (place_as txs.RequiresRollback p) in
-      cleans_first s call p o nothing bytes Rollback task refl past refl (Settle txs.RequiresRollback ∷ clean []) q s.statements txs.RequiresRollback trials.Off
+      cleans_first s call p o nothing bytes Rollback task refl past refl (Settle txs.RequiresRollback ∷ clean []) q s.statements txs.RequiresRollback trials.Off s.account
       (Then (Settle txs.RequiresRollback ∷ clean []) p (clean []) q (clean []) q (here s call p o nothing bytes (Settle txs.RequiresRollback ∷ clean [])) (Here (clean []) q))
       (mirrors_with_trial s.context s.number s.unread s.owed s.closed s.facts s.login (place_as txs.RequiresRollback p) trials.Off
-      (mirrors_with_status s.context s.number s.unread s.owed s.closed s.facts s.login p txs.RequiresRollback o.at.mirrors)) o.at.taken_is refl ((known_here s call p o nothing bytes).0, refl, refl, λ no. cc) s.untold refl
+      (mirrors_with_status s.context s.number s.unread s.owed s.closed s.facts s.login p txs.RequiresRollback o.at.mirrors)) o.at.taken_is refl ((known_here s call p o nothing bytes).0, refl, refl, λ no. cc, (known_here s call p o nothing bytes).4) s.untold refl
 
   -- it is about to be committed
   pub attempts : s.task ≡ tasks.Begun Commit → is_greeting s.context.spot ≡ false → MoveReads s call (Try ∷ clean (ask_parts s.login Commit s.call)) p (planned s plans.Tries)
@@ -119,9 +119,9 @@ module _ (s : Seen) (call : Call) (p : Place) (o : OpenAt s call (parts_left s.l
       let parts : List Part = clean (ask_parts s.login Commit s.call) in
       let q : Place = place_tried trials.On p in
       let known = known_here s call p o nothing bytes in
-      cleans_first s call p o nothing bytes Commit task refl past refl (Try ∷ parts) q s.statements s.status trials.On
+      cleans_first s call p o nothing bytes Commit task refl past refl (Try ∷ parts) q s.statements s.status trials.On s.account
       (Then (Try ∷ parts) p parts q parts q (here s call p o nothing bytes (Try ∷ parts)) (Here parts q))
-      (mirrors_with_trial s.context s.number s.unread s.owed s.closed s.facts s.login p trials.On o.at.mirrors) o.at.taken_is refl (known.0, known.1, refl, λ _. ap kind_in task) s.untold refl
+      (mirrors_with_trial s.context s.number s.unread s.owed s.closed s.facts s.login p trials.On o.at.mirrors) o.at.taken_is refl (known.0, known.1, refl, λ _. ap kind_in task, known.4) s.untold refl
 
   -- it couldn't be, and is rolled back
   module _ (c : CallKind) (task : s.task ≡ tasks.Backing c) (commits : c ≡ Commit) (idle : s.context.spot ≡ spots.Idle) where
@@ -182,7 +182,7 @@ module _ (s : Seen) (call : Call) (p : Place) (o : OpenAt s call (parts_left s.l
           comes = inl (record {
             place = q;
             stops = back_here s call p o nothing bytes true over ∙ ap (λ (x : Trial). course.returned p x) is;
-            at = rests_as s call p o nothing bytes (rolled_back s.status) trials.Off s.untold q (known.0, ap rolled_back known.1, refl)
+            at = rests_as s call p o nothing bytes (rolled_back s.status) trials.Off s.untold q (known.0, ap rolled_back known.1, refl, known.4)
                 (mirrors_with_trial s.context s.number s.unread s.owed s.closed s.facts s.login (place_as (rolled_back p.status) p) trials.Off
                 (mirrors_with_status s.context s.number s.unread s.owed s.closed s.facts s.login p (rolled_back p.status) o.at.mirrors)) o.at.taken_is (no_end ∙ sym (ap (λ b. b && true) told));
             closed_is = o.alive ∙ sym (ap is_connect kind_now);
@@ -230,7 +230,7 @@ module _ (s : Seen) (call : Call) (p : Place) (o : OpenAt s call (parts_left s.l
         comes = inl (record {
           place = q;
           stops = step_here s.context s.number s.unread s.owed s.closed s.facts s.login q call [] o.alive w nothing;
-          at = rests_as s call p o nothing bytes (given_up s.status) s.trial s.untold q (known.0, ap given_up known.1, known.2) w o.at.taken_is (end_at s call p o nothing bytes (tasks.Begun ForgetTransaction) task);
+          at = rests_as s call p o nothing bytes (given_up s.status) s.trial s.untold q (known.0, ap given_up known.1, known.2, known.4) w o.at.taken_is (end_at s call p o nothing bytes (tasks.Begun ForgetTransaction) task);
           closed_is = o.alive ∙ ap (closes ToldReady) (sym (kind_here_is s call p o nothing bytes ForgetTransaction (ap kind_in task)));
         });
       }

@@ -21,15 +21,15 @@ use Rattle.my_grammar.specs.Talk.{Talk, Asked, Preparing, Queried, Silent, turns
 use Rattle.my_reading.specs.declared.call.Call.{Call}
 use Rattle.my_reading.specs.declared.call.Call.TheVariants as calls
 use Rattle.my_reading.specs.declared.call.CallKind.{CallKind}
-use Rattle.my_reading.specs.declared.call.CallKind.TheVariants.{Connect, Query, Prepare, Execute, Batch, CloseStmt, NextRow, DropResult, TakeSet, SkipTaken, Ping, Reset, Begin, Commit, Rollback, ForgetTransaction, Quit}
+use Rattle.my_reading.specs.declared.call.CallKind.TheVariants.{Connect, Query, Prepare, Execute, Batch, CloseStmt, NextRow, DropResult, TakeSet, SkipTaken, Ping, Reset, ChangeUser, Begin, Commit, Rollback, ForgetTransaction, CleanForPool, ResetForPool, Quit}
 use Rattle.my_session.specs.declared.task.Task.{Task}
 use Rattle.my_session.specs.declared.task.Task.TheVariants.{Nothing, Cleaning, Undoing, Cleaned, Own, Giving, Arranging, Running, Finishing, Asking, Backing, Reverting}
 use Rattle.my_reading.specs.declared.error.Error.{Error}
 use Rattle.my_session.specs.declared.tables.Plan.TheVariants as plans
 use Rattle.my_reading.specs.Calls.{kind_of, call_of, asks, id_in, is_connect, lists_in, opts_in, params_in, statement_in, text_in}
 use Rattle.my_session.specs.Tasks.{kind_in, is_open}
-use Rattle.my_reading.specs.Commands.{arranging, arranging_texts, closing, command_of, connecting, execution, opening, queried}
-use Rattle.my_session.specs.Entries.{IsHushed, Opens, OwnsFirst, IsTied, may_lack, terms_by, calls_in, connects, has_connected, connecting_in}
+use Rattle.my_reading.specs.Commands.{arranging, arranging_texts, closing, command_of, connecting, execution, opening, queried, renews_by_reset}
+use Rattle.my_session.specs.Entries.{IsHushed, Opens, renews, OwnsFirst, IsTied, may_lack, terms_by, calls_in, connects, has_connected, connecting_in}
 use Rattle.my_reading.specs.Errors.{codec_error}
 use Rattle.my_reading.specs.Told.{Told, ToldReady, ToldFlag, ToldError, closes, closes_by}
 use Rattle.my_reading.specs.Transactions.{begin_refusal, commit_text, is_given_up, rollback_text, rolled_back}
@@ -41,7 +41,7 @@ use Rattle.my_reading.specs.declared.transaction.TxStatus.{TxStatus}
 use Rattle.my_reading.specs.declared.transaction.TxStatus.TheVariants as txs
 use Rattle.my_session.specs.Groups.{given, given_after}
 use Rattle.my_session.specs.History.{History, answered, has_closed}
-use Rattle.my_session.specs.Machine.{Move, Sends, with_status, with_task, with_trial, failed_by, returned, reverted, queued, unless_exceeds, unless_refused, refusal, refused_by, next_terms, begins, asked, ran, arranged, done, queried_by, admitted, planned, is_greeting}
+use Rattle.my_session.specs.Machine.{Move, Sends, with_status, with_task, with_trial, failed_by, returned, reverted, queued, unless_exceeds, unless_refused, refusal, refused_by, next_terms, begins, asked, ran, arranged, done, queried_by, admitted, planned, renewing, is_greeting}
 use Rattle.my_session.specs.Queries.{has_queries, queries_of}
 use Rattle.my_session.specs.Seen.{Seen}
 use Rattle.my_session.specs.ServerErrors.{errors_in, errors_of, errors_told, unless_hushed, with_pending, with_told}
@@ -63,7 +63,8 @@ connect_opens login terms c n t e (inl w) = subst (λ (x : Call). opening login 
 connect_opens login terms c n t e (inr (inl w)) = let no : Connect ≡ Prepare = ap kind_of (sym e) ∙ w.1 in cc
 connect_opens login terms c n t e (inr (inr (inl w))) = let no : Connect ≡ Batch = ap kind_of (sym e) ∙ w.kind in cc
 connect_opens login terms c n t e (inr (inr (inr (inl w)))) = let no : None ≡ Some w.text = subst (λ (x : Call). slice_get (queries_of login (kind_of x) x) w.place ≡ Some w.text) e w.listed in cc
-connect_opens login terms c n t e (inr (inr (inr (inr w)))) = let no : false ≡ true = ap (λ (x : Call). asks (kind_of x)) (sym e) ∙ w.cleans in cc
+connect_opens login terms c n t e (inr (inr (inr (inr (inl w))))) = let no : false ≡ true = ap (λ (x : Call). renews (kind_of x)) (sym e) ∙ w.kind in cc
+connect_opens login terms c n t e (inr (inr (inr (inr (inr w))))) = let no : false ≡ true = ap (λ (x : Call). asks (kind_of x)) (sym e) ∙ w.cleans in cc
 
 module _ (s : Seen) (h : History) (st : Stands s h) (open_still : s.closed ≡ false) (nothing : s.owed ≡ []) (op : is_open s.task ≡ true) where
   abbrev HeardAs : Task → Type 0
@@ -158,11 +159,21 @@ module _ (s : Seen) (h : History) (st : Stands s h) (open_still : s.closed ≡ f
   asked_keep SkipTaken hd idle own fit = let no : asks SkipTaken ≡ true = hd.at.0 in cc
   asked_keep Ping hd idle own fit = commands Ping (Asked (next_terms s) (packet_bytes packets.Ping)) hd idle refl (inl (s.statements, refl)) refl (record { kinds = tt; within = tt }) refl refl refl refl refl (hd.at.1, refl) (hd.trying open_still)
   asked_keep Reset hd idle own fit = commands Reset (Asked (next_terms s) (packet_bytes packets.ResetConnection)) hd idle refl (inl (s.statements, refl)) refl (record { kinds = tt; within = tt }) refl refl refl refl refl (hd.at.1, refl) (hd.trying open_still)
+  asked_keep ChangeUser hd idle own fit = cc
   asked_keep Begin hd idle own fit = cc
   asked_keep Commit hd idle own fit = cc
   asked_keep Rollback hd idle own fit = cc
   asked_keep ForgetTransaction hd idle own fit = let no : asks ForgetTransaction ≡ true = hd.at.0 in cc
+  asked_keep CleanForPool hd idle own fit = cc
+  asked_keep ResetForPool hd idle own fit = cc
   asked_keep Quit hd idle own fit = commands Quit (Silent (next_terms s) (packet_bytes packets.Quit)) hd idle refl (inl (s.statements, refl)) refl (record { kinds = tt; within = tt }) refl refl refl refl refl hd.at.1 (hd.trying open_still)
+
+  -- the command that renews the server's session
+  renews_own : (c : CallKind) → HeardAs (Cleaned c) → renews (kind_of (call_of c s.call)) ≡ true → is_connect (kind_of (call_of c s.call)) ≡ false → ((renews_by_reset c (version_of s.facts.version) ≡ true) → call_of c s.call ≡ calls.ResetForPool) → (has_connected h.calls ≡ true → TaskIs (Own c) spots.Single s.closed (has_connected h.calls) (connecting_in (record { call = call_of c s.call; talk = renewing s c; given = None; hushed = false } ∷ st.newest ∷ st.older)) (record { call = call_of c s.call; talk = renewing s c; given = None; hushed = false })) → is_off s.trial ≡ true → Keeps (planned s (plans.Renews c)) h
+  renews_own c hd renewed other pooled at off =
+      commands c (renewing s c) hd hd.at.2 other
+      (inr (inr (inr (inr (inl (record { kind = renewed; facts = s.facts; account = s.account; by_reset = renews_by_reset c (version_of s.facts.version); pooled = pooled; renewal_is = refl }))))))
+      refl (record { kinds = tt; within = tt }) refl refl refl refl refl (at hd.at.1) off
 
   asks_own : (c : CallKind) → HeardAs (Cleaned c) → s.context.spot ≡ spots.Idle → ask_plan c ≡ plans.Asks c → Keeps (planned s (plans.Asks c)) h
   asks_own c hd idle own = refused_or c (refusal c s.call) (asked s (Own c) (command_of (next_terms s) s.statements (call_of c s.call))) refl (asked_keep c hd idle own)
@@ -264,6 +275,8 @@ module _ (s : Seen) (h : History) (st : Stands s h) (open_still : s.closed ≡ f
   done_keeps : (c : CallKind) (n : ℕ) → HeardAs (Asking c n) → s.untold ≡ false → s.context.spot ≡ spots.Idle → Keeps (done s c) h
   done_keeps c n hd told idle = of_queries (λ x. HeardAs (Asking x n) → Keeps (done s x) h)
       (λ g. ends (Asking Reset n) Reset (ToldFlag true) g refl g.at.1 told idle refl refl refl refl (inr g.tie) (g.trying open_still))
+      (λ g. ends (Asking ChangeUser n) ChangeUser ToldReady g refl g.at.1 told idle refl refl refl refl (inr g.tie) (g.trying open_still))
+      (λ g. ends (Asking ResetForPool n) ResetForPool ToldReady g refl g.at.1 told idle refl refl refl refl (inr g.tie) (g.trying open_still))
       (λ g. ends_as txs.InTransaction trials.Off refl (Asking Begin n) Begin ToldReady g refl g.at.1 told idle refl refl refl (silent_end ToldReady (unrefused_at (Asking Begin n) s.trial refl (g.trying open_still)) refl) (inr g.tie))
       (λ g. ends_as txs.None trials.Off refl (Asking Commit n) Commit ToldReady g refl g.at.1 told idle refl refl refl (silent_end ToldReady (unrefused_at (Asking Commit n) s.trial refl (g.trying open_still)) refl) (inr g.tie))
       c hd.at.0 hd
@@ -306,10 +319,13 @@ module _ (s : Seen) (h : History) (st : Stands s h) (open_still : s.closed ≡ f
   asks_keep SkipTaken hd told = asks_own SkipTaken hd hd.at.2 refl
   asks_keep Ping hd told = asks_own Ping hd hd.at.2 refl
   asks_keep Reset hd told = asks_own Reset hd hd.at.2 refl
+  asks_keep ChangeUser hd told = renews_own ChangeUser hd refl refl (λ no. cc) (λ made. (made, refl)) (hd.trying open_still)
   asks_keep Begin hd told = admits hd told (begin_refusal (opts_in s.call) (version_of s.facts.version) s.status) refl
   asks_keep Commit hd told = query_keeps (Cleaned Commit) Commit 0 hd refl refl hd.at.1 hd.at.2 (own_tie Commit hd) (hd.trying open_still) commit_text refl
   asks_keep Rollback hd told = rolls_back hd told
   asks_keep ForgetTransaction hd told = asks_own ForgetTransaction hd hd.at.2 refl
+  asks_keep CleanForPool hd told = ends (Cleaned CleanForPool) CleanForPool ToldReady hd refl hd.at.1 told hd.at.2 refl refl refl refl (clean_tie CleanForPool ToldReady hd refl) (hd.trying open_still)
+  asks_keep ResetForPool hd told = renews_own ResetForPool hd refl refl (λ _. refl) (λ made. (made, refl)) (hd.trying open_still)
   asks_keep Quit hd told = asks_own Quit hd hd.at.2 refl
 
   -- the ROLLBACK of a transaction that was given up
@@ -317,7 +333,7 @@ module _ (s : Seen) (h : History) (st : Stands s h) (open_still : s.closed ≡ f
   undoes_keep c hd idle =
       let talk : Talk = queried (next_terms s) rollback_text in
       unless_long (Undoing c) talk _ (queues (Cleaning c) (Undoing c) (call_of c s.call) talk hd refl refl refl idle
-      (inr (inr (inr (inr (record { cleans = asks_too c s.call hd.at.0; queries = refl })))))
+      (inr (inr (inr (inr (inr (record { cleans = asks_too c s.call hd.at.0; queries = refl }))))))
       refl (record { kinds = tt; within = tt }) refl refl refl refl refl (hd.at.0, hd.at.1, refl)
       (one_more c hd.at.0 (inr (all_begun s.context.spot h.calls st.newest.call st.older hd.at.2 hd.tie))) (still_arranged (call_of c s.call) talk (asks_not c s.call hd.at.0)) tt (hd.trying open_still) refl)
 
@@ -334,7 +350,7 @@ module _ (s : Seen) (h : History) (st : Stands s h) (open_still : s.closed ≡ f
           | inr o ↦ inr (all_begun s.context.spot h.calls st.newest.call st.older (ap is_greeting hd.at.2) o)
         ] in
         unless_long (Reverting c) talk _ (queues_as true (Backing c) (Reverting c) (call_of c s.call) talk hd refl refl refl hd.at.2
-        (inr (inr (inr (inr (record { cleans = asks_too c s.call asking; queries = refl })))))
+        (inr (inr (inr (inr (inr (record { cleans = asks_too c s.call asking; queries = refl }))))))
         refl (record { kinds = tt; within = tt }) refl refl refl refl refl (hd.at.0, hd.at.1, refl)
         (one_more c asking owned) (λ all. (ap (λ b. cond b (suc (connecting_in (st.newest ∷ st.older))) (connecting_in (st.newest ∷ st.older))) (asks_not c s.call asking) ∙ (st.arranged all).0, λ own. let no : true ≡ false = sym own ∙ asks_not c s.call asking in cc)) refl (hd.trying open_still)
         (subst (λ (tr : Trial). TrialIs tr (context_of talk).spot (record { call = call_of c s.call; talk = talk; given = None; hushed = true }) (st.newest ∷ st.older)) (sym refused) (inr (refl, w.2)))

@@ -155,7 +155,8 @@ query_talk login terms n text t (inl w) =
 query_talk login terms n text t (inr (inl w)) = let no : Query ≡ Prepare = w.1 in cc
 query_talk login terms n text t (inr (inr (inl w))) = let no : Query ≡ Batch = w.kind in cc
 query_talk login terms n text t (inr (inr (inr (inl w)))) = let no : None ≡ Some w.text = w.listed in cc
-query_talk login terms n text t (inr (inr (inr (inr w)))) = queried_origin terms (packet_bytes (packets.Query rollback_text)) (NoSets ByText) t w.queries
+query_talk login terms n text t (inr (inr (inr (inr (inl w))))) = let no : false ≡ true = w.kind in cc
+query_talk login terms n text t (inr (inr (inr (inr (inr w))))) = queried_origin terms (packet_bytes (packets.Query rollback_text)) (NoSets ByText) t w.queries
 
 -- and so is that of an execution
 execution_talk : (terms : Terms) (known : Statements) (id : ℕ) (v : Values) (t : Talk) → execution terms known id v ≡ Some (origin t) → is_queried t ≡ true
@@ -169,7 +170,8 @@ execute_talk login terms n statement params t (inl w) = execution_talk terms w.0
 execute_talk login terms n statement params t (inr (inl w)) = let no : Execute ≡ Prepare = w.1 in cc
 execute_talk login terms n statement params t (inr (inr (inl w))) = let no : Execute ≡ Batch = w.kind in cc
 execute_talk login terms n statement params t (inr (inr (inr (inl w)))) = let no : None ≡ Some w.text = w.listed in cc
-execute_talk login terms n statement params t (inr (inr (inr (inr w)))) = queried_origin terms (packet_bytes (packets.Query rollback_text)) (NoSets ByText) t w.queries
+execute_talk login terms n statement params t (inr (inr (inr (inr (inl w))))) = let no : false ≡ true = w.kind in cc
+execute_talk login terms n statement params t (inr (inr (inr (inr (inr w))))) = queried_origin terms (packet_bytes (packets.Query rollback_text)) (NoSets ByText) t w.queries
 
 pub first_on : (k : Kind) (t : Talk) (p : List ℕ) → is_queried t ≡ true → is_first (sets_of t) ≡ true → is_known (context_of t).spot k ≡ true → is_part k ≡ true → is_first (sets_of (grow k t p)) ≡ true
 first_on k (Start l) p q e i part = cc

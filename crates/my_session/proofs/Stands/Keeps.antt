@@ -17,12 +17,12 @@ use Rattle.my_reading.proofs.Described.{kind_is}
 use Rattle.my_grammar.specs.Kinds.{kind_there}
 use Rattle.my_reading.specs.declared.call.Call.TheVariants as calls
 use Rattle.my_reading.specs.declared.call.CallKind.{CallKind}
-use Rattle.my_reading.specs.declared.call.CallKind.TheVariants.{Connect, Query, Prepare, Execute, Batch, CloseStmt, NextRow, DropResult, TakeSet, SkipTaken, Ping, Reset, Begin, Commit, Rollback, ForgetTransaction, Quit}
+use Rattle.my_reading.specs.declared.call.CallKind.TheVariants.{Connect, Query, Prepare, Execute, Batch, CloseStmt, NextRow, DropResult, TakeSet, SkipTaken, Ping, Reset, ChangeUser, Begin, Commit, Rollback, ForgetTransaction, CleanForPool, ResetForPool, Quit}
 use Rattle.my_session.specs.declared.reactions.Reaction.{Reaction}
 use Rattle.my_session.specs.declared.reactions.Reaction.TheVariants as reactions
 use Rattle.my_session.specs.declared.task.LinkFault.TheVariants as faults
 use Rattle.my_session.specs.declared.task.Task.{Task}
-use Rattle.my_session.specs.declared.task.Task.TheVariants.{Nothing, Begun, Cleaning, Undoing, Cleaned, Own, Giving, Arranging, Running, Finishing, Clearing, Asking, Backing, Reverting, Reading, Dropping, Taking, Skipping, Leaving, Failing}
+use Rattle.my_session.specs.declared.task.Task.TheVariants.{Nothing, Begun, Cleaning, Undoing, Cleaned, Own, Giving, Arranging, Running, Finishing, Clearing, Asking, Backing, Reverting, Draining, Reading, Dropping, Taking, Skipping, Leaving, Failing}
 use Rattle.my_reading.specs.declared.error.Error.TheVariants as errors
 use Rattle.my_reading.specs.declared.error.ServerError.{ServerError}
 use Rattle.my_reading.specs.declared.transaction.Trial.{Trial}
@@ -32,17 +32,18 @@ use Rattle.my_reading.specs.Calls.{kind_of, call_of, is_connect}
 use Rattle.my_session.specs.Tasks.{kind_in, is_open}
 use Rattle.my_session.specs.Entries.{calls_in, connecting_in, facts_of, givens, may_lack, has_connected, IsTied}
 use Rattle.my_reading.specs.Errors.{invalid_data, server_error}
-use Rattle.my_reading.specs.Told.{Told, ToldReady, ToldRow, ToldEnd, ToldError}
+use Rattle.my_reading.specs.Told.{Told, ToldReady, ToldRow, ToldEnd, ToldError, ToldPassed}
 use Rattle.my_session.specs.History.{History, Made, answered, noted}
-use Rattle.my_session.specs.Machine.{Move, fell, advanced, with_status, with_task, with_trial, backing, failed_by, refused, refused_by_server, gave, passed, reacted, after_doing, is_greeting}
+use Rattle.my_session.specs.Machine.{Move, fell, advanced, with_status, with_task, with_trial, backing, failed_by, refused, refused_by_server, gave, passed, passed_error, reacted, after_doing, is_greeting}
 use Rattle.my_reading.specs.Rows.{row_at}
+use Rattle.my_session.specs.Queries.{sets_up}
 use Rattle.my_session.specs.Seen.{Seen}
 use Rattle.my_session.specs.ServerErrors.{error_onto, errors_in}
 use Rattle.my_session.specs.Stands.{Stands, Heard, TaskIs, TieIs, CleansAt, begun_of, is_alive, is_off, is_reading, is_shaking, keeps}
 use Rattle.my_session.specs.Steps.{is_settled}
-use Rattle.my_session.specs.Tables.{react, react_whole, react_connect, react_head, react_query, react_running, react_single, react_ping, react_reset, react_own, react_reading, react_dropping, react_taking, react_skipping, is_breaking, is_connecting}
+use Rattle.my_session.specs.Tables.{react, react_whole, react_connect, react_head, react_query, react_running, react_single, react_ping, react_renewal, react_draining, react_own, react_reading, react_dropping, react_taking, react_skipping, is_breaking, is_connecting}
 use Rattle.my_session.proofs.Stands.Blames.{is_failed, failed_blames}
-use Rattle.my_session.proofs.Stands.Reacts.{fell_stands, backs, goes, refuses, refuses_connect, returns_first, newest_by, answers, is_query, is_execution, pongs, part_calm, readies, first_parts, shows, heads, row_gives, end_gives, good_gives, left_lone, knows, tied_on, tied_now}
+use Rattle.my_session.proofs.Stands.Reacts.{fell_stands, backs, goes, drains, refuses, refuses_connect, returns_first, newest_by, answers, is_query, is_execution, pongs, part_calm, readies, first_parts, shows, heads, row_gives, end_gives, good_gives, left_lone, knows, tied_on, tied_now}
 use Rattle.my_session.proofs.Stands.Plain.{fail_tie}
 use Rattle.my_session.proofs.Stands.Spots.{row_spot, end_spot, good_spot, not_greeting, settled_more, greets_on, settled_not_greeting, settled_reads, reading_after, heading_after}
 use Rattle.my_session.proofs.Stands.Ties.{answered_stands, noted_stands, taken_stands, closed_tie, all_begun, none_waits, quiet_more, asks_not}
@@ -66,10 +67,11 @@ is_reader Giving = false
 is_reader (Arranging n) = false
 is_reader (Running n) = false
 is_reader (Finishing n) = false
-is_reader Clearing = false
+is_reader (Clearing c) = false
 is_reader (Asking c n) = false
 is_reader (Backing c) = false
 is_reader (Reverting c) = false
+is_reader Draining = false
 is_reader Reading = true
 is_reader Dropping = true
 is_reader Taking = true
@@ -246,6 +248,37 @@ module _ (s : Seen) (h : History) (st : Stands s h) (open_still : s.closed ≡ f
       whole_keeps (Reverting c) refl hd (λ x _ _ _. (hd.at.0, hd.at.1, not_greeting s.context.spot (deprecates_eof s.context.terms.kept) x)) (λ x. hd.tie)
       (λ f. refuse (Reverting c) c (err_at (is_greeting s.context.spot) p) refl hd f task refl refl refl (ap (λ (x : CallKind). is_connect (kind_of (call_of x s.call))) hd.at.0) hd.at.1 (tied_own (Reverting c) c refl hd.tie)) (subst (λ (t : Task). CleansAt t s.untold s.status st.newest.hushed) task st.cleans) k e b
 
+  -- what is left is read for nobody, and its ERR is passed over
+  module _ (task : s.task ≡ Draining) (hd : HeardAs Draining) where
+    pass_error : (x : Option ErrPacket) → err_at (is_greeting s.context.spot) p ≡ x → kind_there s.context s.facts.columns p ≡ kinds.Failed → Keeps (passed_error s (after kinds.Failed) x) h
+    pass_error None is e = invalid
+    pass_error (Some x) is e =
+        subst (λ (t : Task). Stands (with_task (after kinds.Failed) t false) (noted h (ToldPassed (server_error x)))) (sym task)
+        (drains s h st open_still nothing p rest next whole Draining CleanForPool (server_error x) e refl hd refl refl (hd.trying open_still) (blames x e is) hd.at.0
+        (none_waits (spot_after (deprecates_eof s.context.terms.kept) s.context.spot kinds.Failed) (record { call = calls.CleanForPool; what = ToldPassed (server_error x) } ∷ h.calls) st.newest.call st.older (not_greeting s.context.spot (deprecates_eof s.context.terms.kept) kinds.Failed)
+        (quiet_more (record { call = calls.CleanForPool; what = ToldPassed (server_error x) }) h.calls (st.newest.call ∷ calls_in st.older) refl (all_begun s.context.spot h.calls st.newest.call st.older hd.at.1 hd.tie))))
+
+    drain_goes : (k : Kind) → kind_there s.context s.facts.columns p ≡ k → is_bad k ≡ false → is_failed k ≡ false → not_greets k ≡ true → Stands (with_task (after k) Draining false) h
+    drain_goes k e good calm quiet =
+        let following = not_greeting s.context.spot (deprecates_eof s.context.terms.kept) k in
+        goes s h st open_still nothing p rest next whole Draining Draining k e good calm refl refl hd (hd.at.0, following)
+        (none_waits (spot_after (deprecates_eof s.context.terms.kept) s.context.spot k) h.calls st.newest.call st.older following (all_begun s.context.spot h.calls st.newest.call st.older hd.at.1 hd.tie))
+        (λ _. quiet) (λ _. quiet) tt (hd.trying open_still)
+
+    draining_keeps : (k : Kind) → kind_there s.context s.facts.columns p ≡ k → is_breaking (react_draining k) ≡ false → Keeps (reacted s (after k) p (react_draining k)) h
+    draining_keeps (kinds.Greets n) e b = cc
+    draining_keeps (kinds.Good status) e b = drain_goes (kinds.Good status) e refl refl refl
+    draining_keeps kinds.Failed e b = pass_error (err_at (is_greeting s.context.spot) p) refl e
+    draining_keeps (kinds.Count n) e b = drain_goes (kinds.Count n) e refl refl refl
+    draining_keeps kinds.Column e b = drain_goes kinds.Column e refl refl refl
+    draining_keeps kinds.ColumnsDone e b = drain_goes kinds.ColumnsDone e refl refl refl
+    draining_keeps kinds.Row e b = drain_goes kinds.Row e refl refl refl
+    draining_keeps (kinds.End status) e b = drain_goes (kinds.End status) e refl refl refl
+    draining_keeps (kinds.Prepared params columns) e b = drain_goes (kinds.Prepared params columns) e refl refl refl
+    draining_keeps kinds.Parameter e b = drain_goes kinds.Parameter e refl refl refl
+    draining_keeps kinds.Field e b = drain_goes kinds.Field e refl refl refl
+    draining_keeps kinds.Bad e b = cc
+
   -- the reply to a statement to prepare
   prepare_keeps : (k : Kind) → HeardAs (Own Prepare) → s.task ≡ Own Prepare → kind_there s.context s.facts.columns p ≡ k → is_breaking (react_whole (Own Prepare) k) ≡ false → Keeps (reacted s (after k) p (react_whole (Own Prepare) k)) h
   prepare_keeps k hd task e b =
@@ -272,12 +305,12 @@ module _ (s : Seen) (h : History) (st : Stands s h) (open_still : s.closed ≡ f
       single_keeps (reactions.Readies false) (λ status f. pongs s h st open_still nothing p rest next whole status f hd)
       (λ f. refuse (Own Ping) Ping (err_at (is_greeting s.context.spot) p) refl hd f task refl refl refl refl hd.at.0 (tied_own (Own Ping) Ping refl hd.tie)) k e b
 
-  reset_keeps : (k : Kind) → HeardAs (Own Reset) → s.task ≡ Own Reset → kind_there s.context s.facts.columns p ≡ k → is_breaking (react_reset k) ≡ false → Keeps (reacted s (after k) p (react_reset k)) h
-  reset_keeps k hd task e b =
-      single_keeps (reactions.Goes Clearing)
-      (λ status f. goes s h st open_still nothing p rest next whole (Own Reset) Clearing (kinds.Good status) f refl refl refl refl hd
-      (hd.at.0, ap (λ (x : Spot). spot_after (deprecates_eof s.context.terms.kept) x (kinds.Good status)) hd.at.1) hd.tie (λ _. refl) (λ _. refl) tt (hd.trying open_still))
-      (λ f. refuse (Own Reset) Reset (err_at (is_greeting s.context.spot) p) refl hd f task refl refl refl refl hd.at.0 (tied_own (Own Reset) Reset refl hd.tie)) k e b
+  renewal_keeps : (c : CallKind) (k : Kind) → HeardAs (Own c) → s.task ≡ Own c → is_connecting (Own c) ≡ false → is_connect (kind_of (call_of c s.call)) ≡ false → sets_up c ≡ true → (has_connected h.calls ≡ true) × (s.context.spot ≡ spots.Single) → kind_there s.context s.facts.columns p ≡ k → is_breaking (react_renewal c k) ≡ false → Keeps (reacted s (after k) p (react_renewal c k)) h
+  renewal_keeps c k hd task free other own at e b =
+      single_keeps (reactions.Goes (Clearing c))
+      (λ status f. goes s h st open_still nothing p rest next whole (Own c) (Clearing c) (kinds.Good status) f refl refl refl refl hd
+      (own, at.0, ap (λ (x : Spot). spot_after (deprecates_eof s.context.terms.kept) x (kinds.Good status)) at.1) hd.tie (λ _. refl) (λ _. refl) tt (hd.trying open_still))
+      (λ f. refuse (Own c) c (err_at (is_greeting s.context.spot) p) refl hd f task refl refl free other at.0 (tied_own (Own c) c refl hd.tie)) k e b
 
   own_keeps : (c : CallKind) (k : Kind) → s.task ≡ Own c → HeardAs (Own c) → kind_there s.context s.facts.columns p ≡ k → is_breaking (react_own c k) ≡ false → Keeps (reacted s (after k) p (react_own c k)) h
   own_keeps Connect k task hd e b = connect_keeps k hd (ap is_connecting task) e b
@@ -291,11 +324,14 @@ module _ (s : Seen) (h : History) (st : Stands s h) (open_still : s.closed ≡ f
   own_keeps TakeSet k task hd e b = cc
   own_keeps SkipTaken k task hd e b = cc
   own_keeps Ping k task hd e b = ping_keeps k hd task e b
-  own_keeps Reset k task hd e b = reset_keeps k hd task e b
+  own_keeps Reset k task hd e b = renewal_keeps Reset k hd task refl refl refl hd.at e b
+  own_keeps ChangeUser k task hd e b = renewal_keeps ChangeUser k hd task refl refl refl hd.at e b
   own_keeps Begin k task hd e b = cc
   own_keeps Commit k task hd e b = cc
   own_keeps Rollback k task hd e b = cc
   own_keeps ForgetTransaction k task hd e b = cc
+  own_keeps CleanForPool k task hd e b = cc
+  own_keeps ResetForPool k task hd e b = renewal_keeps ResetForPool k hd task refl refl refl hd.at e b
   own_keeps Quit k task hd e b = cc
 
   rests : (k : Kind) (m : List Made) → has_connected m ≡ true → is_settled (spot_after (deprecates_eof s.context.terms.kept) s.context.spot k) ≡ true → s.closed ≡ false → cond (has_connected m) (is_settled (spot_after (deprecates_eof s.context.terms.kept) s.context.spot k)) (is_greeting (spot_after (deprecates_eof s.context.terms.kept) s.context.spot k)) ≡ true
@@ -440,10 +476,11 @@ module _ (s : Seen) (h : History) (st : Stands s h) (open_still : s.closed ≡ f
   react_keeps (Arranging n) task hd told k e b = arranging_keeps n k hd (ap is_connecting task) e b
   react_keeps (Running n) task hd told k e b = running_keeps n k hd task e b
   react_keeps (Finishing n) task hd told k e b = finishing_keeps n k hd task e b
-  react_keeps Clearing task hd told k e b = cc
+  react_keeps (Clearing c) task hd told k e b = cc
   react_keeps (Asking c n) task hd told k e b = asking_keeps c n k hd task e b
   react_keeps (Backing c) task hd told k e b = cc
   react_keeps (Reverting c) task hd told k e b = reverting_keeps c k task hd e b
+  react_keeps Draining task hd told k e b = draining_keeps task hd k e b
   react_keeps Reading task hd told k e b = reading_keeps (told refl) task hd k e b
   react_keeps Dropping task hd told k e b = dropping_keeps (told refl) task hd k e b
   react_keeps Taking task hd told k e b = taking_keeps (told refl) task hd k e b

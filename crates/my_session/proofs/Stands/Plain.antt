@@ -8,11 +8,11 @@ use Rattle.my_grammar.specs.Talk.{Start}
 use Rattle.my_reading.specs.declared.call.Call.{Call}
 use Rattle.my_reading.specs.declared.call.Call.TheVariants as calls
 use Rattle.my_reading.specs.declared.call.CallKind.{CallKind}
-use Rattle.my_reading.specs.declared.call.CallKind.TheVariants.{Connect, Query, Prepare, Execute, Batch, CloseStmt, NextRow, DropResult, TakeSet, SkipTaken, Ping, Reset, Begin, Commit, Rollback, ForgetTransaction, Quit}
+use Rattle.my_reading.specs.declared.call.CallKind.TheVariants.{Connect, Query, Prepare, Execute, Batch, CloseStmt, NextRow, DropResult, TakeSet, SkipTaken, Ping, Reset, ChangeUser, Begin, Commit, Rollback, ForgetTransaction, CleanForPool, ResetForPool, Quit}
 use Rattle.my_session.specs.declared.task.LinkFault.{LinkFault}
 use Rattle.my_session.specs.declared.task.LinkFault.TheVariants.{NoMemory}
 use Rattle.my_session.specs.declared.task.Task.{Task}
-use Rattle.my_session.specs.declared.task.Task.TheVariants.{Nothing, Begun, Cleaning, Undoing, Cleaned, Own, Giving, Arranging, Running, Finishing, Clearing, Asking, Backing, Reverting, Reading, Dropping, Taking, Skipping, Leaving, Failing}
+use Rattle.my_session.specs.declared.task.Task.TheVariants.{Nothing, Begun, Cleaning, Undoing, Cleaned, Own, Giving, Arranging, Running, Finishing, Clearing, Asking, Backing, Reverting, Draining, Reading, Dropping, Taking, Skipping, Leaving, Failing}
 use Rattle.my_reading.specs.Calls.{kind_of, call_of, is_unrefused}
 use Rattle.my_reading.specs.Statements.{first_statements}
 use Rattle.my_session.specs.Tasks.{kind_in, is_open}
@@ -90,10 +90,13 @@ call_is calls.TakeSet = refl
 call_is calls.SkipTaken = refl
 call_is calls.Ping = refl
 call_is calls.Reset = refl
+call_is (calls.ChangeUser change) = refl
 call_is (calls.Begin opts) = refl
 call_is calls.Commit = refl
 call_is calls.Rollback = refl
 call_is calls.ForgetTransaction = refl
+call_is calls.CleanForPool = refl
+call_is calls.ResetForPool = refl
 call_is calls.Quit = refl
 
 later_at : (spot : Spot) (connected : Bool) → is_settled spot ≡ true → cond connected (is_settled spot) (is_greeting spot) ≡ true → (connected ≡ true) × (is_settled spot ≡ true)
@@ -117,10 +120,13 @@ begun_at TakeSet spot connected e at = later_at spot connected e at
 begun_at SkipTaken spot connected e at = later_at spot connected e at
 begun_at Ping spot connected e at = later_at spot connected e at
 begun_at Reset spot connected e at = later_at spot connected e at
+begun_at ChangeUser spot connected e at = later_at spot connected e at
 begun_at Begin spot connected e at = later_at spot connected e at
 begun_at Commit spot connected e at = later_at spot connected e at
 begun_at Rollback spot connected e at = later_at spot connected e at
 begun_at ForgetTransaction spot connected e at = later_at spot connected e at
+begun_at CleanForPool spot connected e at = later_at spot connected e at
+begun_at ResetForPool spot connected e at = later_at spot connected e at
 begun_at Quit spot connected e at = later_at spot connected e at
 
 is_not : (b : Bool) → not b ≡ false → b ≡ true
@@ -139,7 +145,7 @@ module _ (s : Seen) (h : History) (st : Stands s h) (task : s.task ≡ Nothing) 
   off_at_rest e = subst (λ (t : Task). trial_at t s.trial ≡ true) task (st.heard.trying e)
 
   abbrev begun_as : Call → Bool → Seen
-  begun_as call closed = record { context = s.context; task = cond closed (Leaving (kind_of call)) (Begun (kind_of call)); call = call; untold = s.untold; taken = s.taken; closed = s.closed; ended = s.ended; number = s.number; unread = s.unread; owed = s.owed; facts = s.facts; statements = s.statements; status = s.status; trial = s.trial; login = s.login }
+  begun_as call closed = record { context = s.context; task = cond closed (Leaving (kind_of call)) (Begun (kind_of call)); call = call; untold = s.untold; taken = s.taken; closed = s.closed; ended = s.ended; number = s.number; unread = s.unread; owed = s.owed; facts = s.facts; statements = s.statements; status = s.status; account = s.account; trial = s.trial; login = s.login }
 
   by_closed : (call : Call) (closed : Bool) → s.closed ≡ closed → (s.closed ≡ false → AtBegun (kind_of call) s.context.spot) → is_refused closed (kind_of call) ≡ false → Stands (begun_as call closed) (began h call)
   by_closed call true e order free = record {
@@ -237,10 +243,11 @@ fails_as Giving c fault e = let same : Prepare ≡ c = cc in ap (λ (x : CallKin
 fails_as (Arranging n) c fault e = let same : Connect ≡ c = cc in ap (λ (x : CallKind). Failing x fault) same
 fails_as (Running n) c fault e = let same : Batch ≡ c = cc in ap (λ (x : CallKind). Failing x fault) same
 fails_as (Finishing n) c fault e = let same : Batch ≡ c = cc in ap (λ (x : CallKind). Failing x fault) same
-fails_as Clearing c fault e = let same : Reset ≡ c = cc in ap (λ (x : CallKind). Failing x fault) same
+fails_as (Clearing d) c fault e = let same : d ≡ c = cc in ap (λ (x : CallKind). Failing x fault) same
 fails_as (Asking d n) c fault e = let same : d ≡ c = cc in ap (λ (x : CallKind). Failing x fault) same
 fails_as (Backing d) c fault e = let same : d ≡ c = cc in ap (λ (x : CallKind). Failing x fault) same
 fails_as (Reverting d) c fault e = let same : d ≡ c = cc in ap (λ (x : CallKind). Failing x fault) same
+fails_as Draining c fault e = let same : CleanForPool ≡ c = cc in ap (λ (x : CallKind). Failing x fault) same
 fails_as Reading c fault e = let same : NextRow ≡ c = cc in ap (λ (x : CallKind). Failing x fault) same
 fails_as Dropping c fault e = let same : DropResult ≡ c = cc in ap (λ (x : CallKind). Failing x fault) same
 fails_as Taking c fault e = let same : TakeSet ≡ c = cc in ap (λ (x : CallKind). Failing x fault) same
@@ -264,10 +271,11 @@ fail_tie Giving c fault opened spot made call older e t = let same : Prepare ≡
 fail_tie (Arranging n) c fault opened spot made call older e t = let same : Connect ≡ c = cc in inl (subst (λ (x : CallKind). OwnsFirst (call_of x opened) (call ∷ calls_in older) (IsTied made)) same t)
 fail_tie (Running n) c fault opened spot made call older e t = let same : Batch ≡ c = cc in inl (subst (λ (x : CallKind). OwnsFirst (call_of x opened) (call ∷ calls_in older) (IsTied made)) same t)
 fail_tie (Finishing n) c fault opened spot made call older e t = let same : Batch ≡ c = cc in inl (subst (λ (x : CallKind). OwnsFirst (call_of x opened) (call ∷ calls_in older) (IsTied made)) same t)
-fail_tie Clearing c fault opened spot made call older e t = let same : Reset ≡ c = cc in inl (subst (λ (x : CallKind). OwnsFirst (call_of x opened) (call ∷ calls_in older) (IsTied made)) same t)
+fail_tie (Clearing d) c fault opened spot made call older e t = let same : d ≡ c = cc in inl (subst (λ (x : CallKind). OwnsFirst (call_of x opened) (call ∷ calls_in older) (IsTied made)) same t)
 fail_tie (Asking d n) c fault opened spot made call older e t = let same : d ≡ c = cc in inl (subst (λ (x : CallKind). OwnsFirst (call_of x opened) (call ∷ calls_in older) (IsTied made)) same t)
 fail_tie (Backing d) c fault opened spot made call older e t = let same : d ≡ c = cc in subst (λ (x : CallKind). TieIs (Failing x fault) opened spot made call older) same t
 fail_tie (Reverting d) c fault opened spot made call older e t = let same : d ≡ c = cc in inl (subst (λ (x : CallKind). OwnsFirst (call_of x opened) (call ∷ calls_in older) (IsTied made)) same t)
+fail_tie Draining c fault opened spot made call older e t = inr t
 fail_tie Reading c fault opened spot made call older e t = inr t
 fail_tie Dropping c fault opened spot made call older e t = inr t
 fail_tie Taking c fault opened spot made call older e t = inr t
@@ -278,7 +286,7 @@ fail_tie (Failing d old) c fault opened spot made call older e t = let same : d 
 pub failing_stands : (s : Seen) (h : History) (fault : LinkFault) → is_open s.task ≡ true → Stands s h → Stands (with_failing s fault) h
 failing_stands s h fault op st =
     let c = kind_there_is s.task op in
-    subst (λ (t : Task). Stands (record { context = s.context; task = t; call = s.call; untold = s.untold; taken = s.taken; closed = s.closed; ended = s.ended; number = s.number; unread = s.unread; owed = s.owed; facts = s.facts; statements = s.statements; status = s.status; trial = s.trial; login = s.login }) h) (sym (fails_as s.task c.0 fault c.1))
+    subst (λ (t : Task). Stands (record { context = s.context; task = t; call = s.call; untold = s.untold; taken = s.taken; closed = s.closed; ended = s.ended; number = s.number; unread = s.unread; owed = s.owed; facts = s.facts; statements = s.statements; status = s.status; account = s.account; trial = s.trial; login = s.login }) h) (sym (fails_as s.task c.0 fault c.1))
     (record {
       newest = st.newest;
       older = st.older;
@@ -348,10 +356,11 @@ no_task Giving e = cc
 no_task (Arranging n) e = cc
 no_task (Running n) e = cc
 no_task (Finishing n) e = cc
-no_task Clearing e = cc
+no_task (Clearing c) e = cc
 no_task (Asking c n) e = cc
 no_task (Backing c) e = cc
 no_task (Reverting c) e = cc
+no_task Draining e = cc
 no_task Reading e = cc
 no_task Dropping e = cc
 no_task Taking e = cc
@@ -399,10 +408,13 @@ begun_rests TakeSet spot connected at = rest_as spot connected at.0 at.1
 begun_rests SkipTaken spot connected at = rest_as spot connected at.0 at.1
 begun_rests Ping spot connected at = rest_as spot connected at.0 at.1
 begun_rests Reset spot connected at = rest_as spot connected at.0 at.1
+begun_rests ChangeUser spot connected at = rest_as spot connected at.0 at.1
 begun_rests Begin spot connected at = rest_as spot connected at.0 at.1
 begun_rests Commit spot connected at = rest_as spot connected at.0 at.1
 begun_rests Rollback spot connected at = rest_as spot connected at.0 at.1
 begun_rests ForgetTransaction spot connected at = rest_as spot connected at.0 at.1
+begun_rests CleanForPool spot connected at = rest_as spot connected at.0 at.1
+begun_rests ResetForPool spot connected at = rest_as spot connected at.0 at.1
 begun_rests Quit spot connected at = rest_as spot connected at.0 at.1
 
 task_rests : (t : Task) (spot : Spot) (closed connected : Bool) (count : ℕ) (newest : Entry) → closes_when_cancelled t spot ≡ false → TaskIs t spot closed connected count newest → closed ≡ false → cond connected (is_settled spot) (is_greeting spot) ≡ true
@@ -416,10 +428,11 @@ task_rests Giving spot closed connected count newest off at e = cc
 task_rests (Arranging n) spot closed connected count newest off at e = cc
 task_rests (Running n) spot closed connected count newest off at e = cc
 task_rests (Finishing n) spot closed connected count newest off at e = cc
-task_rests Clearing spot closed connected count newest off at e = cc
+task_rests (Clearing c) spot closed connected count newest off at e = cc
 task_rests (Asking c n) spot closed connected count newest off at e = cc
 task_rests (Backing c) spot closed connected count newest off at e = cc
 task_rests (Reverting c) spot closed connected count newest off at e = cc
+task_rests Draining spot closed connected count newest off at e = cc
 task_rests Reading spot closed connected count newest off at e = rest_as spot connected at.0 (settled_by spot at.1 off)
 task_rests Dropping spot closed connected count newest off at e = rest_as spot connected at.0 (settled_by spot at.1 off)
 task_rests Taking spot closed connected count newest off at e = rest_as spot connected at.0 (settled_by spot at.1 off)
@@ -438,10 +451,11 @@ task_keeps Giving spot closed connected count newest off at e op = cc
 task_keeps (Arranging n) spot closed connected count newest off at e op = cc
 task_keeps (Running n) spot closed connected count newest off at e op = cc
 task_keeps (Finishing n) spot closed connected count newest off at e op = cc
-task_keeps Clearing spot closed connected count newest off at e op = cc
+task_keeps (Clearing c) spot closed connected count newest off at e op = cc
 task_keeps (Asking c n) spot closed connected count newest off at e op = cc
 task_keeps (Backing c) spot closed connected count newest off at e op = cc
 task_keeps (Reverting c) spot closed connected count newest off at e op = cc
+task_keeps Draining spot closed connected count newest off at e op = cc
 task_keeps Reading spot closed connected count newest off at e op = refl
 task_keeps Dropping spot closed connected count newest off at e op = refl
 task_keeps Taking spot closed connected count newest off at e op = refl
@@ -460,10 +474,11 @@ task_owes Giving spot off = cc
 task_owes (Arranging n) spot off = cc
 task_owes (Running n) spot off = cc
 task_owes (Finishing n) spot off = cc
-task_owes Clearing spot off = refl
+task_owes (Clearing c) spot off = refl
 task_owes (Asking c n) spot off = cc
 task_owes (Backing c) spot off = cc
 task_owes (Reverting c) spot off = cc
+task_owes Draining spot off = refl
 task_owes Reading spot off = refl
 task_owes Dropping spot off = refl
 task_owes Taking spot off = refl

@@ -16,15 +16,16 @@ use Rattle.my_grammar.specs.Talk.{Talk, Start, Unwelcome, Greeted, Settled, Aske
 use Rattle.my_params.specs.declared.params.Params.{Params}
 use Rattle.my_reading.specs.declared.call.Call.TheVariants as calls
 use Rattle.my_reading.specs.declared.call.CallKind.{CallKind}
-use Rattle.my_reading.specs.declared.call.CallKind.TheVariants.{Connect, Query, Prepare, Execute, Batch, CloseStmt, NextRow, DropResult, TakeSet, SkipTaken, Ping, Reset, Begin, Commit, Rollback, ForgetTransaction, Quit}
+use Rattle.my_reading.specs.declared.call.CallKind.TheVariants.{Connect, Query, Prepare, Execute, Batch, CloseStmt, NextRow, DropResult, TakeSet, SkipTaken, Ping, Reset, ChangeUser, Begin, Commit, Rollback, ForgetTransaction, CleanForPool, ResetForPool, Quit}
 use Rattle.my_session.specs.declared.task.LinkFault.{LinkFault}
 use Rattle.my_session.specs.declared.task.LinkFault.TheVariants as faults
 use Rattle.my_session.specs.declared.task.Task.{Task}
-use Rattle.my_session.specs.declared.task.Task.TheVariants.{Nothing, Begun, Cleaning, Undoing, Cleaned, Own, Giving, Arranging, Running, Finishing, Clearing, Asking, Backing, Reverting, Reading, Dropping, Taking, Skipping, Leaving, Failing}
+use Rattle.my_session.specs.declared.task.Task.TheVariants.{Nothing, Begun, Cleaning, Undoing, Cleaned, Own, Giving, Arranging, Running, Finishing, Clearing, Asking, Backing, Reverting, Draining, Reading, Dropping, Taking, Skipping, Leaving, Failing}
 use Rattle.my_reading.specs.declared.error.Error.{Error}
 use Rattle.my_session.specs.declared.tables.Plan.{Plan}
 use Rattle.my_session.specs.declared.tables.Plan.TheVariants as plans
-use Rattle.my_reading.specs.Calls.{kind_of, call_of, id_in, lists_in, statement_in, text_in}
+use Rattle.my_reading.specs.Accounts.{changed}
+use Rattle.my_reading.specs.Calls.{kind_of, call_of, change_in, id_in, lists_in, statement_in, text_in}
 use Rattle.my_reading.specs.Executions.{values_for}
 use Rattle.my_reading.specs.Facts.{prepared_by}
 use Rattle.my_reading.specs.Statements.{cleared, held_in, is_mixed_text, leaving, names_of, query_of, statement_with, with_columns, with_fetched, without_statement}
@@ -46,15 +47,15 @@ use Rattle.my_reading.specs.Versions.{can_reset}
 use Rattle.my_handshake.specs.Version.{version_of}
 use Rattle.my_session.specs.Seen.{Seen}
 use Rattle.my_session.specs.ServerErrors.{errors_told, with_pending, with_told}
-use Rattle.my_session.specs.Stands.{Stands, Heard, TaskIs, TieIs, CleansAt, call_with, is_rollback, begun_of, is_first, is_left, is_shaking, is_lone, keeps, known_part, is_alive, is_off, is_refused_trial, trial_at}
+use Rattle.my_session.specs.Stands.{Stands, Heard, TaskIs, TieIs, CleansAt, call_with, is_rollback, begun_of, is_first, is_left, is_shaking, is_lone, keeps, known_part, is_alive, is_off, is_refused_trial, trial_at, trial_of}
 use Rattle.my_session.specs.Steps.{is_settled}
 use Rattle.my_session.specs.Tables.{react, is_breaking, plan_of, run_plan, clean_plan, leave_plan, own_plan, query_plan, execute_plan, prepare_plan, read_plan, drop_plan, take_plan, skip_plan, first_plan}
-use Rattle.my_session.proofs.CallKinds.{of_unrefused}
+use Rattle.my_session.proofs.CallKinds.{of_set_up, of_unrefused, set_up_queries}
 use Rattle.my_session.proofs.Stands.Asking.{asks_keep, runs_keep, queries_keep, undoes_keep, reverts_keep, returns_keep, arranges_keep, refused_or, values_or, closes_keep}
 use Rattle.my_session.proofs.Stands.Keeps.{Keeps, is_reader, react_keeps}
 use Rattle.my_session.proofs.Stands.Reacts.{falls, fell_stands}
 use Rattle.my_session.proofs.Stands.Spots.{settled_reads, settled_not_greeting, heading_not_greeting}
-use Rattle.my_session.proofs.Stands.Ties.{answered_stands, noted_stands, taken_stands, known_stands, status_stands, owns_all, closed_tie, at_greeting, quiet_more, arranged_more, first_count}
+use Rattle.my_session.proofs.Stands.Ties.{account_stands, answered_stands, noted_stands, taken_stands, known_stands, status_stands, owns_all, closed_tie, at_greeting, quiet_more, arranged_more, first_count}
 use Rattle.my_session.proofs.Stands.Firsts.{given_first, first_groups}
 use Rattle.my_session.proofs.Stands.Trials.{kept_off, off_unrefused, trial_as, tried_given, unpending}
 use Rattle.my_session.proofs.Stands.Views.{given_all}
@@ -116,10 +117,11 @@ none_untold Giving untold status hushed w = tt
 none_untold (Arranging n) untold status hushed w = tt
 none_untold (Running n) untold status hushed w = tt
 none_untold (Finishing n) untold status hushed w = tt
-none_untold Clearing untold status hushed w = tt
+none_untold (Clearing c) untold status hushed w = tt
 none_untold (Asking c n) untold status hushed w = tt
 none_untold (Backing c) untold status hushed w = w
 none_untold (Reverting c) untold status hushed w = w
+none_untold Draining untold status hushed w = tt
 none_untold Reading untold status hushed w = tt
 none_untold Dropping untold status hushed w = tt
 none_untold Taking untold status hushed w = tt
@@ -264,10 +266,14 @@ module _ (s : Seen) (h : History) (st : Stands s h) (open_still : s.closed ≡ f
   first_keeps SkipTaken hd = starts SkipTaken Skipping hd refl (hd.trying open_still) tt hd.at hd.tie
   first_keeps Ping hd = starts Ping (Cleaning Ping) hd refl (hd.trying open_still) (λ no. cc) (refl, hd.at.0, settled_not_greeting s.context.spot (settled_reads s.context.spot hd.at.1)) hd.tie
   first_keeps Reset hd = offered_keeps hd (can_reset (version_of s.facts.version))
+  first_keeps ChangeUser hd = account_stands (with_task s (Cleaning ChangeUser) s.untold) h (changed (change_in s.call) s.account)
+      (starts ChangeUser (Cleaning ChangeUser) hd refl (hd.trying open_still) (λ no. cc) (refl, hd.at.0, settled_not_greeting s.context.spot (settled_reads s.context.spot hd.at.1)) hd.tie)
   first_keeps Begin hd = starts Begin (Cleaning Begin) hd refl (hd.trying open_still) (λ no. cc) (refl, hd.at.0, settled_not_greeting s.context.spot (settled_reads s.context.spot hd.at.1)) hd.tie
   first_keeps Commit hd = starts_at Commit (Cleaning Commit) s.status trials.On hd refl refl refl (λ no. cc) (refl, hd.at.0, settled_not_greeting s.context.spot (settled_reads s.context.spot hd.at.1)) hd.tie
   first_keeps Rollback hd = starts_at Rollback (Cleaning Rollback) txs.RequiresRollback trials.Off hd refl refl refl (λ _. refl) (refl, hd.at.0, settled_not_greeting s.context.spot (settled_reads s.context.spot hd.at.1)) hd.tie
   first_keeps ForgetTransaction hd = status_stands (with_task s Nothing s.untold) (answered h ToldReady) (given_up s.status) (λ _. tt) (quiet (Begun ForgetTransaction) ForgetTransaction ToldReady hd refl refl refl refl refl refl refl hd.at.0 hd.at.1 hd.tie)
+  first_keeps CleanForPool hd = starts CleanForPool Draining hd refl (hd.trying open_still) tt (hd.at.0, settled_not_greeting s.context.spot (settled_reads s.context.spot hd.at.1)) hd.tie
+  first_keeps ResetForPool hd = starts ResetForPool (Cleaning ResetForPool) hd refl (hd.trying open_still) (λ no. cc) (refl, hd.at.0, settled_not_greeting s.context.spot (settled_reads s.context.spot hd.at.1)) hd.tie
   first_keeps Quit hd = starts Quit (Cleaning Quit) hd refl (hd.trying open_still) (λ no. cc) (refl, hd.at.0, settled_not_greeting s.context.spot (settled_reads s.context.spot hd.at.1)) hd.tie
 
   -- the end of a lone OK is dropped
@@ -377,9 +383,13 @@ module _ (s : Seen) (h : History) (st : Stands s h) (open_still : s.closed ≡ f
   known_now n task hd = known_stands (with_task s (Finishing n) s.untold) h (with_columns (id_in (call_of Batch s.call)) s.facts.columns s.statements)
       (goes_to (Running n) (Finishing n) s.status hd refl refl (hd.at.0, heading_not_greeting s.context.spot hd.at.1) hd.tie tt (hd.trying open_still))
 
-  -- after a reset no statement is cached any more
-  clears : HeardAs Clearing → Keeps (planned s plans.Clears) h
-  clears hd = known_stands (with_task s (Asking Reset 0) s.untold) h (cleared s.statements) (goes_to Clearing (Asking Reset 0) s.status hd refl refl (refl, hd.at.0, ap is_greeting hd.at.1) hd.tie tt (hd.trying open_still))
+  -- of a new session of the server no statement is cached
+  clears : (c : CallKind) → HeardAs (Clearing c) → Keeps (planned s (plans.Clears c)) h
+  clears c hd = known_stands (with_task s (Asking c 0) s.untold) h (cleared s.statements) (goes_to (Clearing c) (Asking c 0) s.status hd refl refl (set_up_queries c hd.at.0, hd.at.1, ap is_greeting hd.at.2) hd.tie tt (of_set_up (λ x. trial_of x s.trial ≡ true) (hd.trying open_still) (hd.trying open_still) (hd.trying open_still) c hd.at.0))
+
+  -- what was left for nobody was read: a transaction is given up, and rolled back
+  releases : HeardAs Draining → Keeps (planned s plans.Releases) h
+  releases hd = goes_to Draining (Cleaning CleanForPool) (given_up s.status) hd refl refl (refl, hd.at.0, hd.at.1) hd.tie (λ no. cc) (hd.trying open_still)
 
   -- a transaction that was given up is rolled back, and then there is none
   undone_keeps : (c : CallKind) → s.task ≡ Cleaning c → HeardAs (Cleaning c) → s.untold ≡ false → s.context.spot ≡ spots.Idle → (b : Bool) → is_given_up s.status ≡ b → Keeps (undone s c b) h
@@ -556,10 +566,13 @@ module _ (s : Seen) (h : History) (st : Stands s h) (open_still : s.closed ≡ f
   owns bytes SkipTaken task hd = absurd hd.at
   owns bytes Ping task hd = reads bytes (not_reader (Own Ping) task refl)
   owns bytes Reset task hd = reads bytes (not_reader (Own Reset) task refl)
+  owns bytes ChangeUser task hd = reads bytes (not_reader (Own ChangeUser) task refl)
   owns bytes Begin task hd = absurd hd.at
   owns bytes Commit task hd = absurd hd.at
   owns bytes Rollback task hd = absurd hd.at
   owns bytes ForgetTransaction task hd = absurd hd.at
+  owns bytes CleanForPool task hd = absurd hd.at
+  owns bytes ResetForPool task hd = reads bytes (not_reader (Own ResetForPool) task refl)
   owns bytes Quit task hd = falls s h ToldReady Quit (ap kind_in task) refl refl refl refl st
 
   -- the end of a lone OK is returned, or passed over
@@ -694,10 +707,11 @@ module _ (s : Seen) (h : History) (st : Stands s h) (open_still : s.closed ≡ f
   plan_keeps bytes sound (Arranging n) task hd = cleans bytes (Arranging n) task refl refl (plans.Arranges n) (arranges_keep s h st open_still nothing op n hd) s.context.spot refl s.untold refl
   plan_keeps bytes sound (Running n) task hd = runs bytes n task hd s.context.spot
   plan_keeps bytes sound (Finishing n) task hd = cleans bytes (Finishing n) task refl refl (plans.Runs n) (runs_keep s h st open_still nothing op n hd) s.context.spot refl s.untold refl
-  plan_keeps bytes sound Clearing task hd = clears hd
+  plan_keeps bytes sound (Clearing c) task hd = clears c hd
   plan_keeps bytes sound (Asking c n) task hd = cleans bytes (Asking c n) task refl refl (plans.Queries c n) (queries_keep s h st open_still nothing op c n hd) s.context.spot refl s.untold refl
   plan_keeps bytes sound (Backing c) task hd = reverts_keep s h st open_still nothing op c hd (subst (λ (t : Task). CleansAt t s.untold s.status st.newest.hushed) task st.cleans) (is_given_up s.status) refl
   plan_keeps bytes sound (Reverting c) task hd = cleans bytes (Reverting c) task refl refl plans.Returns (returns_keep s h st open_still nothing op c hd) s.context.spot refl s.untold refl
+  plan_keeps bytes sound Draining task hd = cleans bytes Draining task refl refl plans.Releases (λ _ _. releases hd) s.context.spot refl s.untold refl
   plan_keeps bytes sound Reading task hd = reading_plan bytes task hd s.untold refl
   plan_keeps bytes sound Dropping task hd = dropping_plan bytes task hd s.untold refl
   plan_keeps bytes sound Taking task hd = taking_plan bytes task hd s.untold refl
@@ -760,10 +774,11 @@ module _ (s : Seen) (h : History) (st : Stands s h) (bytes : AreBytes s.unread) 
   alive_or (Arranging n) task sound = inl (st.heard.alive (ap is_alive task))
   alive_or (Running n) task sound = inl (st.heard.alive (ap is_alive task))
   alive_or (Finishing n) task sound = inl (st.heard.alive (ap is_alive task))
-  alive_or Clearing task sound = inl (st.heard.alive (ap is_alive task))
+  alive_or (Clearing c) task sound = inl (st.heard.alive (ap is_alive task))
   alive_or (Asking c n) task sound = inl (st.heard.alive (ap is_alive task))
   alive_or (Backing c) task sound = inl (st.heard.alive (ap is_alive task))
   alive_or (Reverting c) task sound = inl (st.heard.alive (ap is_alive task))
+  alive_or Draining task sound = inl (st.heard.alive (ap is_alive task))
   alive_or Reading task sound = inl (st.heard.alive (ap is_alive task))
   alive_or Dropping task sound = inl (st.heard.alive (ap is_alive task))
   alive_or Taking task sound = inl (st.heard.alive (ap is_alive task))

@@ -15,8 +15,9 @@ use Rattle.my_grammar.specs.Growth.{grow, not_greets}
 use Rattle.my_grammar.specs.Kinds.{kind_there}
 use Rattle.my_grammar.specs.Talk.{context_of, origin}
 use Rattle.my_reading.specs.declared.call.Call.{Call}
+use Rattle.my_reading.specs.declared.call.Call.TheVariants as calls
 use Rattle.my_reading.specs.declared.call.CallKind.{CallKind}
-use Rattle.my_reading.specs.declared.call.CallKind.TheVariants.{Connect, Query, Execute, Ping}
+use Rattle.my_reading.specs.declared.call.CallKind.TheVariants.{CleanForPool, Connect, Query, Execute, Ping}
 use Rattle.my_session.specs.declared.task.Task.{Task}
 use Rattle.my_session.specs.declared.task.Task.TheVariants as tasks
 use Rattle.my_reading.specs.declared.error.Error.{Error}
@@ -31,8 +32,8 @@ use Rattle.my_session.specs.Tasks.{kind_in, is_open}
 use Rattle.my_session.specs.Entries.{AreHushed, Entry, Opens, terms_by, connecting_in, ends_answered, is_answered, facts_of, givens, onto, sets_of, calls_in, may_lack, connects, has_connected, IsTied}
 use Rattle.my_reading.specs.declared.facts.Facts.{Facts}
 use Rattle.my_session.specs.Groups.{Group, groups, given, given_after, with_item, with_stop}
-use Rattle.my_reading.specs.Told.{Told, ToldReady, ToldError, closes, closes_by}
-use Rattle.my_session.specs.History.{History, Made, answered, has_closed}
+use Rattle.my_reading.specs.Told.{Told, ToldReady, ToldError, ToldPassed, closes, closes_by}
+use Rattle.my_session.specs.History.{History, Made, answered, has_closed, noted}
 use Rattle.my_session.specs.Machine.{fell, with_status, with_task, with_trial, advanced, reply_to, reply_bytes, is_greeting}
 use Rattle.my_reading.specs.Rows.{row_at}
 use Rattle.my_session.specs.Seen.{Seen}
@@ -41,7 +42,7 @@ use Rattle.my_session.specs.Stands.{Stands, Heard, TaskIs, TieIs, IsArranged, Cl
 use Rattle.my_session.specs.Steps.{is_settled}
 use Rattle.my_session.proofs.Stands.Blames.{is_failed, calm_blames}
 use Rattle.my_session.proofs.Stands.Spots.{is_known, known, row_spot, end_spot, good_spot, failed_idle, settled_more, reading_after, left_here, not_greeting, settled_not_greeting}
-use Rattle.my_session.proofs.Stands.Ties.{answered_stands, kind_there_is, closed_tie, owns_all, quiet_more, all_begun, none_waits, arranged_more, arranged_fell}
+use Rattle.my_session.proofs.Stands.Ties.{answered_stands, noted_stands, kind_there_is, closed_tie, owns_all, quiet_more, all_begun, none_waits, arranged_more, arranged_fell}
 use Rattle.my_session.proofs.Stands.Trials.{hushed_grows, is_hushed, kept_off, not_hushed, not_over, off_unrefused, trial_grows, trial_over, tries, unpending}
 use Rattle.my_session.proofs.Stands.Firsts.{given_first, first_on, is_queried, IsReady, ready_on, query_talk, execute_talk}
 use Rattle.my_session.proofs.Stands.Views.{given_on, given_all, is_part, part_groups, end_groups, good_groups, lone_further, known_further, row_groups}
@@ -251,6 +252,23 @@ module _ (s : Seen) (h : History) (st : Stands s h) (open_still : s.closed ≡ f
         (sym (ap (λ (tr : Trial). with_pending tr (errors_told h.calls)) refused) ∙ hd.errors
         ∙ ap (λ b. unless_hushed b (errors_in st.newest.talk) ++ errors_of st.older) hushed_now
         ∙ ap (λ b. unless_hushed b (errors_in (grow Failed st.newest.talk p)) ++ errors_of st.older) (sym hushed_now)) tie
+
+    -- where it is passed over, the call goes on
+    pub drains : t ≡ tasks.Draining → c ≡ CleanForPool → is_off s.trial ≡ true → x ∷ errors_in st.newest.talk ≡ errors_in (grow Failed st.newest.talk p) → has_connected h.calls ≡ true → IsTied (record { call = calls.CleanForPool; what = ToldPassed x } ∷ h.calls) (begun_of (spot_by Failed) st.newest.call st.older) → Stands (with_task (advanced s Failed p rest next) tasks.Draining false) (noted h (ToldPassed x))
+    drains draining cleans off blame made tie = noted_stands (with_task (advanced s Failed p rest next) tasks.Draining false) h calls.CleanForPool (ToldPassed x) (hd.pending_is ∙ ap (λ k. call_with k s.call) (call ∙ ap Some cleans)) (lands_as Failed tasks.Draining false s.status s.trial st.newest.given _ (Some calls.CleanForPool) e refl (record {
+      pending_is = refl;
+      closed_is = hd.closed_is;
+      alive = λ _. open_still;
+      given_is = hd.given_is;
+      errors = unpending s.trial (x ∷ errors_told h.calls) (off_unrefused s.trial off) ∙ heard_on blame (off_unrefused s.trial off);
+      trying = λ _. off;
+      each = (given_on st.newest.given Failed st.newest.talk p hd.each.0, hd.each.1);
+      lone = λ no. cc;
+      fresh = λ _ no _. cc;
+      at = (made, not_greeting s.context.spot (deprecates_eof s.context.terms.kept) Failed);
+      first = λ no. no_greeting Failed no;
+      tie = tie;
+    }) (arranged_on Failed st.newest.given (record { call = calls.CleanForPool; what = ToldPassed x } ∷ h.calls) e refl (λ _. refl) (arranged_more s.login (record { call = calls.CleanForPool; what = ToldPassed x }) h.calls st.newest st.older refl st.arranged)) (λ _. refl) tt (trial_over s.trial (spot_by Failed) (newest_by Failed st.newest.given) st.older (off_unrefused s.trial off) (ap is_idle idle)))
 
     -- while it isn't connected, it closes the session
     pub refuses_connect : is_off s.trial ≡ true → x ∷ errors_in st.newest.talk ≡ errors_in (grow Failed st.newest.talk p) → c ≡ Connect → IsTied (record { call = call_of Connect s.call; what = ToldError (errors.Server x) } ∷ h.calls) (begun_of (spot_by Failed) st.newest.call st.older) → Stands (fell (advanced s Failed p rest next)) (answered h (ToldError (errors.Server x)))

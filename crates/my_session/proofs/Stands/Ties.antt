@@ -1,19 +1,20 @@
 -- A call's answer beside the exchanges that belong to calls.
 use Rattle.std.proofs.Common.{◌≡◌, ◌⊎◌, suc, List, [], ◌∷◌, ◌||◌, Bool, true, false, cond, Option, Some, None, inl, inr, refl, sym, ap, ◌∙◌, subst}
+use Rattle.my_grammar.specs.declared.account.Account.{Account}
 use Rattle.my_grammar.specs.declared.login.Login.{Login}
 use Rattle.my_grammar.specs.declared.spot.Spot.{Spot}
 use Rattle.my_reading.specs.declared.call.Call.{Call}
 use Rattle.my_reading.specs.declared.call.Call.TheVariants as calls
 use Rattle.my_reading.specs.declared.call.CallKind.{CallKind}
-use Rattle.my_reading.specs.declared.call.CallKind.TheVariants.{Connect, Query, Prepare, Execute, Batch, CloseStmt, NextRow, DropResult, TakeSet, SkipTaken, Ping, Reset, Begin, Commit, Rollback, ForgetTransaction, Quit}
+use Rattle.my_reading.specs.declared.call.CallKind.TheVariants.{Connect, Query, Prepare, Execute, Batch, CloseStmt, NextRow, DropResult, TakeSet, SkipTaken, Ping, Reset, ChangeUser, Begin, Commit, Rollback, ForgetTransaction, CleanForPool, ResetForPool, Quit}
 use Rattle.my_session.specs.declared.task.Task.{Task}
 use Rattle.my_session.specs.declared.task.Task.TheVariants as tasks
 use Rattle.my_reading.specs.Calls.{kind_of, call_of, is_connect, asks}
 use Rattle.my_session.specs.Tasks.{kind_in, is_open}
 use Rattle.my_session.specs.Entries.{Entry, calls_in, connecting_in, connects, has_connected, owns_more, OwnsFirst, IsTied, may_lack}
-use Rattle.my_reading.specs.Told.{Told, ToldReady, ToldRow, ToldEnd, ToldNone, ToldStatement, ToldFlag, ToldError, Dropped, closes}
+use Rattle.my_reading.specs.Told.{Told, ToldReady, ToldRow, ToldEnd, ToldNone, ToldStatement, ToldFlag, ToldError, ToldPassed, Dropped, closes}
 use Rattle.my_session.specs.History.{History, Made, answered, noted, with_answer}
-use Rattle.my_session.specs.Machine.{is_greeting, with_statements, with_status, with_taken}
+use Rattle.my_session.specs.Machine.{with_account, is_greeting, with_statements, with_status, with_taken}
 use Rattle.my_reading.specs.declared.transaction.TxStatus.{TxStatus}
 use Rattle.my_reading.specs.Statements.{Statements}
 use Rattle.my_session.specs.Seen.{Seen}
@@ -30,6 +31,10 @@ noted_stands s h c t e st = subst (λ (o : Option Call). Stands s (record { sent
 -- no history tells whether a stream took the set
 pub taken_stands : (s : Seen) (h : History) → Stands s h → Stands (with_taken s) h
 taken_stands s h st = record { newest = st.newest; older = st.older; wire = st.wire; heard = st.heard; arranged = st.arranged; ended_is = st.ended_is; settled = st.settled; cleans = st.cleans; tried = st.tried }
+
+-- nor what account the options have
+pub account_stands : (s : Seen) (h : History) (account : Account) → Stands s h → Stands (with_account s account) h
+account_stands s h account st = record { newest = st.newest; older = st.older; wire = st.wire; heard = st.heard; arranged = st.arranged; ended_is = st.ended_is; settled = st.settled; cleans = st.cleans; tried = st.tried }
 
 -- nor which prepared statements are known
 pub known_stands : (s : Seen) (h : History) (known : Statements) → Stands s h → Stands (with_statements s known) h
@@ -50,10 +55,11 @@ kind_there_is tasks.Giving e = (Prepare, refl)
 kind_there_is (tasks.Arranging n) e = (Connect, refl)
 kind_there_is (tasks.Running n) e = (Batch, refl)
 kind_there_is (tasks.Finishing n) e = (Batch, refl)
-kind_there_is tasks.Clearing e = (Reset, refl)
+kind_there_is (tasks.Clearing c) e = (c, refl)
 kind_there_is (tasks.Asking c n) e = (c, refl)
 kind_there_is (tasks.Backing c) e = (c, refl)
 kind_there_is (tasks.Reverting c) e = (c, refl)
+kind_there_is tasks.Draining e = (CleanForPool, refl)
 kind_there_is tasks.Reading e = (NextRow, refl)
 kind_there_is tasks.Dropping e = (DropResult, refl)
 kind_there_is tasks.Taking e = (TakeSet, refl)
@@ -74,10 +80,13 @@ asks_not TakeSet opened e = cc
 asks_not SkipTaken opened e = cc
 asks_not Ping opened e = refl
 asks_not Reset opened e = refl
+asks_not ChangeUser opened e = refl
 asks_not Begin opened e = refl
 asks_not Commit opened e = refl
 asks_not Rollback opened e = refl
 asks_not ForgetTransaction opened e = cc
+asks_not CleanForPool opened e = refl
+asks_not ResetForPool opened e = refl
 asks_not Quit opened e = refl
 
 -- after the first of the exchanges that a call owns
@@ -115,7 +124,7 @@ closed_tie (tasks.Arranging n) c opened spot made call older m k e lack t = let 
 closed_tie tasks.Giving c opened spot made call older m k e lack t = let same : Prepare ≡ c = cc in owned_tie Prepare c opened spot made call older m same e lack t
 closed_tie (tasks.Running n) c opened spot made call older m k e lack t = let same : Batch ≡ c = cc in owned_tie Batch c opened spot made call older m same e lack t
 closed_tie (tasks.Finishing n) c opened spot made call older m k e lack t = let same : Batch ≡ c = cc in owned_tie Batch c opened spot made call older m same e lack t
-closed_tie tasks.Clearing c opened spot made call older m k e lack t = let same : Reset ≡ c = cc in owned_tie Reset c opened spot made call older m same e lack t
+closed_tie (tasks.Clearing d) c opened spot made call older m k e lack t = let same : d ≡ c = cc in owned_tie d c opened spot made call older m same e lack t
 closed_tie (tasks.Asking d n) c opened spot made call older m k e lack t = let same : d ≡ c = cc in owned_tie d c opened spot made call older m same e lack t
 closed_tie (tasks.Backing d) c opened spot made call older m k e lack t =
     let same : d ≡ c = cc in
@@ -124,6 +133,7 @@ closed_tie (tasks.Backing d) c opened spot made call older m k e lack t =
       | inr w ↦ inl (lack, w)
     ]
 closed_tie (tasks.Reverting d) c opened spot made call older m k e lack t = let same : d ≡ c = cc in owned_tie d c opened spot made call older m same e lack t
+closed_tie tasks.Draining c opened spot made call older m k e lack t = inl (lack, t)
 closed_tie tasks.Reading c opened spot made call older m k e lack t = inl (lack, t)
 closed_tie tasks.Dropping c opened spot made call older m k e lack t = inl (lack, t)
 closed_tie tasks.Taking c opened spot made call older m k e lack t = inl (lack, t)
@@ -170,10 +180,13 @@ closes_unmade ToldReady TakeSet e = refl
 closes_unmade ToldReady SkipTaken e = refl
 closes_unmade ToldReady Ping e = refl
 closes_unmade ToldReady Reset e = refl
+closes_unmade ToldReady ChangeUser e = refl
 closes_unmade ToldReady Begin e = refl
 closes_unmade ToldReady Commit e = refl
 closes_unmade ToldReady Rollback e = refl
 closes_unmade ToldReady ForgetTransaction e = refl
+closes_unmade ToldReady CleanForPool e = refl
+closes_unmade ToldReady ResetForPool e = refl
 closes_unmade ToldReady Quit e = refl
 closes_unmade (ToldRow row) c e = refl
 closes_unmade ToldEnd c e = refl
@@ -181,6 +194,7 @@ closes_unmade ToldNone c e = refl
 closes_unmade (ToldStatement statement) c e = refl
 closes_unmade (ToldFlag flag) c e = refl
 closes_unmade (ToldError x) c e = refl
+closes_unmade (ToldPassed x) c e = refl
 closes_unmade (Dropped closing) c e = refl
 
 -- nor does what closes the session

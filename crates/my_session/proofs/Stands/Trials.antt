@@ -8,12 +8,12 @@ use Rattle.my_grammar.specs.Contexts.{is_bad}
 use Rattle.my_grammar.specs.Cut.{is_idle}
 use Rattle.my_grammar.specs.Talk.{Talk, origin}
 use Rattle.my_reading.specs.declared.call.CallKind.{CallKind}
-use Rattle.my_reading.specs.declared.call.CallKind.TheVariants.{Connect, Query, Prepare, Execute, Batch, CloseStmt, NextRow, DropResult, TakeSet, SkipTaken, Ping, Reset, Begin, Commit, Rollback, ForgetTransaction, Quit}
+use Rattle.my_reading.specs.declared.call.CallKind.TheVariants.{Connect, Query, Prepare, Execute, Batch, CloseStmt, NextRow, DropResult, TakeSet, SkipTaken, Ping, Reset, ChangeUser, Begin, Commit, Rollback, ForgetTransaction, CleanForPool, ResetForPool, Quit}
 use Rattle.my_reading.specs.declared.error.ServerError.{ServerError}
 use Rattle.my_reading.specs.declared.transaction.Trial.{Trial}
 use Rattle.my_reading.specs.declared.transaction.Trial.TheVariants as trials
 use Rattle.my_session.specs.declared.task.Task.{Task}
-use Rattle.my_session.specs.declared.task.Task.TheVariants.{Nothing, Begun, Cleaning, Undoing, Cleaned, Own, Giving, Arranging, Running, Finishing, Clearing, Asking, Backing, Reverting, Reading, Dropping, Taking, Skipping, Leaving, Failing}
+use Rattle.my_session.specs.declared.task.Task.TheVariants.{Nothing, Begun, Cleaning, Undoing, Cleaned, Own, Giving, Arranging, Running, Finishing, Clearing, Asking, Backing, Reverting, Draining, Reading, Dropping, Taking, Skipping, Leaving, Failing}
 use Rattle.my_session.specs.Entries.{Entry, AreHushed, EndedBy, IsHushed, terms_by}
 use Rattle.my_session.specs.Groups.{Group}
 use Rattle.my_session.specs.ServerErrors.{with_pending}
@@ -73,10 +73,13 @@ commits TakeSet e = cc
 commits SkipTaken e = cc
 commits Ping e = cc
 commits Reset e = cc
+commits ChangeUser e = cc
 commits Begin e = cc
 commits Commit e = refl
 commits Rollback e = cc
 commits ForgetTransaction e = cc
+commits CleanForPool e = cc
+commits ResetForPool e = cc
 commits Quit e = cc
 
 kind_unrefused : (c : CallKind) (tr : Trial) → trial_of c tr ≡ true → is_refused_trial tr ≡ false
@@ -92,10 +95,13 @@ kind_unrefused TakeSet tr e = off_unrefused tr e
 kind_unrefused SkipTaken tr e = off_unrefused tr e
 kind_unrefused Ping tr e = off_unrefused tr e
 kind_unrefused Reset tr e = off_unrefused tr e
+kind_unrefused ChangeUser tr e = off_unrefused tr e
 kind_unrefused Begin tr e = off_unrefused tr e
 kind_unrefused Commit tr e = on_unrefused tr e
 kind_unrefused Rollback tr e = off_unrefused tr e
 kind_unrefused ForgetTransaction tr e = off_unrefused tr e
+kind_unrefused CleanForPool tr e = off_unrefused tr e
+kind_unrefused ResetForPool tr e = off_unrefused tr e
 kind_unrefused Quit tr e = off_unrefused tr e
 
 -- the tasks of a trial that may have been refused
@@ -116,10 +122,11 @@ unrefused_at Giving tr free e = off_unrefused tr e
 unrefused_at (Arranging n) tr free e = off_unrefused tr e
 unrefused_at (Running n) tr free e = off_unrefused tr e
 unrefused_at (Finishing n) tr free e = off_unrefused tr e
-unrefused_at Clearing tr free e = off_unrefused tr e
+unrefused_at (Clearing c) tr free e = off_unrefused tr e
 unrefused_at (Asking c n) tr free e = kind_unrefused c tr e
 unrefused_at (Backing c) tr free e = cc
 unrefused_at (Reverting c) tr free e = cc
+unrefused_at Draining tr free e = off_unrefused tr e
 unrefused_at Reading tr free e = off_unrefused tr e
 unrefused_at Dropping tr free e = off_unrefused tr e
 unrefused_at Taking tr free e = off_unrefused tr e
@@ -139,10 +146,11 @@ kept_off Giving tr kept e = cc
 kept_off (Arranging n) tr kept e = cc
 kept_off (Running n) tr kept e = cc
 kept_off (Finishing n) tr kept e = cc
-kept_off Clearing tr kept e = cc
+kept_off (Clearing c) tr kept e = cc
 kept_off (Asking c n) tr kept e = cc
 kept_off (Backing c) tr kept e = cc
 kept_off (Reverting c) tr kept e = cc
+kept_off Draining tr kept e = cc
 kept_off Reading tr kept e = e
 kept_off Dropping tr kept e = e
 kept_off Taking tr kept e = e
@@ -162,10 +170,11 @@ tries Giving c k alive e = cc
 tries (Arranging n) c k alive e = cc
 tries (Running n) c k alive e = cc
 tries (Finishing n) c k alive e = cc
-tries Clearing c k alive e = cc
+tries (Clearing d) c k alive e = cc
 tries (Asking d n) c k alive e = let same : d ≡ c = cc in sym same ∙ commits d e
 tries (Backing d) c k alive e = cc
 tries (Reverting d) c k alive e = cc
+tries Draining c k alive e = cc
 tries Reading c k alive e = cc
 tries Dropping c k alive e = cc
 tries Taking c k alive e = cc
@@ -185,10 +194,11 @@ reverts Giving first spot closed connected count newest alive e at = cc
 reverts (Arranging n) first spot closed connected count newest alive e at = cc
 reverts (Running n) first spot closed connected count newest alive e at = cc
 reverts (Finishing n) first spot closed connected count newest alive e at = cc
-reverts Clearing first spot closed connected count newest alive e at = cc
+reverts (Clearing c) first spot closed connected count newest alive e at = cc
 reverts (Asking c n) first spot closed connected count newest alive e at = let no : true ≡ false = kind_unrefused c (trials.Refused first) e in cc
 reverts (Backing c) first spot closed connected count newest alive e at = ap Some at.0
 reverts (Reverting c) first spot closed connected count newest alive e at = ap Some at.0
+reverts Draining first spot closed connected count newest alive e at = cc
 reverts Reading first spot closed connected count newest alive e at = cc
 reverts Dropping first spot closed connected count newest alive e at = cc
 reverts Taking first spot closed connected count newest alive e at = cc
@@ -208,10 +218,11 @@ reads_alive Giving k e = refl
 reads_alive (Arranging n) k e = refl
 reads_alive (Running n) k e = refl
 reads_alive (Finishing n) k e = refl
-reads_alive Clearing k e = refl
+reads_alive (Clearing c) k e = refl
 reads_alive (Asking c n) k e = refl
 reads_alive (Backing c) k e = refl
 reads_alive (Reverting c) k e = refl
+reads_alive Draining k e = refl
 reads_alive Reading k e = refl
 reads_alive Dropping k e = refl
 reads_alive Taking k e = refl

@@ -33,7 +33,7 @@ use Rattle.my_session.specs.declared.task.LinkFault.{LinkFault}
 use Rattle.my_session.specs.declared.task.Task.{Task}
 use Rattle.my_session.specs.declared.task.Task.TheVariants.{Nothing, Cleaning, Undoing, Own, Giving, Arranging, Running, Asking, Reverting}
 use Rattle.my_session.specs.Machine as machine
-use Rattle.my_session.specs.Machine.{Move, Sends, Needs, Does, advanced, reply_to, above, unless_above, refused, refused_by_server, returned, reverted, gave, passed, reacted, read_by, reading, next_terms, unless_exceeds, unless_refused, refusal, is_doubled, looked, with_kept, kept, asked, arranged, offered, undone, queried_by, admitted, planned, when_owed, next_by, next, refused_by, batched, ran}
+use Rattle.my_session.specs.Machine.{Move, Sends, Needs, Does, advanced, reply_to, above, unless_above, refused, refused_by_server, returned, reverted, gave, passed, passed_error, renewing, reacted, read_by, reading, next_terms, unless_exceeds, unless_refused, refusal, is_doubled, looked, with_kept, kept, asked, arranged, offered, undone, queried_by, admitted, planned, when_owed, next_by, next, refused_by, batched, ran}
 use Rattle.my_session.specs.Seen.{Seen}
 use Rattle.my_session.specs.Steps.{Steps, last_tick, moved}
 use Rattle.my_session.specs.Tables.{is_breaking, is_connecting, plan_of, react}
@@ -69,6 +69,10 @@ module _ (s : Seen) where
   passed_fewer n None few = omega arith
   passed_fewer n (Some row) few = few
 
+  passed_error_fewer : (n : Seen) (e : Option ErrPacket) → length n.unread ≤ length s.unread → Fewer (passed_error s n e)
+  passed_error_fewer n None few = omega arith
+  passed_error_fewer n (Some e) few = few
+
   reacted_fewer : (n : Seen) (p : List ℕ) (r : Reaction) → length n.unread ≤ length s.unread → Fewer (reacted s n p r)
   reacted_fewer n p (reactions.Goes t) few = few
   reacted_fewer n p (reactions.Readies untold) few = few
@@ -77,6 +81,7 @@ module _ (s : Seen) where
   reacted_fewer n p reactions.Ends few = few
   reacted_fewer n p reactions.PassesRow few = passed_fewer n (row_at s.context.rows s.facts.columns p) few
   reacted_fewer n p reactions.PassesEnd few = few
+  reacted_fewer n p reactions.PassesError few = passed_error_fewer n _ few
   reacted_fewer n p reactions.Refuses few = refused_fewer n _ few
   reacted_fewer n p reactions.Breaks few = omega arith
 
@@ -173,7 +178,9 @@ module _ (s : Seen) where
   plan_fewer (plans.Notes n) = omega arith
   plan_fewer plans.Forgets = omega arith
   plan_fewer plans.Resets = offered_fewer (can_reset (version_of s.facts.version))
-  plan_fewer plans.Clears = omega arith
+  plan_fewer plans.Adopts = omega arith
+  plan_fewer (plans.Renews c) = begins_if s (Own c) (renewing s c) _ (omega arith)
+  plan_fewer (plans.Clears c) = omega arith
   plan_fewer (plans.Queries c n) = queried_fewer c n (slice_get (queries_of s.login c s.call) n)
   plan_fewer (plans.Undoes c) = undone_fewer c (is_given_up s.status)
   plan_fewer (plans.Settles c) = omega arith
@@ -182,6 +189,7 @@ module _ (s : Seen) where
   plan_fewer (plans.Reverts c) = reverted_fewer c (is_given_up s.status)
   plan_fewer plans.Returns = returned_fewer s.trial
   plan_fewer plans.GivesUp = omega arith
+  plan_fewer plans.Releases = omega arith
   plan_fewer plans.Forsakes = omega arith
   plan_fewer (plans.Asks c) = unless_refused_fewer (refusal c s.call) (asked s (Own c) (command_of (next_terms s) s.statements (call_of c s.call))) (asked_fewer (Own c) (command_of (next_terms s) s.statements (call_of c s.call)))
   plan_fewer (plans.Arranges n) = arranged_fewer n (connecting s.login (next_terms s) (suc n))

@@ -27,10 +27,10 @@ use Rattle.my_reading.specs.Facts.{prepared_by}
 use Rattle.my_reading.specs.Statements.{held_in, is_mixed_text, known_in, leaving, query_of}
 use Rattle.my_grammar.proofs.Cutting.Fronts.{takes_whole}
 use Rattle.my_reading.specs.declared.call.CallKind.{CallKind}
-use Rattle.my_reading.specs.declared.call.CallKind.TheVariants.{Connect, Query, Prepare, Execute, Batch, CloseStmt, NextRow, DropResult, TakeSet, SkipTaken, Ping, Reset, Begin, Commit, Rollback, ForgetTransaction, Quit}
+use Rattle.my_reading.specs.declared.call.CallKind.TheVariants.{Connect, Query, Prepare, Execute, Batch, CloseStmt, NextRow, DropResult, TakeSet, SkipTaken, Ping, Reset, ChangeUser, Begin, Commit, Rollback, ForgetTransaction, CleanForPool, ResetForPool, Quit}
 use Rattle.my_session.specs.declared.task.LinkFault.{LinkFault}
 use Rattle.my_session.specs.declared.task.Task.{Task}
-use Rattle.my_session.specs.declared.task.Task.TheVariants.{Nothing, Begun, Cleaning, Undoing, Cleaned, Own, Giving, Arranging, Running, Finishing, Clearing, Asking, Backing, Reverting, Reading, Dropping, Taking, Skipping, Leaving, Failing}
+use Rattle.my_session.specs.declared.task.Task.TheVariants.{Nothing, Begun, Cleaning, Undoing, Cleaned, Own, Giving, Arranging, Running, Finishing, Clearing, Asking, Backing, Reverting, Draining, Reading, Dropping, Taking, Skipping, Leaving, Failing}
 use Rattle.my_reading.specs.declared.error.Error.{Error}
 use Rattle.my_reading.specs.declared.error.Error.TheVariants as errors
 use Rattle.my_session.specs.declared.tables.Plan.{Plan}
@@ -41,14 +41,14 @@ use Rattle.my_session.specs.declared.answer.Tick.{Tick}
 use Rattle.my_session.specs.declared.answer.Tick.TheVariants as ticks
 use Rattle.my_reading.specs.Calls.{call_of, id_in, is_quit, opts_in, params_in, statement_in, text_in, lists_in}
 use Rattle.my_session.specs.Tasks.{is_open, fault_in}
-use Rattle.my_reading.specs.Commands.{arranging, arranging_texts, closing, command_of, execution, queried}
+use Rattle.my_reading.specs.Commands.{arranging, arranging_texts, closing, command_of, execution, queried, renewal_packet, renews_by_reset}
 use Rattle.my_reading.specs.declared.error.ServerError.{ServerError}
 use Rattle.my_reading.specs.declared.transaction.Trial.{Trial}
 use Rattle.my_reading.specs.declared.transaction.Trial.TheVariants as trials
 use Rattle.my_reading.specs.declared.transaction.TxStatus.TheVariants as txs
 use Rattle.my_reading.specs.Errors.{invalid_data, server_error, unexpected_eof}
 use Rattle.my_session.specs.Machine as machine
-use Rattle.my_session.specs.Machine.{Move, Doing, Goes, Sends, Needs, Tells, Did, Does, FaultIs, fell, with_status, with_task, with_trial, advanced, reply_to, above, unless_above, backing, refused, refused_by_server, returned, reverted, gave, passed, reacted, read_by, read_kind, reading, next_terms, unless_exceeds, unless_refused, refusal, is_doubled, looked, with_kept, kept, asked, arranged, offered, begins, undone, queried_by, admitted, planned, when_owed, next_by, next, doing, refused_by, batched, ran}
+use Rattle.my_session.specs.Machine.{Move, Doing, Goes, Sends, Needs, Tells, Did, Does, FaultIs, fell, with_status, with_task, with_trial, advanced, reply_to, above, unless_above, backing, refused, refused_by_server, returned, reverted, gave, passed, passed_error, renewing, reacted, read_by, read_kind, reading, next_terms, unless_exceeds, unless_refused, refusal, is_doubled, looked, with_kept, kept, asked, arranged, offered, begins, undone, queried_by, admitted, planned, when_owed, next_by, next, doing, refused_by, batched, ran}
 use Rattle.my_reading.specs.Rows.{row_at}
 use Rattle.my_reading.specs.Transactions.{begin_refusal, is_given_up, rollback_text}
 use Rattle.my_reading.specs.Versions.{can_reset}
@@ -56,7 +56,7 @@ use Rattle.my_session.specs.Queries.{queries_of}
 use Rattle.my_handshake.specs.Version.{version_of}
 use Rattle.my_session.specs.Seen.{Seen}
 use Rattle.my_session.specs.Steps.{rank, left_to_do, TickIs}
-use Rattle.my_session.specs.Tables.{plan_of, react, react_whole, react_connect, react_own, react_single, is_breaking, is_connecting, first_plan, clean_plan, own_plan, query_plan, execute_plan, prepare_plan, read_plan, drop_plan, take_plan, skip_plan, ask_plan, run_plan, react_head}
+use Rattle.my_session.specs.Tables.{plan_of, react, react_whole, react_connect, react_draining, react_own, react_single, is_breaking, is_connecting, first_plan, clean_plan, own_plan, query_plan, execute_plan, prepare_plan, read_plan, drop_plan, take_plan, skip_plan, ask_plan, run_plan, react_head}
 use Rattle.my_params.specs.declared.params.Params.{Params}
 use Rattle.my_session.proofs.Stands.Ties.{kind_there_is}
 
@@ -141,12 +141,29 @@ own_goes DropResult k = tt
 own_goes TakeSet k = tt
 own_goes SkipTaken k = tt
 own_goes Ping k = single_goes (reactions.Readies false) k tt
-own_goes Reset k = single_goes (reactions.Goes Clearing) k (refl, omega arith)
+own_goes Reset k = single_goes (reactions.Goes (Clearing Reset)) k (refl, omega arith)
+own_goes ChangeUser k = single_goes (reactions.Goes (Clearing ChangeUser)) k (refl, omega arith)
 own_goes Begin k = tt
 own_goes Commit k = tt
 own_goes Rollback k = tt
 own_goes ForgetTransaction k = tt
+own_goes CleanForPool k = tt
+own_goes ResetForPool k = single_goes (reactions.Goes (Clearing ResetForPool)) k (refl, omega arith)
 own_goes Quit k = tt
+
+drain_goes : (k : Kind) → GoesOn (react_draining k)
+drain_goes (kinds.Greets n) = tt
+drain_goes (kinds.Good status) = (refl, omega arith)
+drain_goes kinds.Failed = tt
+drain_goes (kinds.Count n) = (refl, omega arith)
+drain_goes kinds.Column = (refl, omega arith)
+drain_goes kinds.ColumnsDone = (refl, omega arith)
+drain_goes kinds.Row = (refl, omega arith)
+drain_goes (kinds.End status) = (refl, omega arith)
+drain_goes (kinds.Prepared params columns) = (refl, omega arith)
+drain_goes kinds.Parameter = (refl, omega arith)
+drain_goes kinds.Field = (refl, omega arith)
+drain_goes kinds.Bad = tt
 
 react_goes : (t : Task) (k : Kind) → GoesOn (react t k)
 react_goes Nothing k = tt
@@ -159,10 +176,11 @@ react_goes Giving k = tt
 react_goes (Arranging n) k = whole_goes (Arranging n) refl (omega arith) k
 react_goes (Running n) k = head_goes (reactions.Goes (Finishing n)) (Running n) k (refl, omega arith) refl (omega arith)
 react_goes (Finishing n) k = whole_goes (Finishing n) refl (omega arith) k
-react_goes Clearing k = tt
+react_goes (Clearing c) k = tt
 react_goes (Asking c n) k = whole_goes (Asking c n) refl (omega arith) k
 react_goes (Backing c) k = tt
 react_goes (Reverting c) k = whole_goes (Reverting c) refl (omega arith) k
+react_goes Draining k = drain_goes k
 react_goes Reading (kinds.Greets n) = tt
 react_goes Reading (kinds.Good status) = tt
 react_goes Reading kinds.Failed = tt
@@ -214,10 +232,11 @@ rank_false Giving untold = omega arith
 rank_false (Arranging n) untold = omega arith
 rank_false (Running n) untold = omega arith
 rank_false (Finishing n) untold = omega arith
-rank_false Clearing untold = omega arith
+rank_false (Clearing c) untold = omega arith
 rank_false (Asking c n) untold = omega arith
 rank_false (Backing c) untold = omega arith
 rank_false (Reverting c) untold = omega arith
+rank_false Draining untold = omega arith
 rank_false Reading untold = omega arith
 rank_false Dropping untold = omega arith
 rank_false Taking untold = omega arith
@@ -262,6 +281,10 @@ passed_is : (s n : Seen) (row : Option RowParts) → is_open s.task ≡ true →
 passed_is s n None op b = refl
 passed_is s n (Some row) op b = same_task s n op b
 
+passed_error_is : (s n : Seen) (e : Option ErrPacket) → is_open s.task ≡ true → IsPassedOn s n → MoveIs s (passed_error s n e).seen (passed_error s n e).does
+passed_error_is s n None op b = refl
+passed_error_is s n (Some e) op b = same_task s n op b
+
 reacted_is : (s n : Seen) (p : List ℕ) (r : Reaction) → is_open s.task ≡ true → IsPassedOn s n → GoesOn r → MoveIs s (reacted s n p r).seen (reacted s n p r).does
 reacted_is s n p (reactions.Goes u) op b g =
     let less = b.less in
@@ -274,6 +297,7 @@ reacted_is s n p reactions.Gives op b g = gave_is s n (row_at s.context.rows s.f
 reacted_is s n p reactions.Ends op b g = refl
 reacted_is s n p reactions.PassesRow op b g = passed_is s n (row_at s.context.rows s.facts.columns p) op b
 reacted_is s n p reactions.PassesEnd op b g = same_task s n op b
+reacted_is s n p reactions.PassesError op b g = passed_error_is s n _ op b
 reacted_is s n p reactions.Refuses op b g = refused_is s n _ op b
 reacted_is s n p reactions.Breaks op b g = refl
 
@@ -307,7 +331,9 @@ FitsTask t untold plans.Batches = rank (Cleaning Batch) untold < rank t untold
 FitsTask t untold (plans.Notes n) = rank (Finishing n) untold < rank t untold
 FitsTask t untold plans.Forgets = rank (Cleaning CloseStmt) untold < rank t untold
 FitsTask t untold plans.Resets = rank (Cleaning Reset) untold < rank t untold
-FitsTask t untold plans.Clears = rank (Asking Reset 0) untold < rank t untold
+FitsTask t untold plans.Adopts = rank (Cleaning ChangeUser) untold < rank t untold
+FitsTask t untold (plans.Clears c) = rank (Asking c 0) untold < rank t untold
+FitsTask t untold plans.Releases = rank (Cleaning CleanForPool) untold < rank t untold
 FitsTask t untold plans.GivesUp = rank (Cleaning Rollback) untold < rank t untold
 FitsTask t untold (plans.Undoes c) = rank (Cleaned c) untold < rank t untold
 FitsTask t untold (plans.Settles c) = rank (Cleaned c) untold < rank t untold
@@ -355,10 +381,13 @@ asked_is s TakeSet call none = refl
 asked_is s SkipTaken call none = refl
 asked_is s Ping call none = begins_if s s (Own Ping) (Asked (next_terms s) (packet_bytes packets.Ping)) _ none refl (some_bytes (packet_bytes packets.Ping) 0)
 asked_is s Reset call none = begins_if s s (Own Reset) (Asked (next_terms s) (packet_bytes packets.ResetConnection)) _ none refl (some_bytes (packet_bytes packets.ResetConnection) 0)
+asked_is s ChangeUser call none = refl
 asked_is s Begin call none = refl
 asked_is s Commit call none = refl
 asked_is s Rollback call none = refl
 asked_is s ForgetTransaction call none = refl
+asked_is s CleanForPool call none = refl
+asked_is s ResetForPool call none = refl
 asked_is s Quit call none = begins_if s s (Own Quit) (Silent (next_terms s) (packet_bytes packets.Quit)) _ none refl (some_bytes (packet_bytes packets.Quit) 0)
 
 arranged_is : (s : Seen) (n : ℕ) (text : Option (List ℕ)) → s.owed ≡ [] → MoveIs s (arranged s n (arranging (next_terms s) text)).seen (arranged s n (arranging (next_terms s) text)).does
@@ -429,7 +458,9 @@ plan_is s (plans.Runs n) op none f = ran_is s (suc n) (slice_get (lists_in s.cal
 plan_is s (plans.Notes n) op none f = (refl, omega (arith, f))
 plan_is s plans.Forgets op none f = (refl, omega (arith, f))
 plan_is s plans.Resets op none f = offered_is s (can_reset (version_of s.facts.version)) f
-plan_is s plans.Clears op none f = (refl, omega (arith, f))
+plan_is s plans.Adopts op none f = (refl, omega (arith, f))
+plan_is s (plans.Renews c) op none f = begins_if s s (Own c) (renewing s c) _ none refl (some_bytes (packet_bytes (renewal_packet s.login s.context.terms.kept s.facts s.account (renews_by_reset c (version_of s.facts.version)))) 0)
+plan_is s (plans.Clears c) op none f = (refl, omega (arith, f))
 plan_is s (plans.Queries c n) op none f = queried_is s c n (slice_get (queries_of s.login c s.call) n) none
 plan_is s (plans.Undoes c) op none f = undone_is s c (is_given_up s.status) none f
 plan_is s (plans.Settles c) op none f = (refl, omega (arith, f))
@@ -438,6 +469,7 @@ plan_is s plans.Tries op none f = (refl, omega (arith, f))
 plan_is s (plans.Reverts c) op none f = reverted_is s c (is_given_up s.status) none f
 plan_is s plans.Returns op none f = returned_is s s.trial
 plan_is s plans.GivesUp op none f = (refl, omega (arith, f))
+plan_is s plans.Releases op none f = (refl, omega (arith, f))
 plan_is s plans.Forsakes op none f = refl
 plan_is s (plans.Asks c) op none f = unless_refused_is s (refusal c s.call) (asked s (Own c) (command_of (next_terms s) s.statements (call_of c s.call))) (asked_is s c s.call none)
 plan_is s (plans.Arranges n) op none f = arranged_is s n (slice_get (arranging_texts s.login) n) none
@@ -469,17 +501,21 @@ cleaning_fits t p less f (spots.ParametersEnd columns) untold = tt
 cleaning_fits t p less f (spots.Fields left) untold = tt
 cleaning_fits t p less f spots.FieldsEnd untold = tt
 
-rank_cleaning : (c : CallKind) (untold : Bool) → rank (Cleaning c) untold < 3
+rank_cleaning : (c : CallKind) (untold : Bool) → rank (Cleaning c) untold < 4
 rank_cleaning c true = omega arith
 rank_cleaning c false = omega arith
 
-rank_dropping : (untold : Bool) → rank Dropping untold < 3
+rank_dropping : (untold : Bool) → rank Dropping untold < 4
 rank_dropping true = omega arith
 rank_dropping false = omega arith
 
-rank_skipping : (untold : Bool) → rank Skipping untold < 3
+rank_skipping : (untold : Bool) → rank Skipping untold < 4
 rank_skipping true = omega arith
 rank_skipping false = omega arith
+
+rank_draining : (untold : Bool) → rank Draining untold < 4
+rank_draining true = omega arith
+rank_draining false = omega arith
 
 first_fits : (c : CallKind) (untold : Bool) → FitsTask (Begun c) untold (first_plan c)
 first_fits Connect untold = (refl, omega arith)
@@ -494,10 +530,13 @@ first_fits TakeSet untold = (refl, omega arith)
 first_fits SkipTaken untold = (refl, rank_skipping untold)
 first_fits Ping untold = (refl, rank_cleaning Ping untold)
 first_fits Reset untold = rank_cleaning Reset untold
+first_fits ChangeUser untold = rank_cleaning ChangeUser untold
 first_fits Begin untold = (refl, rank_cleaning Begin untold)
 first_fits Commit untold = rank_cleaning Commit untold
 first_fits Rollback untold = rank_cleaning Rollback untold
 first_fits ForgetTransaction untold = tt
+first_fits CleanForPool untold = (refl, rank_draining untold)
+first_fits ResetForPool untold = (refl, rank_cleaning ResetForPool untold)
 first_fits Quit untold = (refl, rank_cleaning Quit untold)
 
 query_fits : (spot : Spot) (untold : Bool) → FitsTask (Own Query) untold (query_plan spot)
@@ -561,10 +600,13 @@ own_fits TakeSet spot untold = tt
 own_fits SkipTaken spot untold = tt
 own_fits Ping spot untold = tt
 own_fits Reset spot untold = tt
+own_fits ChangeUser spot untold = tt
 own_fits Begin spot untold = tt
 own_fits Commit spot untold = tt
 own_fits Rollback spot untold = tt
 own_fits ForgetTransaction spot untold = tt
+own_fits CleanForPool spot untold = tt
+own_fits ResetForPool spot untold = tt
 own_fits Quit spot untold = tt
 
 read_fits : (spot : Spot) → FitsTask Reading false (read_plan spot)
@@ -644,10 +686,13 @@ ask_fits t TakeSet untold = tt
 ask_fits t SkipTaken untold = tt
 ask_fits t Ping untold = tt
 ask_fits t Reset untold = tt
+ask_fits t ChangeUser untold = tt
 ask_fits t Begin untold = tt
 ask_fits t Commit untold = tt
 ask_fits t Rollback untold = tt
 ask_fits t ForgetTransaction untold = tt
+ask_fits t CleanForPool untold = tt
+ask_fits t ResetForPool untold = tt
 ask_fits t Quit untold = tt
 
 rank_finishing : (n : ℕ) (untold : Bool) → rank (Finishing n) untold < 2
@@ -693,10 +738,11 @@ plan_fits Giving spot untold = tt
 plan_fits (Arranging n) spot untold = cleaning_fits (Arranging n) (plans.Arranges n) (omega arith) tt spot untold
 plan_fits (Running n) spot untold = run_fits n spot untold
 plan_fits (Finishing n) spot untold = cleaning_fits (Finishing n) (plans.Runs n) (omega arith) tt spot untold
-plan_fits Clearing spot untold = rank_asking Reset 0 untold
+plan_fits (Clearing c) spot untold = rank_asking c 0 untold
 plan_fits (Asking c n) spot untold = cleaning_fits (Asking c n) (plans.Queries c n) (omega arith) tt spot untold
 plan_fits (Backing c) spot untold = rank_reverting c untold
 plan_fits (Reverting c) spot untold = cleaning_fits (Reverting c) plans.Returns (omega arith) tt spot untold
+plan_fits Draining spot untold = cleaning_fits Draining plans.Releases (omega arith) (omega arith) spot untold
 plan_fits Reading spot true = tt
 plan_fits Reading spot false = read_fits spot
 plan_fits Dropping spot true = omega arith
@@ -734,6 +780,7 @@ pub tick_is : (s new : Seen) (t : Tick) → is_open s.task ≡ true → Does (ne
 tick_is s new ticks.Goes op d = did_is s new ticks.Goes op d
 tick_is s new (ticks.PassedRow row) op d = did_is s new (ticks.PassedRow row) op d
 tick_is s new ticks.PassedEnd op d = did_is s new ticks.PassedEnd op d
+tick_is s new (ticks.PassedError e) op d = did_is s new (ticks.PassedError e) op d
 tick_is s new ticks.Sends op d = did_is s new ticks.Sends op d
 tick_is s new ticks.Needs op d = did_is s new ticks.Needs op d
 tick_is s new (ticks.Done a) op d = did_is s new (ticks.Done a) op d

@@ -10,10 +10,10 @@ use Rattle.my_grammar.specs.declared.spot.Kind.TheVariants as kinds
 use Rattle.my_grammar.specs.Kinds.{kind_there}
 use Rattle.my_grammar.specs.Talk.{Talk}
 use Rattle.my_reading.specs.declared.call.CallKind.{CallKind}
-use Rattle.my_reading.specs.declared.call.CallKind.TheVariants.{Connect, Query, Prepare, Execute, Batch, CloseStmt, NextRow, DropResult, TakeSet, SkipTaken, Ping, Reset, Begin, Commit, Rollback, ForgetTransaction, Quit}
+use Rattle.my_reading.specs.declared.call.CallKind.TheVariants.{Connect, Query, Prepare, Execute, Batch, CloseStmt, NextRow, DropResult, TakeSet, SkipTaken, Ping, Reset, ChangeUser, Begin, Commit, Rollback, ForgetTransaction, CleanForPool, ResetForPool, Quit}
 use Rattle.my_session.specs.declared.task.LinkFault.{LinkFault}
 use Rattle.my_session.specs.declared.task.Task.{Task}
-use Rattle.my_session.specs.declared.task.Task.TheVariants.{Nothing, Begun, Cleaning, Undoing, Cleaned, Own, Giving, Arranging, Running, Finishing, Clearing, Asking, Backing, Reverting, Reading, Dropping, Taking, Skipping, Leaving, Failing}
+use Rattle.my_session.specs.declared.task.Task.TheVariants.{Nothing, Begun, Cleaning, Undoing, Cleaned, Own, Giving, Arranging, Running, Finishing, Clearing, Asking, Backing, Reverting, Draining, Reading, Dropping, Taking, Skipping, Leaving, Failing}
 use Rattle.my_session.specs.declared.tables.Plan.{Plan}
 use Rattle.my_session.specs.declared.tables.Plan.TheVariants as plans
 use Rattle.my_session.specs.declared.reactions.Reaction.{Reaction}
@@ -34,8 +34,8 @@ use Rattle.my_reading.specs.declared.transaction.Trial.{Trial}
 use Rattle.my_reading.specs.declared.transaction.Trial.TheVariants as trials
 use Rattle.my_reading.specs.Errors.{invalid_data, server_error, unexpected_eof}
 use Rattle.my_session.specs.Machine as machine
-use Rattle.my_session.specs.Machine.{Move, Doing, Goes, Sends, Needs, Tells, Did, Does, FaultIs, advanced, reply_to, above, unless_above, backing, refused, refused_by_server, returned, reverted, gave, passed, reacted, read_by, reading, next_terms, unless_exceeds, unless_refused, refusal, is_doubled, looked, with_kept, kept, asked, arranged, offered, undone, queried_by, admitted, planned, when_owed, next_by, next, doing, refused_by, batched, ran}
-use Rattle.my_session.specs.Passed.{IsItem, is_passing}
+use Rattle.my_session.specs.Machine.{Move, Doing, Goes, Sends, Needs, Tells, Did, Does, FaultIs, advanced, reply_to, above, unless_above, backing, refused, refused_by_server, returned, reverted, gave, passed, passed_error, renewing, reacted, read_by, reading, next_terms, unless_exceeds, unless_refused, refusal, is_doubled, looked, with_kept, kept, asked, arranged, offered, undone, queried_by, admitted, planned, when_owed, next_by, next, doing, refused_by, batched, ran}
+use Rattle.my_session.specs.Passed.{IsItem, is_draining, is_passing}
 use Rattle.my_reading.specs.Rows.{row_at}
 use Rattle.my_reading.specs.Transactions.{begin_refusal, is_given_up, rollback_text}
 use Rattle.my_reading.specs.Versions.{can_reset}
@@ -43,15 +43,15 @@ use Rattle.my_session.specs.Queries.{queries_of}
 use Rattle.my_handshake.specs.Version.{version_of}
 use Rattle.my_session.specs.Seen.{Seen}
 use Rattle.my_session.specs.Steps.{goes_on}
-use Rattle.my_session.specs.Tables.{plan_of, react, react_whole, react_connect, react_own, react_single, is_breaking, is_connecting, first_plan, clean_plan, own_plan, query_plan, execute_plan, prepare_plan, read_plan, drop_plan, take_plan, skip_plan, ask_plan, run_plan, react_head}
+use Rattle.my_session.specs.Tables.{plan_of, react, react_whole, react_connect, react_draining, react_own, react_single, is_breaking, is_connecting, first_plan, clean_plan, own_plan, query_plan, execute_plan, prepare_plan, read_plan, drop_plan, take_plan, skip_plan, ask_plan, run_plan, react_head}
 use Rattle.my_params.specs.declared.params.Params.{Params}
 use Rattle.std.specs.List.{slice_get}
 use Rattle.my_reading.specs.Executions.{values_for}
 
--- A move that goes on stays with the call, which wasn't made to fail, and passes over a row or an end only for a call that does.
+-- A move that goes on stays with the call, which wasn't made to fail, and passes over a row, an end or an error only for a call that does.
 abbrev pub MovesOn : Option CallKind → Seen → Doing → Type 0
 MovesOn kind new Goes = (kind_in new.task ≡ kind) × (fault_in new.task ≡ None)
-MovesOn kind new (machine.Passes t) = (kind_in new.task ≡ kind) × (fault_in new.task ≡ None) × (is_passing kind ≡ true) × IsItem t
+MovesOn kind new (machine.Passes t) = (kind_in new.task ≡ kind) × (fault_in new.task ≡ None) × IsItem kind t
 MovesOn kind new Sends = Unit {0}
 MovesOn kind new Needs = Unit {0}
 MovesOn kind new (Tells t) = Unit {0}
@@ -61,6 +61,7 @@ abbrev StaysIn : Option CallKind → Reaction → Type 0
 StaysIn kind (reactions.Goes u) = (kind_in u ≡ kind) × (fault_in u ≡ None)
 StaysIn kind reactions.PassesRow = is_passing kind ≡ true
 StaysIn kind reactions.PassesEnd = is_passing kind ≡ true
+StaysIn kind reactions.PassesError = is_draining kind ≡ true
 StaysIn kind r = Unit {0}
 
 connect_stays : (k : Kind) → StaysIn (Some Connect) (react_connect k)
@@ -131,12 +132,29 @@ own_stays DropResult k = tt
 own_stays TakeSet k = tt
 own_stays SkipTaken k = tt
 own_stays Ping k = single_stays (Some Ping) (reactions.Readies false) k tt
-own_stays Reset k = single_stays (Some Reset) (reactions.Goes Clearing) k (refl, refl)
+own_stays Reset k = single_stays (Some Reset) (reactions.Goes (Clearing Reset)) k (refl, refl)
+own_stays ChangeUser k = single_stays (Some ChangeUser) (reactions.Goes (Clearing ChangeUser)) k (refl, refl)
 own_stays Begin k = tt
 own_stays Commit k = tt
 own_stays Rollback k = tt
 own_stays ForgetTransaction k = tt
+own_stays CleanForPool k = tt
+own_stays ResetForPool k = single_stays (Some ResetForPool) (reactions.Goes (Clearing ResetForPool)) k (refl, refl)
 own_stays Quit k = tt
+
+drain_stays : (k : Kind) → StaysIn (Some CleanForPool) (react_draining k)
+drain_stays (kinds.Greets n) = tt
+drain_stays (kinds.Good status) = (refl, refl)
+drain_stays kinds.Failed = refl
+drain_stays (kinds.Count n) = (refl, refl)
+drain_stays kinds.Column = (refl, refl)
+drain_stays kinds.ColumnsDone = (refl, refl)
+drain_stays kinds.Row = (refl, refl)
+drain_stays (kinds.End status) = (refl, refl)
+drain_stays (kinds.Prepared params columns) = (refl, refl)
+drain_stays kinds.Parameter = (refl, refl)
+drain_stays kinds.Field = (refl, refl)
+drain_stays kinds.Bad = tt
 
 react_stays : (t : Task) (k : Kind) → StaysIn (kind_in t) (react t k)
 react_stays Nothing k = tt
@@ -149,10 +167,11 @@ react_stays Giving k = tt
 react_stays (Arranging n) k = whole_stays (Arranging n) refl k
 react_stays (Running n) k = head_stays (reactions.Goes (Finishing n)) (Running n) k (refl, refl) refl
 react_stays (Finishing n) k = whole_stays (Finishing n) refl k
-react_stays Clearing k = tt
+react_stays (Clearing c) k = tt
 react_stays (Asking c n) k = whole_stays (Asking c n) refl k
 react_stays (Backing c) k = tt
 react_stays (Reverting c) k = whole_stays (Reverting c) refl k
+react_stays Draining k = drain_stays k
 react_stays Reading (kinds.Greets n) = tt
 react_stays Reading (kinds.Good status) = tt
 react_stays Reading kinds.Failed = tt
@@ -203,7 +222,10 @@ Suits kind plans.Batches = Some Batch ≡ kind
 Suits kind (plans.Notes n) = Some Batch ≡ kind
 Suits kind plans.Forgets = Some CloseStmt ≡ kind
 Suits kind plans.Resets = Some Reset ≡ kind
-Suits kind plans.Clears = Some Reset ≡ kind
+Suits kind plans.Adopts = Some ChangeUser ≡ kind
+Suits kind (plans.Renews c) = Some c ≡ kind
+Suits kind (plans.Clears c) = Some c ≡ kind
+Suits kind plans.Releases = Some CleanForPool ≡ kind
 Suits kind plans.Keeps = Some Prepare ≡ kind
 Suits kind plans.GivesUp = Some Rollback ≡ kind
 Suits kind (plans.Undoes c) = Some c ≡ kind
@@ -225,10 +247,13 @@ first_suits TakeSet = (refl, refl)
 first_suits SkipTaken = (refl, refl)
 first_suits Ping = (refl, refl)
 first_suits Reset = refl
+first_suits ChangeUser = refl
 first_suits Begin = (refl, refl)
 first_suits Commit = refl
 first_suits Rollback = refl
 first_suits ForgetTransaction = tt
+first_suits CleanForPool = (refl, refl)
+first_suits ResetForPool = (refl, refl)
 first_suits Quit = (refl, refl)
 
 cleaning_suits : (kind : Option CallKind) (p : Plan) → Suits kind p → (spot : Spot) (untold : Bool) → Suits kind (clean_plan p spot untold)
@@ -309,10 +334,13 @@ own_suits TakeSet spot = tt
 own_suits SkipTaken spot = tt
 own_suits Ping spot = tt
 own_suits Reset spot = tt
+own_suits ChangeUser spot = tt
 own_suits Begin spot = tt
 own_suits Commit spot = tt
 own_suits Rollback spot = tt
 own_suits ForgetTransaction spot = tt
+own_suits CleanForPool spot = tt
+own_suits ResetForPool spot = tt
 own_suits Quit spot = tt
 
 read_suits : (spot : Spot) → Suits (Some NextRow) (read_plan spot)
@@ -392,10 +420,13 @@ ask_suits TakeSet = tt
 ask_suits SkipTaken = tt
 ask_suits Ping = tt
 ask_suits Reset = tt
+ask_suits ChangeUser = refl
 ask_suits Begin = tt
 ask_suits Commit = tt
 ask_suits Rollback = tt
 ask_suits ForgetTransaction = tt
+ask_suits CleanForPool = tt
+ask_suits ResetForPool = refl
 ask_suits Quit = tt
 
 run_suits : (n : ℕ) (spot : Spot) → Suits (Some Batch) (run_plan n spot)
@@ -429,10 +460,11 @@ plan_suits Giving spot untold = tt
 plan_suits (Arranging n) spot untold = cleaning_suits (Some Connect) (plans.Arranges n) tt spot untold
 plan_suits (Running n) spot untold = run_suits n spot
 plan_suits (Finishing n) spot untold = cleaning_suits (Some Batch) (plans.Runs n) tt spot untold
-plan_suits Clearing spot untold = refl
+plan_suits (Clearing c) spot untold = refl
 plan_suits (Asking c n) spot untold = cleaning_suits (Some c) (plans.Queries c n) tt spot untold
 plan_suits (Backing c) spot untold = refl
 plan_suits (Reverting c) spot untold = cleaning_suits (Some c) plans.Returns tt spot untold
+plan_suits Draining spot untold = cleaning_suits (Some CleanForPool) plans.Releases refl spot untold
 plan_suits Reading spot true = tt
 plan_suits Reading spot false = read_suits spot
 plan_suits Dropping spot true = refl
@@ -478,7 +510,11 @@ module _ (s : Seen) (sound : fault_in s.task ≡ None) where
 
   passed_stays : (n : Seen) (row : Option RowParts) → IsPassedOn n → is_passing (kind_in s.task) ≡ true → Stays (passed s n row)
   passed_stays n None same drops = (tt, refl)
-  passed_stays n (Some row) same drops = ((ap kind_in same.task_is, ap fault_in same.task_is ∙ sound, drops, tt), same.login_is)
+  passed_stays n (Some row) same drops = ((ap kind_in same.task_is, ap fault_in same.task_is ∙ sound, drops), same.login_is)
+
+  passed_error_stays : (n : Seen) (e : Option ErrPacket) → IsPassedOn n → is_draining (kind_in s.task) ≡ true → Stays (passed_error s n e)
+  passed_error_stays n None same drops = (tt, refl)
+  passed_error_stays n (Some e) same drops = ((ap kind_in same.task_is, ap fault_in same.task_is ∙ sound, drops), same.login_is)
 
   reacted_stays : (n : Seen) (p : List ℕ) (r : Reaction) → IsPassedOn n → StaysIn (kind_in s.task) r → Stays (reacted s n p r)
   reacted_stays n p (reactions.Goes u) same i = (i, same.login_is)
@@ -487,7 +523,8 @@ module _ (s : Seen) (sound : fault_in s.task ≡ None) where
   reacted_stays n p reactions.Gives same i = gave_stays n (row_at s.context.rows s.facts.columns p) same.login_is
   reacted_stays n p reactions.Ends same i = (tt, same.login_is)
   reacted_stays n p reactions.PassesRow same i = passed_stays n (row_at s.context.rows s.facts.columns p) same i
-  reacted_stays n p reactions.PassesEnd same i = ((ap kind_in same.task_is, ap fault_in same.task_is ∙ sound, i, tt), same.login_is)
+  reacted_stays n p reactions.PassesEnd same i = ((ap kind_in same.task_is, ap fault_in same.task_is ∙ sound, i), same.login_is)
+  reacted_stays n p reactions.PassesError same i = passed_error_stays n _ same i
   reacted_stays n p reactions.Refuses same i = refused_stays n _ same.login_is
   reacted_stays n p reactions.Breaks same i = (tt, refl)
 
@@ -582,7 +619,9 @@ module _ (s : Seen) (sound : fault_in s.task ≡ None) where
   plan_stays (plans.Notes n) i = ((i, refl), refl)
   plan_stays plans.Forgets i = ((i, refl), refl)
   plan_stays plans.Resets i = offered_stays (can_reset (version_of s.facts.version)) i
-  plan_stays plans.Clears i = ((i, refl), refl)
+  plan_stays plans.Adopts i = ((i, refl), refl)
+  plan_stays (plans.Renews c) i = begins_if s (Own c) (renewing s c) _ refl
+  plan_stays (plans.Clears c) i = ((i, refl), refl)
   plan_stays (plans.Queries c n) i = queried_stays c n (slice_get (queries_of s.login c s.call) n)
   plan_stays (plans.Undoes c) i = undone_stays c (is_given_up s.status) i
   plan_stays (plans.Settles c) i = ((i, refl), refl)
@@ -591,6 +630,7 @@ module _ (s : Seen) (sound : fault_in s.task ≡ None) where
   plan_stays (plans.Reverts c) i = reverted_stays c (is_given_up s.status) i
   plan_stays plans.Returns i = returned_stays s.trial
   plan_stays plans.GivesUp i = ((i, refl), refl)
+  plan_stays plans.Releases i = ((i, refl), refl)
   plan_stays plans.Forsakes i = (tt, refl)
   plan_stays (plans.Asks c) i = unless_refused_stays (refusal c s.call) (asked s (Own c) (command_of (next_terms s) s.statements (call_of c s.call))) (asked_stays (Own c) (command_of (next_terms s) s.statements (call_of c s.call)))
   plan_stays (plans.Arranges n) i = arranged_stays n (connecting s.login (next_terms s) (suc n))
@@ -600,7 +640,7 @@ module _ (s : Seen) (sound : fault_in s.task ≡ None) where
   plan_stays plans.Gives i = (tt, refl)
   plan_stays plans.Takes i = (tt, refl)
   plan_stays plans.Quits i = (tt, refl)
-  plan_stays plans.Passes i = ((refl, sound, i, tt), refl)
+  plan_stays plans.Passes i = ((refl, sound, i), refl)
   plan_stays plans.Dropped i = (tt, refl)
   plan_stays plans.Ends i = (tt, refl)
   plan_stays plans.NoMore i = (tt, refl)
@@ -642,6 +682,7 @@ pub does_seen : (s new : Seen) (t : Tick) → Does (next s) s new t → (new ≡
 does_seen s new ticks.Goes d = inl d.seen
 does_seen s new (ticks.PassedRow row) d = inl d.seen
 does_seen s new ticks.PassedEnd d = inl d.seen
+does_seen s new (ticks.PassedError e) d = inl d.seen
 does_seen s new ticks.Sends d = inl d.seen
 does_seen s new ticks.Needs d = inl d.seen
 does_seen s new (ticks.Done a) d = inl d.seen

@@ -1,10 +1,12 @@
 //! What a call carries.
 
 ghost use Rattle.std.specs.Prelude.{◌≡◌, ◌<◌, ◌≤◌, ◌-◌, ◌^◌, IfOk, IfSome, length, slice_get};
-ghost use Rattle.my_reading.specs.Calls.{id_in, lists_in, opts_in, params_in, statement_in, text_in};
+ghost use Rattle.my_reading.specs.Calls.{change_in, id_in, lists_in, opts_in, params_in, statement_in, text_in};
 ghost use Rattle.my_reading.specs.Executions.{GivesValues, values_for};
 ghost use Rattle.my_session.specs.Machine.{GivesNext};
 
+use my_frame::NoMemory;
+use my_opts::ChangeUserOpts;
 use my_opts_parts::TxOpts;
 use my_params::Params;
 use my_reading::{Call, Error, MOST_VALUES, values_for};
@@ -39,6 +41,16 @@ pub fn executed_id(call: &Call) -> u32
     match call {
         Call::Execute(statement, _) | Call::Batch(statement, _) => statement.id(),
         _ => 0,
+    }
+}
+
+/// What a change of user changes; nothing where the call changes none.
+pub fn change_in(alloc: Global, call: &Call) -> Result<ChangeUserOpts, NoMemory>
+    ensures { IfOk result (λ change. change ≡ change_in call.now) }
+{
+    match call {
+        Call::ChangeUser(change) => change.copy(alloc),
+        _ => Ok(ChangeUserOpts::new()),
     }
 }
 

@@ -2,6 +2,7 @@
 
 ghost use Rattle.std.specs.Prelude.{◌≡◌};
 ghost use Rattle.std.specs.Option.{option_copied};
+ghost use Rattle.my_session.specs.Login.{with_account};
 ghost use Rattle.my_session.specs.Rest.{is_dirty};
 ghost use Rattle.my_statements.specs.Known.{known_of};
 
@@ -13,9 +14,9 @@ use my_reply::OkPacket;
 use my_statements::Statement;
 
 impl Session {
-    /// The options that it was made with.
+    /// The options in force: those that it was made with, as each change of user changed them.
     pub fn opts(&self) -> &Opts
-        ensures { result.now ≡ self.now.lifetime.opts }
+        ensures { result.now ≡ with_account self.now.seen.account self.now.lifetime.opts }
     {
         &self.opts
     }

@@ -1,7 +1,6 @@
 //! What a session makes of the bytes that it received: the payload in front is read, and the open call reacts to it.
 
 ghost use Rattle.std.specs.Prelude.{◌≡◌, ◌≤◌, ◌++◌, length, drop, IfOk, OnOk, OnErr, Some};
-ghost use Rattle.my_reading.specs.Errors.{server_error};
 ghost use Rattle.my_reading.specs.Place.{is_rows};
 ghost use Rattle.my_session.specs.Machine.{above};
 
@@ -10,10 +9,10 @@ use super::payload::{FoundPayload, find_payload};
 use crate::answer::Tick;
 use crate::reactions::{Reaction, is_breaking, react_to};
 use crate::task::Task;
-use my_frame::{Blob, CodecError, CodecFault, NoMemory, ReadError, Text};
+use my_frame::{Blob, CodecError, CodecFault, NoMemory, ReadError};
 use my_grammar::{Kind, Spot, kind_at, login_response};
-use my_reading::{Answer, Error, IoKind, ServerError, read_row};
-use my_reply::{ErrPacket, read_err, read_prepare_ok};
+use my_reading::{Answer, Error, IoKind, read_row};
+use my_reply::read_prepare_ok;
 use my_value::Row;
 use std::alloc::Global;
 
@@ -47,29 +46,11 @@ fn is_rows(spot: Spot) -> bool
     }
 }
 
-// The error that the packet is.
-fn server_error(alloc: Global, packet: ErrPacket) -> Result<ServerError, NoMemory>
-    ensures { IfOk result (λ e. e ≡ server_error packet) }
-{
-    match Text::from_utf8_lossy(alloc, &packet.state) {
-        Ok(state) => Ok(ServerError {
-            code: packet.code,
-            state,
-            message: packet.message,
-        }),
-        Err(NoMemory) => {
-            drop(packet);
-            Err(NoMemory)
-        }
-    }
-}
-
 impl Session {
     ghost use Rattle.my_frame.specs.Front.{front_at, Waiting};
-    ghost use Rattle.my_reply.specs.ErrPacket.{err_at};
     ghost use Rattle.my_grammar.specs.Kinds.{kind_there};
     ghost use Rattle.my_session.specs.Found.{IsPlaced, payload_in};
-    ghost use Rattle.my_session.specs.Machine.{Does, IsArrival, Lands, ReadsRow, brought, fell, following, gave, is_doubled, is_greeting, passed, reacted, read_by, read_kind, reading, refused, reply_bytes, reply_number, reply_to, with_task};
+    ghost use Rattle.my_session.specs.Machine.{Does, IsArrival, Lands, ReadsRow, brought, fell, following, gave, is_doubled, passed, reacted, read_by, read_kind, reading, reply_bytes, reply_number, reply_to, with_task};
     ghost use Rattle.my_reading.specs.Rows.{row_at};
 
     // What the client sends at once after the payload.
@@ -107,7 +88,7 @@ impl Session {
     }
 
     // The payload is read. Where it fails, what it owed already is dropped: the caller closes the session.
-    fn advance(&mut self, alloc: Global, arrival: &Arrival) -> Result<(), NoMemory>
+    pub(super) fn advance(&mut self, alloc: Global, arrival: &Arrival) -> Result<(), NoMemory>
         requires { IsArrival self.old.seen arrival.now }
         ensures ok { OnOk result (self.new.seen ≡ following self.old.seen arrival.now) }
         ensures err { OnErr result (fell self.new.seen ≡ fell self.old.seen) }
@@ -125,7 +106,7 @@ impl Session {
     }
 
     // The payload is read, and `tick` is what comes of it.
-    fn land(
+    pub(super) fn land(
         &mut self,
         alloc: Global,
         arrival: &Arrival,
@@ -181,49 +162,6 @@ impl Session {
                 drop(found);
                 Err(NoMemory)
             }
-        }
-    }
-
-    // Whether the server's greeting is still awaited.
-    fn awaits_greeting(&self) -> bool
-        ensures { result ≡ is_greeting self.now.seen.context.spot }
-    {
-        match self.context.spot {
-            Spot::Greeting => true,
-            _ => false,
-        }
-    }
-
-    // The server's error ends the call, perhaps after a ROLLBACK.
-    fn end_refused(&mut self, alloc: Global, arrival: &Arrival, packet: ErrPacket) -> Tick
-        requires { IsArrival self.old.seen arrival.now }
-        ensures does { let s = self.old.seen in
-            Does (refused s (following s arrival.now) (Some packet)) s self.new.seen result }
-        ensures lifetime { self.new.lifetime ≡ self.old.lifetime }
-    {
-        let error = match server_error(alloc, packet) {
-            Ok(error) => error,
-            Err(NoMemory) => return self.fault(Error::NoMemory),
-        };
-        if self.advance(alloc, arrival).is_err() {
-            drop(error);
-            return self.fault(Error::NoMemory);
-        }
-        self.end_by(error)
-    }
-
-    fn refuse(&mut self, alloc: Global, arrival: &Arrival) -> Tick
-        requires { IsArrival self.old.seen arrival.now }
-        ensures does { let s = self.old.seen in
-            let packet = err_at (is_greeting s.context.spot) (brought s arrival.now) in
-            Does (refused s (following s arrival.now) packet) s self.new.seen result }
-        ensures lifetime { self.new.lifetime ≡ self.old.lifetime }
-    {
-        let payload = arrival.found.in_bytes(self.unread.as_slice());
-        match read_err(alloc, payload, self.awaits_greeting()) {
-            Ok(packet) => self.end_refused(alloc, arrival, packet),
-            Err(ReadError::Malformed) => self.io_fault(IoKind::InvalidData),
-            Err(ReadError::NoMemory) => self.fault(Error::NoMemory),
         }
     }
 
@@ -302,6 +240,7 @@ impl Session {
             }
             Reaction::PassesRow => self.pass(alloc, arrival),
             Reaction::PassesEnd => self.land(alloc, arrival, same, false, Tick::PassedEnd),
+            Reaction::PassesError => self.pass_error(alloc, arrival),
             Reaction::Refuses => self.refuse(alloc, arrival),
             Reaction::Breaks => self.io_fault(IoKind::InvalidData),
         }

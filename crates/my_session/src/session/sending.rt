@@ -283,8 +283,11 @@ impl Session {
             | CallKind::SkipTaken
             | CallKind::Begin
             | CallKind::Commit
+            | CallKind::ChangeUser
             | CallKind::Rollback
-            | CallKind::ForgetTransaction => self.answer(Answer::NoSet),
+            | CallKind::ForgetTransaction
+            | CallKind::CleanForPool
+            | CallKind::ResetForPool => self.answer(Answer::NoSet),
         }
     }
 

@@ -27,10 +27,11 @@ fn fault_in(task: Task) -> Option<LinkFault>
         | Task::Arranging(_)
         | Task::Running(_)
         | Task::Finishing(_)
-        | Task::Clearing
+        | Task::Clearing(_)
         | Task::Asking(_, _)
         | Task::Backing(_)
         | Task::Reverting(_)
+        | Task::Draining
         | Task::Reading
         | Task::Dropping
         | Task::Taking
@@ -115,7 +116,9 @@ impl Session {
             Plan::Notes(sent) => self.note_columns(sent),
             Plan::Forgets => self.forget(),
             Plan::Resets => self.begin_reset(),
-            Plan::Clears => self.clear(),
+            Plan::Adopts => self.adopt(alloc),
+            Plan::Renews(call) => self.renew(alloc, call),
+            Plan::Clears(call) => self.clear(call),
             Plan::Undoes(call) => self.undo(alloc, call),
             Plan::Settles(call) => self.settle(call),
             Plan::Admits => self.admit(alloc),
@@ -124,6 +127,7 @@ impl Session {
             Plan::Reverts(call) => self.revert(alloc, call),
             Plan::Returns => self.return_refusal(),
             Plan::GivesUp => self.give_up(),
+            Plan::Releases => self.release(),
             Plan::Forsakes => self.forsake(),
             Plan::Learns => self.learn_columns(),
             Plan::Keeps => self.keep(alloc),
@@ -209,6 +213,7 @@ impl Session {
             match self.tick(alloc) {
                 Tick::Goes => continue,
                 Tick::PassedEnd => continue,
+                Tick::PassedError(_) => continue,
                 Tick::PassedRow(_) => continue,
                 Tick::Sends => return SessionStep::Send,
                 Tick::Needs => return SessionStep::Need,
@@ -228,7 +233,7 @@ impl Session {
         }
     }
 
-    /// The next step of the open call. Only `DropResult` and `SkipTaken` pass over rows and ends. Each error, and the answer that
+    /// The next step of the open call. Only `DropResult` and `SkipTaken` pass over rows and ends, and `CleanForPool` over errors. Each error, and the answer that
     /// nothing is left, has its cause in the history after what was passed over. A step is steps of the one reading of the
     /// connection, and its stop is theirs (`reads`). `now`, in milliseconds, is the moment of the payloads that are read.
     pub fn step(&mut self, alloc: Global, now: u64) -> SessionStep

@@ -27,7 +27,13 @@ fn query_text<'a>(login: &'a Login, kind: CallKind, call: &Call, place: usize) -
     ensures text { option_copied result ≡ slice_get (queries_of login.now kind call.now) place }
 {
     match kind {
-        CallKind::Reset => match login.setup.as_slice().iter().rev().nth(place) {
+        CallKind::Reset | CallKind::ChangeUser | CallKind::ResetForPool => match login
+            .setup
+            .as_slice()
+            .iter()
+            .rev()
+            .nth(place)
+        {
             Some(text) => Some(text.as_slice()),
             None => None,
         },
@@ -48,6 +54,7 @@ fn kind_in(task: Task) -> Option<CallKind>
         | Task::Undoing(call)
         | Task::Cleaned(call)
         | Task::Own(call)
+        | Task::Clearing(call)
         | Task::Asking(call, _)
         | Task::Backing(call)
         | Task::Reverting(call)
@@ -56,7 +63,7 @@ fn kind_in(task: Task) -> Option<CallKind>
         Task::Giving => Some(CallKind::Prepare),
         Task::Arranging(_) => Some(CallKind::Connect),
         Task::Running(_) | Task::Finishing(_) => Some(CallKind::Batch),
-        Task::Clearing => Some(CallKind::Reset),
+        Task::Draining => Some(CallKind::CleanForPool),
         Task::Reading => Some(CallKind::NextRow),
         Task::Dropping => Some(CallKind::DropResult),
         Task::Taking => Some(CallKind::TakeSet),
@@ -190,6 +197,16 @@ impl Session {
         self.status = TxStatus::RequiresRollback;
         self.end_trial();
         self.task = Task::Cleaning(CallKind::Rollback);
+        Tick::Goes
+    }
+
+    // The transaction is given up, where there is one, before a connection goes back to its pool.
+    pub(super) fn release(&mut self) -> Tick
+        ensures does { Does (planned self.old.seen Plan.Releases) self.old.seen self.new.seen result }
+        ensures lifetime { self.new.lifetime ≡ self.old.lifetime }
+    {
+        self.status = self.status.given_up();
+        self.task = Task::Cleaning(CallKind::CleanForPool);
         Tick::Goes
     }
 

@@ -4,9 +4,9 @@ use Rattle.my_session.specs.declared.answer.SessionStep.TheVariants as steps
 use Rattle.my_session.specs.declared.answer.Tick.TheVariants as ticks
 use Rattle.my_session.specs.Tasks.{fault_in}
 use Rattle.my_session.specs.Causes.{EndCause, HasCause}
-use Rattle.my_reading.specs.Told.{ToldRow, ToldEnd}
+use Rattle.my_reading.specs.Told.{ToldRow, ToldEnd, ToldPassed}
 use Rattle.my_session.specs.History.{History, passing}
-use Rattle.my_session.specs.Passed.{is_passing}
+use Rattle.my_session.specs.Passed.{is_draining, is_passing}
 use Rattle.my_session.specs.Seen.{Seen}
 use Rattle.my_session.proofs.Faults.{answer_cause, fault_because}
 use Rattle.my_session.proofs.Steps.Passing.{did_stay, goes_sound, does_login}
@@ -36,7 +36,7 @@ moves-preserved-in-PassedEnd c =
     let on = did_stay c.moves.self.seen c.tick.new.self.seen ticks.PassedEnd c.in-PassedEnd.ensures.does in
     record {
       at = one_more c.args.self.now.seen c.moves.self.seen c.tick.new.self.seen ticks.PassedEnd refl now.at c.in-PassedEnd.ensures.does;
-      stands = λ h st. let u = now.stands h st in (ToldEnd ∷ u.0, (ap is_passing (sym now.kind) ∙ on.2, on.3, u.1), c.in-PassedEnd.ensures.stands _ u.2);
+      stands = λ h st. let u = now.stands h st in (ToldEnd ∷ u.0, (ap is_passing (sym now.kind) ∙ on.2, u.1), c.in-PassedEnd.ensures.stands _ u.2);
       kind = on.0 ∙ now.kind;
       fault = on.1 ∙ sym (goes_sound c.moves.self.seen c.tick.new.self.seen ticks.PassedEnd refl c.in-PassedEnd.ensures.does) ∙ now.fault;
       login = does_login c.moves.self.seen c.tick.new.self.seen ticks.PassedEnd c.in-PassedEnd.ensures.does ∙ now.login;
@@ -46,6 +46,23 @@ moves-preserved-in-PassedEnd c =
           read_more c.args.self.now.seen c.moves.self.seen c.tick.new.self.seen call parts p ticks.PassedEnd now.login r w w.comes;
     }
 
+pub moves-preserved-in-PassedError : goal.moves-preserved-in-PassedError
+moves-preserved-in-PassedError c =
+    let now = c.moves.invariant in
+    let error = c.in-PassedError.field-0 in
+    let on = did_stay c.moves.self.seen c.tick.new.self.seen (ticks.PassedError error) c.in-PassedError.ensures.does in
+    record {
+      at = one_more c.args.self.now.seen c.moves.self.seen c.tick.new.self.seen (ticks.PassedError error) refl now.at c.in-PassedError.ensures.does;
+      stands = λ h st. let u = now.stands h st in (ToldPassed error ∷ u.0, (ap is_draining (sym now.kind) ∙ on.2, u.1), c.in-PassedError.ensures.stands _ u.2);
+      kind = on.0 ∙ now.kind;
+      fault = on.1 ∙ sym (goes_sound c.moves.self.seen c.tick.new.self.seen (ticks.PassedError error) refl c.in-PassedError.ensures.does) ∙ now.fault;
+      login = does_login c.moves.self.seen c.tick.new.self.seen (ticks.PassedError error) c.in-PassedError.ensures.does ∙ now.login;
+      task = c.in-PassedError.ensures.leaves.0;
+      lifetime = c.in-PassedError.ensures.lifetime ∙ now.lifetime;
+      reads = λ call parts p o. let r = now.reads call parts p o in let w = c.in-PassedError.ensures.reads call r.rest r.place r.at in
+          read_more c.args.self.now.seen c.moves.self.seen c.tick.new.self.seen call parts p (ticks.PassedError error) now.login r w w.comes;
+    }
+
 pub moves-preserved : goal.moves-preserved
 moves-preserved c =
     let now = c.moves.invariant in
@@ -53,7 +70,7 @@ moves-preserved c =
     let on = did_stay c.moves.self.seen c.tick.new.self.seen (ticks.PassedRow row) c.in-PassedRow.ensures.does in
     record {
       at = one_more c.args.self.now.seen c.moves.self.seen c.tick.new.self.seen (ticks.PassedRow row) refl now.at c.in-PassedRow.ensures.does;
-      stands = λ h st. let u = now.stands h st in (ToldRow row ∷ u.0, (ap is_passing (sym now.kind) ∙ on.2, on.3, u.1), c.in-PassedRow.ensures.stands _ u.2);
+      stands = λ h st. let u = now.stands h st in (ToldRow row ∷ u.0, (ap is_passing (sym now.kind) ∙ on.2, u.1), c.in-PassedRow.ensures.stands _ u.2);
       kind = on.0 ∙ now.kind;
       fault = on.1 ∙ sym (goes_sound c.moves.self.seen c.tick.new.self.seen (ticks.PassedRow row) refl c.in-PassedRow.ensures.does) ∙ now.fault;
       login = does_login c.moves.self.seen c.tick.new.self.seen (ticks.PassedRow row) c.in-PassedRow.ensures.does ∙ now.login;
