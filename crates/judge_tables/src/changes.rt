@@ -55,8 +55,8 @@ fn is_among(told: Told, all: &[Told]) -> bool {
     false
 }
 
-/// What is found of a tape.
-pub fn judged(alloc: Global, set_up: SetUp, tape: &Tape) -> Result<Verdict, NoMemory> {
+// What is found of a tape.
+fn judged(alloc: Global, set_up: SetUp, tape: &Tape) -> Result<Verdict, NoMemory> {
     let login = login(alloc, set_up)?;
     judge(alloc, &login, tape)
 }
@@ -248,6 +248,45 @@ fn is_right(alloc: Global, table: &Table) -> Result<bool, NoMemory> {
 pub fn are_right(alloc: Global, tables: &[Table]) -> Result<bool, NoMemory> {
     for table in tables {
         if !is_right(alloc, table)? {
+            return Ok(false);
+        }
+    }
+    Ok(true)
+}
+
+/// Whether the tape of these lines is refuted at this one.
+pub fn is_refuted(
+    alloc: Global,
+    set_up: SetUp,
+    lines: &[Line],
+    at: usize,
+) -> Result<bool, NoMemory> {
+    let tape = changed(alloc, lines, 0, Change::Nothing)?;
+    Ok(judged(alloc, set_up, &tape)? == Verdict::Refuted(at))
+}
+
+// Whether the tape of these lines is refuted at the last one, which is this.
+fn is_last_refuted(
+    alloc: Global,
+    set_up: SetUp,
+    before: &[Line],
+    last: &Line,
+) -> Result<bool, NoMemory> {
+    let mut lines = Vec::new(alloc);
+    lines.extend_from_slice(before)?;
+    lines.push(*last)?;
+    is_refuted(alloc, set_up, lines.as_slice(), before.len())
+}
+
+/// Whether each of these lines is refuted after those.
+pub fn are_refuted(
+    alloc: Global,
+    set_up: SetUp,
+    before: &[Line],
+    wrong: &[Line],
+) -> Result<bool, NoMemory> {
+    for line in wrong {
+        if !is_last_refuted(alloc, set_up, before, line)? {
             return Ok(false);
         }
     }

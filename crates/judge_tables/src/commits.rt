@@ -1,15 +1,12 @@
 //! Tapes with transactions that are committed, and how many changes of each are refuted; and commits that are refuted at once.
 
-use crate::changes::{Table, are_right, judged};
+use crate::changes::{Table, are_refuted, are_right};
 use crate::logins::SetUp;
 use crate::rows::{
     BEGINS, CONNECTS, DOES, ERR, ERR_OF_ROW, Line, Needs, OK, PINGS, READ_REFUSED, RETURNS,
     ROLLBACK, SELECTS, Said, Told, UNDOES,
 };
-use crate::tapes::{Change, changed};
-use my_frame::NoMemory;
-use my_judge::Verdict;
-use std::alloc::Global;
+use crate::tapes::Change;
 use std::test::Fail;
 
 // `COMMIT`, alone and with the `ROLLBACK` that follows where the server refuses.
@@ -158,16 +155,8 @@ fn changes_of_commits_are_refuted(rt: HostRuntime) -> Result<(), Fail> {
     Ok(())
 }
 
-fn is_refuted(alloc: Global, line: Line) -> Result<bool, NoMemory> {
-    let tape = changed(alloc, &[CONNECTS, BEGINS, line], 0, Change::Nothing)?;
-    Ok(judged(alloc, SetUp::Plain, &tape)? == Verdict::Refuted(2))
-}
-
 #[test]
 fn wrong_commits_are_refuted(rt: HostRuntime) -> Result<(), Fail> {
-    let alloc = rt.alloc();
-    for line in WRONG {
-        assert!(rt; is_refuted(alloc, *line)?);
-    }
+    assert!(rt; are_refuted(rt.alloc(), SetUp::Plain, &[CONNECTS, BEGINS], WRONG)?);
     Ok(())
 }

@@ -6,11 +6,12 @@ use my_grammar::Login;
 use my_handshake::Attributes;
 use std::alloc::Global;
 
-/// What a client sends when its connection is made: nothing; it asks for the longest packet and sends `DO 1`; or it sends
-/// `DO 2` and `DO 1`, also when the connection is reset.
+/// What a client sends when its connection is made: nothing, also with a password; it asks for the longest packet and sends
+/// `DO 1`; or it sends `DO 2` and `DO 1`, also when the connection is reset.
 #[derive(Clone, Copy)]
 pub enum SetUp {
     Plain,
+    Secret,
     Asking,
     Twice,
 }
@@ -26,29 +27,36 @@ fn listed(alloc: Global, texts: &[&[u8]]) -> Result<Listed<Blob>, NoMemory> {
 fn init_of(alloc: Global, set_up: SetUp) -> Result<Listed<Blob>, NoMemory> {
     match set_up {
         SetUp::Asking => listed(alloc, &[b"DO 1"]),
-        SetUp::Plain | SetUp::Twice => listed(alloc, &[]),
+        SetUp::Plain | SetUp::Secret | SetUp::Twice => listed(alloc, &[]),
     }
 }
 
 fn setup_of(alloc: Global, set_up: SetUp) -> Result<Listed<Blob>, NoMemory> {
     match set_up {
         SetUp::Twice => listed(alloc, &[b"DO 1", b"DO 2"]),
-        SetUp::Plain | SetUp::Asking => listed(alloc, &[]),
+        SetUp::Plain | SetUp::Secret | SetUp::Asking => listed(alloc, &[]),
     }
 }
 
-/// A user `root` without a password.
+fn password_of(alloc: Global, set_up: SetUp) -> Result<Option<Blob>, NoMemory> {
+    match set_up {
+        SetUp::Secret => Ok(Some(Blob::from_slice(alloc, b"pw")?)),
+        SetUp::Plain | SetUp::Asking | SetUp::Twice => Ok(None),
+    }
+}
+
+/// A user `root`, with the password `pw` or none.
 pub fn login(alloc: Global, set_up: SetUp) -> Result<Login, NoMemory> {
     Ok(Login {
         user: Some(Blob::from_slice(alloc, b"root")?),
-        password: None,
+        password: password_of(alloc, set_up)?,
         database: None,
         max_packet: 4_194_304,
         attributes: Attributes::new(alloc),
         capabilities: CapabilityFlags(0x10f_a281),
         packet_limit: match set_up {
             SetUp::Asking => None,
-            SetUp::Plain | SetUp::Twice => Some(4_194_304),
+            SetUp::Plain | SetUp::Secret | SetUp::Twice => Some(4_194_304),
         },
         wait_timeout: Some(28_800),
         init: init_of(alloc, set_up)?,

@@ -1,15 +1,12 @@
 //! Tapes with resets, and how many changes of each are refuted; and resets that are refuted at once.
 
-use crate::changes::{Table, are_right, judged};
+use crate::changes::{Table, are_refuted, are_right};
 use crate::logins::SetUp;
 use crate::rows::{
     CONNECTS, ERR, FINDS, GREETING, LOGGED_IN, Line, Needs, OK, PINGS, PREPARES, READ_REFUSED,
     READS_ROW, RESETS, RETURNS, SELECTS, Said, Told,
 };
-use crate::tapes::{Change, changed};
-use my_frame::NoMemory;
-use my_judge::Verdict;
-use std::alloc::Global;
+use crate::tapes::Change;
 use std::test::Fail;
 
 // A server of version 5.7.2.
@@ -27,26 +24,29 @@ const SET_UP: &[u8] =
 const SET_UP_OKS: &[u8] = b"\x07\x00\x00\x02\x00\x00\x00\x02\x00\x00\x00\
     \x07\x00\x00\x01\x00\x00\x00\x02\x00\x00\x00\x07\x00\x00\x01\x00\x00\x00\x02\x00\x00\x00";
 
-// A reset with both queries, with the second one alone, and with both in the other order.
-const RESET_BOTH: &[u8] = b"\x01\x00\x00\x00\x1f\x05\x00\x00\x00\x03DO 2\x05\x00\x00\x00\x03DO 1";
+/// A reset with both queries.
+pub const RESET_BOTH: &[u8] =
+    b"\x01\x00\x00\x00\x1f\x05\x00\x00\x00\x03DO 2\x05\x00\x00\x00\x03DO 1";
 
+// With the second one alone, and with both in the other order.
 const RESET_ONE: &[u8] = b"\x01\x00\x00\x00\x1f\x05\x00\x00\x00\x03DO 2";
 
 const RESET_SWAPPED: &[u8] =
     b"\x01\x00\x00\x00\x1f\x05\x00\x00\x00\x03DO 1\x05\x00\x00\x00\x03DO 2";
 
-// OKs of both queries.
-const OKS: &[u8] = b"\x07\x00\x00\x01\x00\x00\x00\x02\x00\x00\x00\
+/// OKs of both queries.
+pub const OKS: &[u8] = b"\x07\x00\x00\x01\x00\x00\x00\x02\x00\x00\x00\
     \x07\x00\x00\x01\x00\x00\x00\x02\x00\x00\x00";
 
-// The login of a client that sends `DO 2` and `DO 1`, and a reset of its connection.
-const SETS_UP_BOTH: Line<'static> = Line {
+/// The login of a client that sends `DO 2` and `DO 1`.
+pub const SETS_UP_BOTH: Line<'static> = Line {
     call: Said::Connect,
     sent: SET_UP,
     taken: [GREETING, SET_UP_OKS],
     ..RETURNS
 };
 
+// A reset of its connection.
 const RESETS_BOTH: Line<'static> = Line {
     sent: RESET_BOTH,
     taken: [OK, OKS],
@@ -205,16 +205,8 @@ fn changes_of_resets_are_refuted(rt: HostRuntime) -> Result<(), Fail> {
     Ok(())
 }
 
-fn is_refuted(alloc: Global, line: Line) -> Result<bool, NoMemory> {
-    let tape = changed(alloc, &[SETS_UP_BOTH, line], 0, Change::Nothing)?;
-    Ok(judged(alloc, SetUp::Twice, &tape)? == Verdict::Refuted(1))
-}
-
 #[test]
 fn wrong_resets_are_refuted(rt: HostRuntime) -> Result<(), Fail> {
-    let alloc = rt.alloc();
-    for line in WRONG {
-        assert!(rt; is_refuted(alloc, *line)?);
-    }
+    assert!(rt; are_refuted(rt.alloc(), SetUp::Twice, &[SETS_UP_BOTH], WRONG)?);
     Ok(())
 }

@@ -85,7 +85,7 @@ pub const SET: &[u8] =
 
 const PING: &[u8] = b"\x01\x00\x00\x00\x0e";
 
-const RESET: &[u8] = b"\x01\x00\x00\x00\x1f";
+pub const RESET: &[u8] = b"\x01\x00\x00\x00\x1f";
 
 pub const QUIT: &[u8] = b"\x01\x00\x00\x00\x01";
 
@@ -122,10 +122,14 @@ pub enum Said<'a> {
     SkipTaken,
     Ping,
     Reset,
+    /// To the user `bob`.
+    ChangeUser,
     Begin(Tx),
     Commit,
     Rollback,
     Forget,
+    Clean,
+    Renew,
     Quit,
 }
 

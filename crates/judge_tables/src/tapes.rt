@@ -3,6 +3,7 @@
 use crate::rows::{Line, Said, Told, Tx};
 use my_frame::{Blob, CodecFault, Listed, NoMemory, Text};
 use my_judge::{Ending, Tape, TapeCall};
+use my_opts::ChangeUserOpts;
 use my_opts_parts::{IsolationLevel, TxOpts};
 use my_params::Params;
 use my_reading::{Answer, Call, DriverError, Error, IoError, IoFault, IoKind, ServerError};
@@ -86,6 +87,11 @@ fn opts_of(tx: Tx) -> TxOpts {
     opts
 }
 
+fn to_bob(alloc: Global) -> Result<ChangeUserOpts, NoMemory> {
+    let name = String::from_str(alloc, "bob")?;
+    Ok(ChangeUserOpts::new().with_user(Some(name)))
+}
+
 fn call_of(alloc: Global, said: Said) -> Result<Call, NoMemory> {
     Ok(match said {
         Said::Connect => Call::Connect,
@@ -100,10 +106,13 @@ fn call_of(alloc: Global, said: Said) -> Result<Call, NoMemory> {
         Said::SkipTaken => Call::SkipTaken,
         Said::Ping => Call::Ping,
         Said::Reset => Call::Reset,
+        Said::ChangeUser => Call::ChangeUser(to_bob(alloc)?),
         Said::Begin(tx) => Call::Begin(opts_of(tx)),
         Said::Commit => Call::Commit,
         Said::Rollback => Call::Rollback,
         Said::Forget => Call::ForgetTransaction,
+        Said::Clean => Call::CleanForPool,
+        Said::Renew => Call::ResetForPool,
         Said::Quit => Call::Quit,
     })
 }

@@ -131,10 +131,13 @@ closes_so kinds.TakeSet p spot e = ap (closes_at kinds.TakeSet) e
 closes_so kinds.SkipTaken p spot e = ap (closes_at kinds.SkipTaken) e
 closes_so kinds.Ping p spot e = refl
 closes_so kinds.Reset p spot e = refl
+closes_so kinds.ChangeUser p spot e = refl
 closes_so kinds.Begin p spot e = refl
 closes_so kinds.Commit p spot e = refl
 closes_so kinds.Rollback p spot e = refl
 closes_so kinds.ForgetTransaction p spot e = refl
+closes_so kinds.CleanForPool p spot e = refl
+closes_so kinds.ResetForPool p spot e = refl
 closes_so kinds.Quit p spot e = refl
 
 module _ (login : Login) (c : ReadCall) (s : Stand) (ending : Option Ending) (at : IsAt login c.halt.place s) (told_is : c.span.ending ≡ option_map told_of ending) where

@@ -47,7 +47,8 @@ use Rattle.my_reading.specs.Commands.{arranging, arranging_texts, closing, conne
 use Rattle.my_reading.specs.Executions.{Values, Fitting, Unfitting, values_for}
 use Rattle.my_reading.specs.Facts.{prepared_by}
 use Rattle.my_reading.specs.Statements.{Statements, cleared, held_in, is_cached, is_mixed_text, known_in, leaving, names_of, query_of, statement_with, with_columns, with_fetched, with_prepared, without_statement}
-use Rattle.my_reading.specs.Course.{Step, Goes, Stops, step, step_of, unless_owed, reads, with_front, after_payload, after_kind, after_err, checked, closing_of, executed as executed_by, first_above, found, looked_for, offered, refused_at, returned, undone, unless_cached, unless_long, unless_refused, with_command, failure, is_greeting, is_rows}
+use Rattle.my_reading.specs.Accounts.{changed}
+use Rattle.my_reading.specs.Course.{Part, Drain, Step, Goes, Stops, step, step_of, unless_owed, reads, with_front, after_payload, after_kind, after_err, checked, closing_of, dropped_at, executed as executed_by, failed_at, first_above, found, is_drain, looked_for, offered, refused_at, renewing, returned, undone, unless_cached, unless_long, unless_refused, with_command, failure, is_greeting, is_rows}
 use Rattle.my_reading.specs.Errors.{codec_error, server_error}
 use Rattle.my_reading.proofs.Described.{kind_known}
 use Rattle.my_reading.specs.Place.{Place, exchanges, facts_at, facts_of, client_side, connects_in, terms_of, owed, next_exchange, with_end, with_statements, with_status, with_taken, with_talk, with_exchange}
@@ -62,10 +63,10 @@ use Rattle.my_judge.specs.declared.step.Step.{Step as CodeStep}
 use Rattle.my_judge.specs.declared.step.Step.TheVariants as steps
 use Rattle.my_judge.specs.declared.step.Stop.TheVariants as code_stops
 use Rattle.my_judge.specs.Parts.{part_of, reverting_parts, start_at}
-use Rattle.my_judge.specs.Stands.{IsArranged, IsAt, Turn, stand_of, arranged_after, heard, asked, asks, turn, with_end as with_left, with_status as with_standing, with_taken as with_mark, refused_at as code_refused, returned as code_returned, after_kind as code_kind, after_err as code_err, after_greeting as code_greeting, after_payload as code_payload, after_prepared as code_prepared, with_front as code_front, with_known, reads as code_reads, arranges, begins, checks, checks_for, closes_one, commands, executed, executed_in, executes, executes_one, finds, finds_so, offers, queries, refuses, undoes, unless_above, steps as code_step}
+use Rattle.my_judge.specs.Stands.{IsArranged, IsAt, Turn, stand_of, arranged_after, heard, asked, asks, turn, with_end as with_left, with_status as with_standing, with_taken as with_mark, refused_at as code_refused, returned as code_returned, after_kind as code_kind, after_err as code_err, after_greeting as code_greeting, after_payload as code_payload, after_prepared as code_prepared, with_front as code_front, with_known, reads as code_reads, arranges, begins, dropped_at as code_dropped, failed_at as code_failed, checks, checks_for, closes_one, commands, executed, executed_in, executes, executes_one, finds, finds_so, offers, queries, refuses, renewing_packet, renews, undoes, unless_above, steps as code_step}
 use Rattle.my_judge.specs.Tapes.{stop_of}
 use Rattle.my_judge.proofs.Suiting.{Suit}
-use Rattle.my_judge.proofs.Places.{limit_is, at_here, at_end, at_known, at_no_end, at_status, at_taken, at_trial, at_end_taken, at_heard}
+use Rattle.my_judge.proofs.Places.{limit_is, at_account, at_here, at_end, at_known, at_no_end, at_status, at_taken, at_trial, at_end_taken, at_heard}
 
 -- a step of a call of which these parts are left
 abbrev pub Follows : Login → List CodePart → Stand → CodeStep → Step → Type 0
@@ -84,6 +85,10 @@ TurnIs login left t x = Follows login left t.stand t.does x
 either : (login : Login) (left : List CodePart) (b : Bool) (t u : Turn) (x y : Step) → (b ≡ true → TurnIs login left t x) → (b ≡ false → TurnIs login left u y) → TurnIs login left (cond b t u) (cond b x y)
 either login left true t u x y f g = f refl
 either login left false t u x y f g = g refl
+
+drain_is : (part : Part) → is_drain part ≡ true → part ≡ Drain
+drain_is Drain e = refl
+drain_is part e = cc
 
 -- bytes are owed exactly where fewer were sent than are said
 some_left : (n : ℕ) (bytes : List ℕ) → n < length bytes → (b : ℕ) × (more : List ℕ) × (drop n bytes ≡ b ∷ more)
@@ -148,6 +153,9 @@ module _ (login : Login) (part : CodePart) (more : List CodePart) (new : Place) 
       by_part (parts.Text text) k = (refl, at)
       by_part (parts.Start opts place) k = (refl, at)
       by_part (parts.Flag flag) k = (refl, at)
+      by_part (parts.Adopt change) k = (refl, at)
+      by_part parts.Renew k = (refl, at)
+      by_part parts.Drain k = (refl, at)
       by_part parts.Undo k = (refl, at)
       by_part parts.Undone k = (refl, at)
       by_part (parts.Refuse opts) k = (refl, at)
@@ -198,6 +206,16 @@ module _ (login : Login) (p : Place) (n : ℕ) (arranged : IsArranged login p n)
     err_follows e None = (refl, here)
     err_follows e (Some packet) = refused_follows p.trial (server_error packet) (new kinds.Failed) (heard login kinds.Failed payload rest s) (heard_at kinds.Failed e refl)
 
+    -- the error is dropped where what is left is read for nobody
+    dropped_follows : kind_of p.talk payload ≡ kinds.Failed → part_of part ≡ Drain → (x : Option ErrPacket)
+        → TurnIs login (part ∷ more) (code_dropped x s (heard login kinds.Failed payload rest s)) (dropped_at login (map part_of more) p (new kinds.Failed) x)
+    dropped_follows e drains None = (refl, here)
+    dropped_follows e drains (Some packet) = (ap (λ x. x ∷ map part_of more) (sym drains), heard_at kinds.Failed e refl)
+
+    failed_follows : kind_of p.talk payload ≡ kinds.Failed → (x : Option ErrPacket)
+        → TurnIs login (part ∷ more) (code_failed part x s (heard login kinds.Failed payload rest s)) (failed_at login (part_of part) (map part_of more) p (new kinds.Failed) x)
+    failed_follows e x = either login (part ∷ more) (is_drain (part_of part)) _ _ _ _ (λ drains. dropped_follows e (drain_is (part_of part) drains) x) (λ _. err_follows e x)
+
     greeting_follows : (k : Kind) → kind_of p.talk payload ≡ k → is_bad k ≡ false → (limit : ℕ) → (context_of p.talk).terms.limit ≡ limit
         → TurnIs login (part ∷ more) (code_greeting (length (response login payload)) s (heard login k payload rest s))
         (cond (nat_lt limit (length (response login payload))) (failure p (codec_error (TooLarge (length (response login payload)) limit))) (Goes (part_of part ∷ map part_of more) (new k)))
@@ -216,7 +234,7 @@ module _ (login : Login) (p : Place) (n : ℕ) (arranged : IsArranged login p n)
 
     payload_follows : (k : Kind) → kind_of p.talk payload ≡ k → Reads k
     payload_follows kinds.Bad e = (refl, here)
-    payload_follows kinds.Failed e = err_follows e (err_at (is_greeting (context_of p.talk).spot) payload)
+    payload_follows kinds.Failed e = failed_follows e (err_at (is_greeting (context_of p.talk).spot) payload)
     payload_follows (kinds.Greets c) e = greeting_follows (kinds.Greets c) e refl (limit_of p.talk) (limit_is p.talk)
     payload_follows (kinds.Good status) e = plain_follows (kinds.Good status) e refl
     payload_follows (kinds.Count c) e = plain_follows (kinds.Count c) e refl
@@ -282,7 +300,7 @@ module _ (login : Login) (p : Place) (n : ℕ) (arranged : IsArranged login p n)
   executed_at call other ahead command known =
       let base : Stand = executed ahead command s in
       record {
-        stand_is = ap (λ (bytes : List ℕ). let x : Stand = record { context = base.context; number = base.number; facts = base.facts; texts = base.texts; arranged = base.arranged; end_left = base.end_left; taken = base.taken; statements = base.statements; status = base.status; trial = base.trial; unread = base.unread; said = bytes; sent = base.sent } in x)
+        stand_is = ap (λ (bytes : List ℕ). let x : Stand = record { context = base.context; number = base.number; facts = base.facts; texts = base.texts; arranged = base.arranged; end_left = base.end_left; taken = base.taken; statements = base.statements; status = base.status; account = base.account; trial = base.trial; unread = base.unread; said = bytes; sent = base.sent } in x)
             (append_assoc (client_side (exchanges p)) (commands_bytes ahead) (chunks command 0) ∙ ap (λ bs. client_side (exchanges p) ++ bs) (sym (ahead_then ahead command)));
         arranged_is = arranged_same call (Queried terms command (NoSets (ByStatement ahead known))) other;
         fits = record { kinds = tt; within = tt };
@@ -335,10 +353,13 @@ module _ (login : Login) (p : Place) (n : ℕ) (arranged : IsArranged login p n)
   commands_follow calls.TakeSet more = (refl, here)
   commands_follow calls.SkipTaken more = (refl, here)
   commands_follow calls.Ping more = simple_follows calls.Ping refl parts.Command more (packet_bytes packets.Ping)
+  commands_follow (calls.ChangeUser change) more = (refl, here)
   commands_follow (calls.Begin opts) more = (refl, here)
   commands_follow calls.Commit more = (refl, here)
   commands_follow calls.Rollback more = (refl, here)
   commands_follow calls.ForgetTransaction more = (refl, here)
+  commands_follow calls.CleanForPool more = (refl, here)
+  commands_follow calls.ResetForPool more = (refl, here)
   commands_follow calls.Reset more = simple_follows calls.Reset refl parts.Command more (packet_bytes packets.ResetConnection)
   commands_follow calls.Quit more =
       let talk : Talk = Silent terms (packet_bytes packets.Quit) in
@@ -378,10 +399,13 @@ module _ (login : Login) (p : Place) (n : ℕ) (arranged : IsArranged login p n)
   runs_follow part params calls.SkipTaken more e = cc
   runs_follow part params calls.Ping more e = cc
   runs_follow part params calls.Reset more e = cc
+  runs_follow part params (calls.ChangeUser change) more e = cc
   runs_follow part params (calls.Begin opts) more e = cc
   runs_follow part params calls.Commit more e = cc
   runs_follow part params calls.Rollback more e = cc
   runs_follow part params calls.ForgetTransaction more e = cc
+  runs_follow part params calls.CleanForPool more e = cc
+  runs_follow part params calls.ResetForPool more e = cc
   runs_follow part params calls.Quit more e = cc
 
   keeps_follow : (text : List ℕ) (more : List CodePart) (st : Statements) (x : Option ℕ)
@@ -396,6 +420,13 @@ module _ (login : Login) (p : Place) (n : ℕ) (arranged : IsArranged login p n)
   offers_follow : (part : CodePart) (more : List CodePart) (b : Bool) → TurnIs login (part ∷ more) (offers b s) (offered (map part_of more) p b)
   offers_follow part more true = (refl, here)
   offers_follow part more false = (refl, here)
+
+  renews_follow : (call : Call) (more : List CodePart) → TurnIs login (parts.Renew ∷ more) (renews login call s) (with_command call (map part_of more) p (Some (renewing login call p (facts_at login p))))
+  renews_follow call more =
+      let talk : Talk = renewing login call p (facts_at login p) in
+      unless_follows login parts.Renew more p (with_exchange p call talk) s (asked spots.Single (packet_bytes (renewing_packet login call s)) (arranged_after call s) s) here
+      (asked_at call talk _ (arranged_after call s) refl refl (arranged_more call talk) (record { kinds = tt; within = tt }) refl)
+      (first_above (limit_of talk) (commands_in talk))
 
   undoes_follow : (call : Call) (more : List CodePart) (b : Bool) → TurnIs login (parts.Undo ∷ more) (undoes call b s) (undone login call (map part_of more) p b)
   undoes_follow call more true = queries_follow call parts.Undo more rollback_text
@@ -444,6 +475,10 @@ module _ (login : Login) (p : Place) (n : ℕ) (arranged : IsArranged login p n)
   begins_follow call (parts.Text text ∷ more) w = queries_follow call (parts.Text text) more text.now
   begins_follow call (parts.Start opts place ∷ more) w = queries_follow call (parts.Start opts place) more (start_at opts.now place)
   begins_follow call (parts.Flag flag ∷ more) w = (refl, here)
+  begins_follow call (parts.Adopt change ∷ more) w = (refl, at_account login p s (changed change.now p.account) here)
+  begins_follow call (parts.Renew ∷ more) w = renews_follow call more
+  begins_follow call (parts.Drain ∷ more) w = either login (parts.Drain ∷ more) p.end_left _ _ _ _ (λ _. (refl, at_no_end login p n arranged fits same))
+      (λ _. either login (parts.Drain ∷ more) (is_over p.talk) _ _ _ _ (λ _. (refl, here)) (λ _. reads_follow parts.Drain more))
   begins_follow call (parts.Undo ∷ more) w = undoes_follow call more (is_given_up p.status)
   begins_follow call (parts.Undone ∷ more) w = (refl, at_status login p s (rolled_back p.status) here)
   begins_follow call (parts.Refuse opts ∷ more) w = refuses_follow (parts.Refuse opts) more (begin_refusal opts.now (version_of (facts_at login p).version) p.status)

@@ -4,6 +4,7 @@ use Rattle.std.proofs.lemmas.List.{append_assoc}
 use Rattle.my_frame.specs.Front.{Whole}
 use Rattle.my_grammar.proofs.Cutting.Fronts.{takes_whole}
 use Rattle.my_grammar.proofs.Growth.{grows, reads}
+use Rattle.my_grammar.specs.declared.account.Account.{Account}
 use Rattle.my_grammar.specs.declared.login.Login.{Login}
 use Rattle.my_grammar.specs.declared.spot.Context.{Context}
 use Rattle.my_grammar.specs.Contexts.{is_bad}
@@ -15,10 +16,10 @@ use Rattle.my_reading.specs.declared.facts.Facts.{Facts}
 use Rattle.my_reading.specs.declared.transaction.Trial.{Trial}
 use Rattle.my_reading.specs.declared.transaction.TxStatus.{TxStatus}
 use Rattle.my_reading.specs.Facts.{facts_by}
-use Rattle.my_reading.specs.Place.{Place, exchanges, facts_at, facts_of, client_side, with_bytes, with_end, without_end, with_statements, with_status, with_taken, with_talk, with_trial, is_rows}
+use Rattle.my_reading.specs.Place.{Place, exchanges, facts_at, facts_of, client_side, with_account, with_bytes, with_end, without_end, with_statements, with_status, with_taken, with_talk, with_trial, is_rows}
 use Rattle.my_reading.specs.Statements.{Statements}
 use Rattle.my_judge.specs.declared.stand.Stand.{Stand}
-use Rattle.my_judge.specs.Stands.{IsArranged, IsAt, stand_of, heard, with_bytes as with_more, with_end as with_left, with_known, with_status as with_standing, with_taken as with_mark, with_trial as with_trying}
+use Rattle.my_judge.specs.Stands.{IsArranged, IsAt, stand_of, heard, with_account as with_new_account, with_bytes as with_more, with_end as with_left, with_known, with_status as with_standing, with_taken as with_mark, with_trial as with_trying}
 
 pub limit_is : (t : Talk) → (context_of t).terms.limit ≡ limit_of t
 limit_is (Start login) = refl
@@ -34,13 +35,13 @@ limit_is (Silent terms c) = refl
 -- a stand whose fields are these
 same_stand : (login : Login) (p : Place) (n : ℕ) (c : Context) (m : ℕ) (f : Facts) (bytes : List ℕ) (mark : Bool)
     → c ≡ context_of p.talk → m ≡ number_of (turns p.talk) → f ≡ facts_at login p → bytes ≡ client_side (exchanges p) → mark ≡ p.taken
-    → (let s : Stand = record { context = c; number = m; facts = f; texts = arranging_texts login; arranged = n; end_left = p.end_left; taken = mark; statements = p.statements; status = p.status; trial = p.trial; unread = p.unread; said = bytes; sent = p.sent } in s) ≡ stand_of login p n
+    → (let s : Stand = record { context = c; number = m; facts = f; texts = arranging_texts login; arranged = n; end_left = p.end_left; taken = mark; statements = p.statements; status = p.status; account = p.account; trial = p.trial; unread = p.unread; said = bytes; sent = p.sent } in s) ≡ stand_of login p n
 same_stand login p n c m f bytes mark ec em ef eb ek =
-    ap (λ (x : Context). let s : Stand = record { context = x; number = m; facts = f; texts = arranging_texts login; arranged = n; end_left = p.end_left; taken = mark; statements = p.statements; status = p.status; trial = p.trial; unread = p.unread; said = bytes; sent = p.sent } in s) ec
-    ∙ ap (λ (x : ℕ). let s : Stand = record { context = context_of p.talk; number = x; facts = f; texts = arranging_texts login; arranged = n; end_left = p.end_left; taken = mark; statements = p.statements; status = p.status; trial = p.trial; unread = p.unread; said = bytes; sent = p.sent } in s) em
-    ∙ ap (λ (x : Facts). let s : Stand = record { context = context_of p.talk; number = number_of (turns p.talk); facts = x; texts = arranging_texts login; arranged = n; end_left = p.end_left; taken = mark; statements = p.statements; status = p.status; trial = p.trial; unread = p.unread; said = bytes; sent = p.sent } in s) ef
-    ∙ ap (λ (x : List ℕ). let s : Stand = record { context = context_of p.talk; number = number_of (turns p.talk); facts = facts_at login p; texts = arranging_texts login; arranged = n; end_left = p.end_left; taken = mark; statements = p.statements; status = p.status; trial = p.trial; unread = p.unread; said = x; sent = p.sent } in s) eb
-    ∙ ap (λ (x : Bool). let s : Stand = record { context = context_of p.talk; number = number_of (turns p.talk); facts = facts_at login p; texts = arranging_texts login; arranged = n; end_left = p.end_left; taken = x; statements = p.statements; status = p.status; trial = p.trial; unread = p.unread; said = client_side (exchanges p); sent = p.sent } in s) ek
+    ap (λ (x : Context). let s : Stand = record { context = x; number = m; facts = f; texts = arranging_texts login; arranged = n; end_left = p.end_left; taken = mark; statements = p.statements; status = p.status; account = p.account; trial = p.trial; unread = p.unread; said = bytes; sent = p.sent } in s) ec
+    ∙ ap (λ (x : ℕ). let s : Stand = record { context = context_of p.talk; number = x; facts = f; texts = arranging_texts login; arranged = n; end_left = p.end_left; taken = mark; statements = p.statements; status = p.status; account = p.account; trial = p.trial; unread = p.unread; said = bytes; sent = p.sent } in s) em
+    ∙ ap (λ (x : Facts). let s : Stand = record { context = context_of p.talk; number = number_of (turns p.talk); facts = x; texts = arranging_texts login; arranged = n; end_left = p.end_left; taken = mark; statements = p.statements; status = p.status; account = p.account; trial = p.trial; unread = p.unread; said = bytes; sent = p.sent } in s) ef
+    ∙ ap (λ (x : List ℕ). let s : Stand = record { context = context_of p.talk; number = number_of (turns p.talk); facts = facts_at login p; texts = arranging_texts login; arranged = n; end_left = p.end_left; taken = mark; statements = p.statements; status = p.status; account = p.account; trial = p.trial; unread = p.unread; said = x; sent = p.sent } in s) eb
+    ∙ ap (λ (x : Bool). let s : Stand = record { context = context_of p.talk; number = number_of (turns p.talk); facts = facts_at login p; texts = arranging_texts login; arranged = n; end_left = p.end_left; taken = x; statements = p.statements; status = p.status; account = p.account; trial = p.trial; unread = p.unread; said = client_side (exchanges p); sent = p.sent } in s) ek
 
 module _ (login : Login) (p : Place) (n : ℕ) (arranged : IsArranged login p n) (fits : Fits p.talk) (same : login_in login p.talk ≡ login) where
   pub at_here : IsAt login p (stand_of login p n)
@@ -90,6 +91,10 @@ at_status login p s status at = record { stand_is = ap (with_standing status) at
 
 pub at_trial : (login : Login) (p : Place) (s : Stand) (trial : Trial) → IsAt login p s → IsAt login (with_trial trial p) (with_trying trial s)
 at_trial login p s trial at = record { stand_is = ap (with_trying trial) at.stand_is; arranged_is = at.arranged_is; fits = at.fits; login_is = at.login_is }
+
+-- the options in force have this account
+pub at_account : (login : Login) (p : Place) (s : Stand) (account : Account) → IsAt login p s → IsAt login (with_account account p) (with_new_account account s)
+at_account login p s account at = record { stand_is = ap (with_new_account account) at.stand_is; arranged_is = at.arranged_is; fits = at.fits; login_is = at.login_is }
 
 -- bytes are sent and received
 pub at_bytes : (login : Login) (p : Place) (s : Stand) (sent taken : List ℕ) → IsAt login p s → IsAt login (with_bytes sent taken p) (with_more sent taken s)

@@ -3,10 +3,10 @@ use Rattle.std.proofs.Common.{◌≡◌, ℕ, List, [], ◌∷◌, Some, true, r
 use Rattle.my_params.specs.declared.params.Params.{Params}
 use Rattle.my_grammar.specs.declared.login.Login.{Login}
 use Rattle.my_reading.specs.declared.call.Call.{Call}
-use Rattle.my_reading.specs.declared.call.Call.TheVariants.{Connect, Query, Prepare, Execute, Batch, CloseStmt, NextRow, DropResult, TakeSet, SkipTaken, Ping, Reset, Begin, Commit, Rollback, ForgetTransaction, Quit}
+use Rattle.my_reading.specs.declared.call.Call.TheVariants.{Connect, Query, Prepare, Execute, Batch, CloseStmt, NextRow, DropResult, TakeSet, SkipTaken, Ping, Reset, ChangeUser, Begin, Commit, Rollback, ForgetTransaction, CleanForPool, ResetForPool, Quit}
 use Rattle.my_reading.specs.Calls.{statement_in}
 use Rattle.my_reading.specs.Commands.{arranging_texts, setup_texts}
-use Rattle.my_reading.specs.Course.{Part, All, Check, Clear, Command, Flag, Give, Head, Keep, Learn, Refuse, Reply, Run, Settle, Text, clean, parts_of, parts_of_batch, parts_of_lists, parts_of_queries, parts_of_texts}
+use Rattle.my_reading.specs.Course.{Part, All, Check, Clear, Command, Flag, Give, Head, Keep, Learn, Refuse, Renew, Reply, Run, Settle, Text, clean, parts_of, parts_of_batch, parts_of_lists, parts_of_queries, parts_of_texts, renewed}
 use Rattle.my_reading.specs.declared.transaction.TxStatus.TheVariants as txs
 use Rattle.my_reading.specs.Transactions.{begin_texts, commit_text}
 use Rattle.my_judge.specs.Parts.{reverting_parts}
@@ -41,6 +41,9 @@ queries_suit : (call : Call) (texts : List (List ℕ)) (parts : List Part) → S
 queries_suit call [] parts w = (tt, w)
 queries_suit call (text ∷ texts) parts w = (tt, (tt, queries_suit call texts parts w))
 
+renewed_suits : (login : Login) (call : Call) → Suit call (renewed login)
+renewed_suits login call = clean_suits call (Renew ∷ All ∷ Clear ∷ parts_of_queries (setup_texts login) []) (tt, (tt, (tt, queries_suit call (setup_texts login) [] tt)))
+
 pub parts_suit : (login : Login) (call : Call) → Suit call (parts_of login call)
 parts_suit login Connect = (tt, texts_suit Connect (arranging_texts login))
 parts_suit login (Query text) = clean_suits (Query text) (Command ∷ Head ∷ []) (tt, (tt, tt))
@@ -58,11 +61,14 @@ parts_suit login Reset = (
   clean_suits Reset (Command ∷ All ∷ Clear ∷ parts_of_queries (setup_texts login) (Flag true ∷ []))
       (tt, (tt, (tt, queries_suit Reset (setup_texts login) (Flag true ∷ []) (tt, tt)))),
 )
+parts_suit login (ChangeUser change) = (tt, renewed_suits login (ChangeUser change))
 parts_suit login (Begin opts) = clean_suits (Begin opts) (Refuse opts ∷ parts_of_queries (begin_texts opts) (Settle txs.InTransaction ∷ []))
     (tt, queries_suit (Begin opts) (begin_texts opts) (Settle txs.InTransaction ∷ []) (tt, tt))
 parts_suit login Commit = (tt, clean_suits Commit (Text commit_text ∷ All ∷ Settle txs.None ∷ []) (tt, (tt, (tt, tt))))
 parts_suit login Rollback = (tt, clean_suits Rollback [] tt)
 parts_suit login ForgetTransaction = (tt, tt)
+parts_suit login CleanForPool = (tt, (tt, clean_suits CleanForPool [] tt))
+parts_suit login ResetForPool = renewed_suits login ResetForPool
 parts_suit login Quit = clean_suits Quit (Command ∷ []) (tt, tt)
 
 pub reverting_suits : (call : Call) → Suit call reverting_parts

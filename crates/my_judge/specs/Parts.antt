@@ -2,7 +2,7 @@
 use Rattle.std.specs.Prelude.{ℕ, List, [], ◌∷◌, get_or, reverse, true}
 use Rattle.my_opts_parts.specs.TransactionOptions.{TxView}
 use Rattle.my_reading.specs.declared.transaction.TxStatus.TheVariants as txs
-use Rattle.my_reading.specs.Course.{Part, All, Head, Item, Set, Rest, Command, Find, Check, Run, Reply, Keep, Give, Learn, Forget, Offered, Clear, Text, Flag, Undo, Undone, Refuse, Settle, GiveUp, Try, Back, clean, parts_of_queries, parts_of_texts}
+use Rattle.my_reading.specs.Course.{Part, All, Head, Item, Set, Rest, Command, Find, Check, Run, Reply, Keep, Give, Learn, Forget, Offered, Clear, Text, Flag, Adopt, Renew, Drain, Undo, Undone, Refuse, Settle, GiveUp, Try, Back, clean, parts_of_queries, parts_of_texts}
 use Rattle.my_reading.specs.Transactions.{begin_texts, commit_text}
 use Rattle.my_judge.specs.declared.part.Part.{Part as CodePart}
 use Rattle.my_judge.specs.declared.part.Part.TheVariants as parts
@@ -31,6 +31,9 @@ part_of parts.Clear = Clear
 part_of (parts.Text text) = Text text.now
 part_of (parts.Start opts place) = Text (start_at opts.now place)
 part_of (parts.Flag flag) = Flag flag
+part_of (parts.Adopt change) = Adopt change.now
+part_of parts.Renew = Renew
+part_of parts.Drain = Drain
 part_of parts.Undo = Undo
 part_of parts.Undone = Undone
 part_of (parts.Refuse opts) = Refuse opts.now
@@ -47,6 +50,10 @@ connecting_parts texts = All ∷ parts_of_texts texts
 -- a reset, after which these queries are sent from the last to the first
 abbrev pub reset_parts : List (List ℕ) → List Part
 reset_parts setup = Offered ∷ clean (Command ∷ All ∷ Clear ∷ parts_of_queries (reverse setup) (Flag true ∷ []))
+
+-- the server's session is renewed, and these queries are sent from the last to the first
+abbrev pub renewed_parts : List (List ℕ) → List Part
+renewed_parts setup = clean (Renew ∷ All ∷ Clear ∷ parts_of_queries (reverse setup) [])
 
 -- the beginning of a transaction
 abbrev pub begin_parts : TxView → List Part

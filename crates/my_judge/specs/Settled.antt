@@ -9,7 +9,7 @@ use Rattle.my_reading.specs.Endings.{closes_cancelled}
 use Rattle.my_reading.specs.Place.{Place}
 use Rattle.my_reading.specs.Reading.{halt_of}
 use Rattle.my_reading.specs.Tape.{Span}
-use Rattle.my_reading.specs.Told.{Told, ToldReady, ToldRow, ToldEnd, ToldNone, ToldStatement, ToldFlag, ToldError, Dropped}
+use Rattle.my_reading.specs.Told.{Told, ToldReady, ToldRow, ToldEnd, ToldNone, ToldStatement, ToldFlag, ToldError, ToldPassed, Dropped}
 use Rattle.my_judge.specs.declared.reader.Reader.{Reader}
 use Rattle.my_judge.specs.declared.tape.Ending.{Ending}
 use Rattle.my_judge.specs.Reads.{ReadsCall, read_of}
@@ -26,6 +26,7 @@ settled_told kind p (Some ToldNone) = Some ToldNone
 settled_told kind p (Some (ToldStatement statement)) = Some (ToldStatement statement)
 settled_told kind p (Some (ToldFlag flag)) = Some (ToldFlag flag)
 settled_told kind p (Some (ToldError e)) = Some (ToldError e)
+settled_told kind p (Some (ToldPassed e)) = Some (ToldPassed e)
 settled_told kind p (Some (Dropped closing)) = Some (Dropped (closes_cancelled kind p))
 
 -- so it is said of the call where it stops

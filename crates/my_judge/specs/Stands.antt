@@ -1,5 +1,6 @@
 -- What the program knows where the reading stands, and what a step of a call does there.
 use Rattle.std.specs.Prelude.{◌≡◌, ℕ, suc, nat_lt, List, [], ◌∷◌, ◌++◌, length, min, slice_get, Option, Some, None, Bool, true, false, ◌&&◌, ◌||◌, if◌then◌else◌}
+use Rattle.my_command.specs.declared.client.ClientPacket.{ClientPacket}
 use Rattle.my_command.specs.declared.client.ClientPacket.TheVariants as packets
 use Rattle.my_command.specs.Client.Packet.{client_bytes as packet_bytes}
 use Rattle.my_frame.specs.declared.fault.CodecFault.TheVariants.{TooLarge}
@@ -16,6 +17,7 @@ use Rattle.my_params.specs.declared.params.Params.{Params}
 use Rattle.my_statements.specs.Prepared.{StatementView}
 use Rattle.std.specs.Option.{option_map}
 use Rattle.my_value.specs.RowParts.{RowParts}
+use Rattle.my_grammar.specs.declared.account.Account.{Account}
 use Rattle.my_grammar.specs.declared.login.Login.{Login}
 use Rattle.my_grammar.specs.declared.spot.Kind.{Kind}
 use Rattle.my_grammar.specs.declared.spot.Kind.TheVariants as kinds
@@ -39,9 +41,10 @@ use Rattle.my_reading.specs.declared.transaction.Trial.{Trial}
 use Rattle.my_reading.specs.declared.transaction.Trial.TheVariants as trials
 use Rattle.my_reading.specs.declared.transaction.TxStatus.{TxStatus}
 use Rattle.my_reading.specs.declared.transaction.TxStatus.TheVariants as txs
-use Rattle.my_reading.specs.Commands.{arranging_texts}
+use Rattle.my_reading.specs.Accounts.{changed}
+use Rattle.my_reading.specs.Commands.{arranging_texts, renewal_packet, renews_by_reset}
 use Rattle.my_reading.specs.Calls.{id_in, is_connect, kind_of, text_in}
-use Rattle.my_reading.specs.Course.{first_above, is_greeting, is_rows}
+use Rattle.my_reading.specs.Course.{first_above, is_drain, is_greeting, is_rows}
 use Rattle.my_reading.specs.Executions.{Values, Fitting, Unfitting, values_for}
 use Rattle.my_reading.specs.Statements.{Statements, cleared, held_in, is_cached, is_mixed_text, leaving, names_of, query_of, statement_with, with_columns, with_fetched, with_prepared, without_statement}
 use Rattle.my_reading.specs.Errors.{codec_error, invalid_data, mixed_params, server_error}
@@ -54,7 +57,7 @@ use Rattle.my_judge.specs.declared.part.Part.{Part}
 use Rattle.my_judge.specs.declared.part.Part.TheVariants as parts
 use Rattle.my_judge.specs.declared.stand.Stand.{Stand}
 use Rattle.my_judge.specs.declared.step.Step.{Step}
-use Rattle.my_judge.specs.Parts.{start_at}
+use Rattle.my_judge.specs.Parts.{part_of, start_at}
 use Rattle.my_judge.specs.declared.step.Step.TheVariants.{Stays, Passes, Reverts, Stops}
 use Rattle.my_judge.specs.declared.step.Stop.TheVariants.{Owes, Awaits, Returns}
 use Rattle.my_judge.specs.declared.tape.Ending.TheVariants.{Answered, Failed}
@@ -71,6 +74,7 @@ stand_of login p n = record {
   taken = p.taken;
   statements = p.statements;
   status = p.status;
+  account = p.account;
   trial = p.trial;
   unread = p.unread;
   said = client_side (exchanges p);
@@ -100,6 +104,7 @@ with_bytes sent taken s = record {
   taken = s.taken;
   statements = s.statements;
   status = s.status;
+  account = s.account;
   trial = s.trial;
   unread = s.unread ++ taken;
   said = s.said;
@@ -118,6 +123,7 @@ with_end left s = record {
   taken = s.taken;
   statements = s.statements;
   status = s.status;
+  account = s.account;
   trial = s.trial;
   unread = s.unread;
   said = s.said;
@@ -136,6 +142,7 @@ with_taken s = record {
   taken = true;
   statements = s.statements;
   status = s.status;
+  account = s.account;
   trial = s.trial;
   unread = s.unread;
   said = s.said;
@@ -154,6 +161,7 @@ with_known st s = record {
   taken = s.taken;
   statements = st;
   status = s.status;
+  account = s.account;
   trial = s.trial;
   unread = s.unread;
   said = s.said;
@@ -172,6 +180,26 @@ with_status status s = record {
   taken = s.taken;
   statements = s.statements;
   status = status;
+  account = s.account;
+  trial = s.trial;
+  unread = s.unread;
+  said = s.said;
+  sent = s.sent;
+}
+
+-- the options in force have this account
+abbrev pub with_account : Account → Stand → Stand
+with_account account s = record {
+  context = s.context;
+  number = s.number;
+  facts = s.facts;
+  texts = s.texts;
+  arranged = s.arranged;
+  end_left = s.end_left;
+  taken = s.taken;
+  statements = s.statements;
+  status = s.status;
+  account = account;
   trial = s.trial;
   unread = s.unread;
   said = s.said;
@@ -190,6 +218,7 @@ with_trial trial s = record {
   taken = s.taken;
   statements = s.statements;
   status = s.status;
+  account = s.account;
   trial = trial;
   unread = s.unread;
   said = s.said;
@@ -208,6 +237,7 @@ heard login k payload rest s = record {
   taken = s.taken && is_rows (context_after s.context k).spot;
   statements = s.statements;
   status = s.status;
+  account = s.account;
   trial = s.trial;
   unread = rest;
   said = s.said ++ said login k payload s.number;
@@ -226,6 +256,7 @@ asked spot command arranged s = record {
   taken = false;
   statements = s.statements;
   status = s.status;
+  account = s.account;
   trial = s.trial;
   unread = s.unread;
   said = s.said ++ chunks command 0;
@@ -244,6 +275,7 @@ executed ahead command s = record {
   taken = false;
   statements = s.statements;
   status = s.status;
+  account = s.account;
   trial = s.trial;
   unread = s.unread;
   said = (s.said ++ commands_bytes ahead) ++ chunks command 0;
@@ -289,6 +321,14 @@ abbrev pub after_err : Option ErrPacket → Stand → Stand → Turn
 after_err None s new = turn (unfit s) s
 after_err (Some e) s new = refused_at s.trial (server_error e) new
 
+-- what is left is read for nobody: its ERR is dropped
+abbrev pub dropped_at : Option ErrPacket → Stand → Stand → Turn
+dropped_at None s new = turn (unfit s) s
+dropped_at (Some e) s new = turn Stays new
+
+abbrev pub failed_at : Part → Option ErrPacket → Stand → Stand → Turn
+failed_at part e s new = if is_drain (part_of part) then dropped_at e s new else after_err e s new
+
 -- the response to a greeting may be above the limit
 abbrev pub after_greeting : ℕ → Stand → Stand → Turn
 after_greeting len s new =
@@ -306,7 +346,7 @@ after_prepared o s new = if is_cached_by o s.statements then turn (unfit s) s el
 
 abbrev pub after_payload : Login → Part → List ℕ → Stand → Stand → Kind → Turn
 after_payload login part payload s new kinds.Bad = turn (unfit s) s
-after_payload login part payload s new kinds.Failed = after_err (err_at (is_greeting s.context.spot) payload) s new
+after_payload login part payload s new kinds.Failed = failed_at part (err_at (is_greeting s.context.spot) payload) s new
 after_payload login part payload s new (kinds.Greets capabilities) = after_greeting (length (response login payload)) s new
 after_payload login part payload s new (kinds.Prepared params columns) = after_prepared (prepare_ok_at payload) s new
 after_payload login part payload s new k = after_kind part k (row_of s.context.rows s.facts.columns payload) new
@@ -379,10 +419,13 @@ commands calls.TakeSet s = turn Passes s
 commands calls.SkipTaken s = turn Passes s
 commands calls.Ping s = asks spots.Single (packet_bytes packets.Ping) s.arranged s
 commands calls.Reset s = asks spots.Single (packet_bytes packets.ResetConnection) s.arranged s
+commands (calls.ChangeUser change) s = turn Passes s
 commands (calls.Begin opts) s = turn Passes s
 commands calls.Commit s = turn Passes s
 commands calls.Rollback s = turn Passes s
 commands calls.ForgetTransaction s = turn Passes s
+commands calls.CleanForPool s = turn Passes s
+commands calls.ResetForPool s = turn Passes s
 commands calls.Quit s = asks spots.Idle (packet_bytes packets.Quit) s.arranged s
 
 -- a statement that is cached is returned
@@ -428,6 +471,13 @@ learns id s = if is_rows s.context.spot then turn Passes (with_known (with_colum
 abbrev pub offers : Bool → Stand → Turn
 offers true s = turn Passes s
 offers false s = turn (Stops (Returns (Answered (answers.Flag false)))) s
+
+-- the packet by which the server's session is renewed
+abbrev pub renewing_packet : Login → Call → Stand → ClientPacket
+renewing_packet login call s = renewal_packet login s.context.terms.kept s.facts s.account (renews_by_reset (kind_of call) (version_of s.facts.version))
+
+abbrev pub renews : Login → Call → Stand → Turn
+renews login call s = asks spots.Single (packet_bytes (renewing_packet login call s)) (arranged_after call s) s
 
 -- a transaction that was given up is rolled back
 abbrev pub undoes : Call → Bool → Stand → Turn
@@ -478,6 +528,12 @@ begins login call (parts.Clear ∷ more) s = turn Passes (with_known (cleared s.
 begins login call (parts.Text text ∷ more) s = queries call text.now s
 begins login call (parts.Start opts place ∷ more) s = queries call (start_at opts.now place) s
 begins login call (parts.Flag flag ∷ more) s = turn (Stops (Returns (Answered (answers.Flag flag)))) s
+begins login call (parts.Adopt change ∷ more) s = turn Passes (with_account (changed change.now s.account) s)
+begins login call (parts.Renew ∷ more) s = renews login call s
+begins login call (parts.Drain ∷ more) s =
+    if s.end_left
+    then turn Stays (with_end false s)
+    else (if is_idle s.context.spot then turn Passes s else reads login parts.Drain s)
 begins login call (parts.Undo ∷ more) s = undoes call (is_given_up s.status) s
 begins login call (parts.Undone ∷ more) s = turn Passes (with_status (rolled_back s.status) s)
 begins login call (parts.Refuse opts ∷ more) s = refuses (begin_refusal opts.now (version_of s.facts.version) s.status) s

@@ -1,12 +1,13 @@
 //! The parts of a call.
 
-ghost use Rattle.std.specs.Prelude.{◌≡◌, ◌∷◌, ◌++◌, [], IfOk, OnOk, drop, map};
+ghost use Rattle.std.specs.Prelude.{◌≡◌, ◌∷◌, ◌++◌, [], IfOk, OnOk, drop, map, reverse};
 ghost use Rattle.my_reading.specs.Commands.{arranging_texts};
-ghost use Rattle.my_reading.specs.Course.{clean, parts_of, parts_of_batch, parts_of_lists};
-ghost use Rattle.my_judge.specs.Parts.{begin_parts, connecting_parts, part_of, reset_parts};
+ghost use Rattle.my_reading.specs.Course.{clean, parts_of, parts_of_batch, parts_of_lists, parts_of_queries};
+ghost use Rattle.my_judge.specs.Parts.{begin_parts, connecting_parts, part_of, renewed_parts, reset_parts};
 
 use my_frame::{Blob, NoMemory};
 use my_grammar::Login;
+use my_opts::ChangeUserOpts;
 use my_opts_parts::TxOpts;
 use my_params::Params;
 use my_reading::{Call, TxStatus, begin_text};
@@ -53,6 +54,12 @@ pub enum Part<'a> {
     Start(&'a TxOpts, usize),
     /// This flag is returned.
     Flag(bool),
+    /// The options are changed so.
+    Adopt(&'a ChangeUserOpts),
+    /// The server's session is renewed.
+    Renew,
+    /// The rest of the newest exchange is read, and an ERR in it dropped.
+    Drain,
     /// A transaction that was given up is rolled back.
     Undo,
     /// Then there is none.
@@ -134,6 +141,27 @@ fn parts_of_batch(alloc: Global, lists: &[Params]) -> Result<Vec<Part<'_>>, NoMe
     Ok(parts)
 }
 
+// Adds the parts by which these queries are sent from the last to the first, and then these parts.
+fn add_queries<'a>(
+    parts: &mut Vec<Part<'a>>,
+    texts: &'a [Blob],
+    then: &[Part<'a>],
+) -> Result<(), NoMemory>
+    ensures { let before = map part_of parts.old.items in
+        OnOk result (map part_of parts.new.items ≡
+        before ++ parts_of_queries (reverse texts.now) (map part_of then.now)) }
+{
+    let mut left = texts;
+    'texts: while let Some((text, before)) = left.split_last() {
+        parts.push(Part::All)?;
+        parts.push(Part::Text(text))?;
+        left = before;
+    }
+    parts.push(Part::All)?;
+    parts.extend_from_slice(then)?;
+    Ok(())
+}
+
 // The parts of a reset, after which these queries are sent from the last to the first.
 fn parts_of_reset(alloc: Global, setup: &[Blob]) -> Result<Vec<Part<'_>>, NoMemory>
     ensures { IfOk result (λ parts. map part_of parts.items ≡ reset_parts setup.now) }
@@ -143,14 +171,22 @@ fn parts_of_reset(alloc: Global, setup: &[Blob]) -> Result<Vec<Part<'_>>, NoMemo
         &[Part::Offered],
         &[Part::Command, Part::All, Part::Clear],
     )?;
-    let mut left = setup;
-    'texts: while let Some((text, before)) = left.split_last() {
-        parts.push(Part::All)?;
-        parts.push(Part::Text(text))?;
-        left = before;
-    }
-    parts.push(Part::All)?;
-    parts.push(Part::Flag(true))?;
+    add_queries(&mut parts, setup, &[Part::Flag(true)])?;
+    Ok(parts)
+}
+
+// The parts of a call that renews the server's session once it has done these first; then these queries are sent from the last
+// to the first.
+fn parts_of_renewal<'a>(
+    alloc: Global,
+    first: &[Part<'a>],
+    setup: &'a [Blob],
+) -> Result<Vec<Part<'a>>, NoMemory>
+    ensures { IfOk result (λ parts.
+        map part_of parts.items ≡ map part_of first.now ++ renewed_parts setup.now) }
+{
+    let mut parts = cleaned(alloc, first, &[Part::Renew, Part::All, Part::Clear])?;
+    add_queries(&mut parts, setup, &[])?;
     Ok(parts)
 }
 
@@ -201,6 +237,9 @@ pub fn parts_of<'a>(
         Call::SkipTaken => Ok(vec![in alloc; Part::Rest]?),
         Call::Ping => cleaned(alloc, &[], &[Part::Command, Part::All]),
         Call::Reset => parts_of_reset(alloc, login.setup.as_slice()),
+        Call::ChangeUser(change) => {
+            parts_of_renewal(alloc, &[Part::Adopt(change)], login.setup.as_slice())
+        }
         Call::Begin(opts) => parts_of_begin(alloc, opts),
         Call::Commit => cleaned(
             alloc,
@@ -209,6 +248,8 @@ pub fn parts_of<'a>(
         ),
         Call::Rollback => cleaned(alloc, &[Part::Settle(TxStatus::RequiresRollback)], &[]),
         Call::ForgetTransaction => Ok(vec![in alloc; Part::GiveUp]?),
+        Call::CleanForPool => cleaned(alloc, &[Part::Drain, Part::GiveUp], &[]),
+        Call::ResetForPool => parts_of_renewal(alloc, &[], login.setup.as_slice()),
         Call::Quit => cleaned(alloc, &[], &[Part::Command]),
     }
 }

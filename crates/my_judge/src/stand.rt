@@ -1,7 +1,9 @@
 //! Where the reading of a connection stands, as far as later bytes and calls depend on it.
 
 ghost use Rattle.std.specs.Prelude.{◌≡◌, ◌++◌, IfOk, OnOk, length, nat_lt};
+ghost use Rattle.my_reading.specs.Commands.{arranging_texts};
 ghost use Rattle.my_reading.specs.Place.{first_place};
+ghost use Rattle.my_reading.specs.Statements.{first_statements};
 ghost use Rattle.my_judge.specs.Stands.{IsAt, with_bytes};
 
 mod asking;
@@ -9,13 +11,15 @@ mod course;
 mod ending;
 mod preparing;
 mod reading;
+mod refusing;
+mod renewing;
 mod stepping;
 mod transacting;
 
 use crate::texts::arranging_texts;
 pub use ending::is_same_row;
 use my_frame::{Blob, Listed, NoMemory};
-use my_grammar::{Context, Login, Queue};
+use my_grammar::{Account, Context, Login, Queue};
 use my_reading::{Facts, Statements, Trial, TxStatus};
 use std::alloc::Global;
 
@@ -40,6 +44,8 @@ pub struct Stand {
     pub statements: Statements,
     /// Whether the server has a transaction.
     pub status: TxStatus,
+    /// The account of the options in force.
+    pub account: Account,
     /// Whether it is being committed.
     pub trial: Trial,
     /// Bytes that were received and not read.
@@ -50,24 +56,38 @@ pub struct Stand {
     pub sent: Queue,
 }
 
+// The queries that set the connection up, and the statements that are known before the first call.
+fn first_known(alloc: Global, login: &Login) -> Result<(Listed<Blob>, Statements), NoMemory>
+    ensures { IfOk result (λ known. (known.0 ≡ arranging_texts login.now) × (known.1 ≡ first_statements login.now)) }
+{
+    let texts = arranging_texts(alloc, login)?;
+    match Statements::new(alloc, login) {
+        Ok(statements) => Ok((texts, statements)),
+        Err(NoMemory) => {
+            drop(texts);
+            Err(NoMemory)
+        }
+    }
+}
+
 impl Stand {
     /// Before the first call.
     pub fn first(alloc: Global, login: &Login) -> Result<Stand, NoMemory>
         ensures { IfOk result (λ s. IsAt login.now (first_place login.now) s) }
     {
         let facts = Facts::new(alloc, login)?;
-        let texts = match arranging_texts(alloc, login) {
-            Ok(texts) => texts,
+        let account = match Account::from_login(alloc, login) {
+            Ok(account) => account,
             Err(NoMemory) => {
                 drop(facts);
                 return Err(NoMemory);
             }
         };
-        let statements = match Statements::new(alloc, login) {
-            Ok(statements) => statements,
+        let (texts, statements) = match first_known(alloc, login) {
+            Ok(known) => known,
             Err(NoMemory) => {
                 drop(facts);
-                drop(texts);
+                drop(account);
                 return Err(NoMemory);
             }
         };
@@ -81,6 +101,7 @@ impl Stand {
             taken: false,
             statements,
             status: TxStatus::None,
+            account,
             trial: Trial::Off,
             unread: Queue::new(alloc),
             said: Queue::new(alloc),

@@ -12,7 +12,7 @@ use Rattle.my_reading.specs.declared.transaction.TxStatus.TheVariants as txs
 use Rattle.my_reading.specs.Course.{Part, All, Head, Command, Check, Run, Learn, Undo, Undone, Back, Step, Goes, Stops, Stop, Owes, Awaits, Returns, Halt, halt, step, step_of, unless_owed, reads, undone, clean, parts_of, parts_of_batch, parts_of_lists, course}
 use Rattle.my_reading.specs.Leads.{Leads, Here, Then}
 use Rattle.my_reading.specs.Place.{Place, owed, with_status, without_end}
-use Rattle.my_reading.specs.Told.{ToldReady, ToldRow, ToldEnd, ToldNone, ToldStatement, ToldFlag, ToldError, Dropped}
+use Rattle.my_reading.specs.Told.{ToldReady, ToldRow, ToldEnd, ToldNone, ToldStatement, ToldFlag, ToldError, ToldPassed, Dropped}
 use Rattle.my_reading.specs.Transactions.{is_given_up, rolled_back}
 use Rattle.my_reading.proofs.Leading.{leads_to_course}
 use Rattle.statement_laws.specs.Batches.{Alike, AlikePlaces, BatchesAreExecutions, all_done, executions, then_go}
@@ -84,6 +84,7 @@ module _ (login : Login) (c : Call) (xs : List Part) (p : Place) (ended : p.end_
     taken = w.taken;
     statements = w.statements;
     status = w.status ∙ sym (calm_stays p.status calm);
+    account = w.account;
     trial = w.trial;
     unread = w.unread;
     sent = w.sent;
@@ -165,6 +166,7 @@ last p (Returns ToldNone) go e = refl
 last p (Returns (ToldStatement statement)) go e = refl
 last p (Returns (ToldFlag flag)) go e = refl
 last p (Returns (ToldError x)) go e = refl
+last p (Returns (ToldPassed x)) go e = refl
 last p (Returns (Dropped closing)) go e = refl
 
 module _ (login : Login) (statement : StatementView) (all : List Params) where
@@ -257,7 +259,7 @@ module _ (login : Login) (statement : StatementView) (all : List Params) where
       (λ r s v known. lists_reach lists r s v known)
 
 same_place : (p : Place) → AlikePlaces p p
-same_place p = record { talk = refl; older = refl; end_left = refl; taken = refl; statements = refl; status = refl; trial = refl; unread = refl; sent = refl }
+same_place p = record { talk = refl; older = refl; end_left = refl; taken = refl; statements = refl; status = refl; account = refl; trial = refl; unread = refl; sent = refl }
 
 pub batches_are_executions : BatchesAreExecutions
 batches_are_executions login statement lists p =

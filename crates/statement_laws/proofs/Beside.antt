@@ -6,6 +6,7 @@ use Rattle.my_reply.specs.ErrPacket.{err_at}
 use Rattle.my_reply.specs.declared.replies.PrepareOk.{PrepareOk}
 use Rattle.my_reply.specs.Replies.{prepare_ok_at}
 use Rattle.my_params.specs.declared.params.Params.{Params}
+use Rattle.my_grammar.specs.declared.account.Account.{Account}
 use Rattle.my_grammar.specs.declared.login.Login.{Login}
 use Rattle.my_grammar.specs.declared.spot.Kind.{Kind}
 use Rattle.my_grammar.specs.declared.spot.Kind.TheVariants as kinds
@@ -24,7 +25,7 @@ use Rattle.my_reading.specs.declared.transaction.Trial.TheVariants as trials
 use Rattle.my_reading.specs.declared.transaction.TxStatus.{TxStatus}
 use Rattle.my_reading.specs.declared.transaction.TxStatus.TheVariants as txs
 use Rattle.my_reading.specs.Commands.{execution, queried}
-use Rattle.my_reading.specs.Course.{Part, All, Head, Command, Check, Run, Learn, Undo, Undone, Back, Step, Goes, Stops, Stop, Returns, step, step_of, unless_owed, unless_long, reads, with_front, after_payload, after_kind, after_err, unfit, unless_cached, with_command, first_above, checked, executed, learned, refused_at, returned, undone, is_greeting, is_rows}
+use Rattle.my_reading.specs.Course.{Part, All, Head, Command, Check, Run, Learn, Undo, Undone, Back, Step, Goes, Stops, Stop, Returns, step, step_of, unless_owed, unless_long, reads, with_front, after_payload, after_kind, after_err, failed_at, is_drain, unfit, unless_cached, with_command, first_above, checked, executed, learned, refused_at, returned, undone, is_greeting, is_rows}
 use Rattle.my_reading.specs.Errors.{invalid_data, server_error}
 use Rattle.my_reading.specs.Executions.{Values, Fitting, Unfitting, values_for}
 use Rattle.my_reading.specs.Facts.{facts_by}
@@ -118,7 +119,7 @@ is_calm txs.RequiresRollback = refl
 
 -- a place with other calls
 abbrev pub placed : Call → List Exchange → Place → Place
-placed call older p = record { call = call; talk = p.talk; older = older; end_left = p.end_left; taken = p.taken; statements = p.statements; status = p.status; trial = p.trial; unread = p.unread; sent = p.sent }
+placed call older p = record { call = call; talk = p.talk; older = older; end_left = p.end_left; taken = p.taken; statements = p.statements; status = p.status; account = p.account; trial = p.trial; unread = p.unread; sent = p.sent }
 
 module _ (login : Login) (c d : Call) (tail : List Part) (p : Place) (call : Call) (older : List Exchange) (same : map (λ (e : Exchange). e.talk) older ≡ map (λ (e : Exchange). e.talk) p.older) where
   abbrev q : Place
@@ -138,7 +139,7 @@ module _ (login : Login) (c d : Call) (tail : List Part) (p : Place) (call : Cal
 
   -- places with the same exchanges
   like : (r : Place) → r.older ≡ p.older → AlikePlaces (placed call older r) r
-  like r e = record { talk = refl; older = same ∙ ap (map (λ (e : Exchange). e.talk)) (sym e); end_left = refl; taken = refl; statements = refl; status = refl; trial = refl; unread = refl; sent = refl }
+  like r e = record { talk = refl; older = same ∙ ap (map (λ (e : Exchange). e.talk)) (sym e); end_left = refl; taken = refl; statements = refl; status = refl; account = refl; trial = refl; unread = refl; sent = refl }
 
   here : AlikePlaces q p
   here = like p refl
@@ -147,7 +148,7 @@ module _ (login : Login) (c d : Call) (tail : List Part) (p : Place) (call : Cal
   unfit_beside n = (here, ap (λ (f : Facts). Returns (ToldError (invalid_data f.place))) facts_are, refl)
 
   -- a payload that is read
-  module _ (part : Part) (xs ys : List Part) (payload rest : List ℕ) (stays : (k : Kind) → Placed c d tail (with_talk p (grow k p.talk payload) rest) (part ∷ xs) (part ∷ ys)) (shorter : length rest < length p.unread) where
+  module _ (part : Part) (tells : is_drain part ≡ false) (xs ys : List Part) (payload rest : List ℕ) (stays : (k : Kind) → Placed c d tail (with_talk p (grow k p.talk payload) rest) (part ∷ xs) (part ∷ ys)) (shorter : length rest < length p.unread) where
     abbrev most : ℕ
     most = size (part ∷ xs) p
 
@@ -166,6 +167,9 @@ module _ (login : Login) (c d : Call) (tail : List Part) (p : Place) (call : Cal
     err_beside None = unfit_beside most
     err_beside (Some e) = refused_beside (server_error e) p.trial
 
+    failed_beside : (o : Option ErrPacket) → Steps most (failed_at login part xs p (new kinds.Failed) o) (failed_at login part ys q (with_talk q (grow kinds.Failed p.talk payload) rest) o)
+    failed_beside o = either c d tail most (is_drain part) _ _ _ _ (λ e. absurd (cc)) (λ _. err_beside o)
+
     cached_beside : (k : Kind) (o : Option PrepareOk) → Steps most (unless_cached login p o (Goes (part ∷ xs) (new k))) (unless_cached login q o (Goes (part ∷ ys) (with_talk q (grow k p.talk payload) rest)))
     cached_beside k None = again k
     cached_beside k (Some ok) = either c d tail most (is_cached p.statements ok.id) _ _ _ _ (λ _. unfit_beside most) (λ _. again k)
@@ -173,7 +177,7 @@ module _ (login : Login) (c d : Call) (tail : List Part) (p : Place) (call : Cal
     payload_beside : ((k : Kind) (row other : Told) → Steps most (after_kind part xs k (new k) row) (after_kind part ys k (with_talk q (grow k p.talk payload) rest) other))
         → (k : Kind) → Steps most (after_payload login part xs p (new k) payload k) (after_payload login part ys q (with_talk q (grow k p.talk payload) rest) payload k)
     payload_beside by_kind kinds.Bad = unfit_beside most
-    payload_beside by_kind kinds.Failed = err_beside (err_at (is_greeting (context_of p.talk).spot) payload)
+    payload_beside by_kind kinds.Failed = failed_beside (err_at (is_greeting (context_of p.talk).spot) payload)
     payload_beside by_kind (kinds.Greets n) = either c d tail most (nat_lt (limit_of p.talk) (length (response login payload))) _ _ _ _ (λ _. (here, refl, refl)) (λ _. again (kinds.Greets n))
     payload_beside by_kind (kinds.Prepared params columns) = cached_beside (kinds.Prepared params columns) (prepare_ok_at payload)
     payload_beside by_kind (kinds.Good status) = by_kind (kinds.Good status) _ _
@@ -185,18 +189,18 @@ module _ (login : Login) (c d : Call) (tail : List Part) (p : Place) (call : Cal
     payload_beside by_kind kinds.Parameter = by_kind kinds.Parameter _ _
     payload_beside by_kind kinds.Field = by_kind kinds.Field _ _
 
-  reads_beside : (part : Part) (xs ys : List Part) → ((k : Kind) (payload rest : List ℕ) → Placed c d tail (with_talk p (grow k p.talk payload) rest) (part ∷ xs) (part ∷ ys))
+  reads_beside : (part : Part) → is_drain part ≡ false → (xs ys : List Part) → ((k : Kind) (payload rest : List ℕ) → Placed c d tail (with_talk p (grow k p.talk payload) rest) (part ∷ xs) (part ∷ ys))
       → ((k : Kind) (payload rest : List ℕ) (row other : Told) → length rest < length p.unread
       → Steps (size (part ∷ xs) p) (after_kind part xs k (with_talk p (grow k p.talk payload) rest) row) (after_kind part ys k (with_talk q (grow k p.talk payload) rest) other))
       → Steps (size (part ∷ xs) p) (reads login part xs p) (reads login part ys q)
-  reads_beside part xs ys stays by_kind = by_front (front_of p.talk p.unread) refl
+  reads_beside part tells xs ys stays by_kind = by_front (front_of p.talk p.unread) refl
     where
       by_front : (x : Front) → front_of p.talk p.unread ≡ x → Steps (size (part ∷ xs) p) (with_front login part xs p x) (with_front login part ys q x)
       by_front Waiting e = (here, refl, refl)
       by_front (Broken fault) e = (here, refl, refl)
       by_front (Whole payload rest next) e =
           let shorter : length rest < length p.unread = (takes_whole (number_of (turns p.talk)) (limit_of p.talk) p.unread payload rest next e).shorter in
-          payload_beside part xs ys payload rest (λ k. stays k payload rest) shorter (λ k row other. by_kind k payload rest row other shorter) (kind_of p.talk payload)
+          payload_beside part tells xs ys payload rest (λ k. stays k payload rest) shorter (λ k row other. by_kind k payload rest row other shorter) (kind_of p.talk payload)
 
   all_kind : (xs ys : List Part) → ((k : Kind) (payload rest : List ℕ) → Placed c d tail (with_talk p (grow k p.talk payload) rest) (All ∷ xs) (All ∷ ys))
       → (k : Kind) (payload rest : List ℕ) (row other : Told) → length rest < length p.unread → Steps (size (All ∷ xs) p) (after_kind All xs k (with_talk p (grow k p.talk payload) rest) row) (after_kind All ys k (with_talk q (grow k p.talk payload) rest) other)
@@ -208,7 +212,7 @@ module _ (login : Login) (c d : Call) (tail : List Part) (p : Place) (call : Cal
   all_beside xs ys stays over = either c d tail (size (All ∷ xs) p) p.end_left _ _ _ _
       (λ e. let one : weight p.end_left ≡ 1 = ap weight e in (stays (without_end p) refl, like (without_end p) refl, omega (arith, one)))
       (λ e. either c d tail (size (All ∷ xs) p) (is_over p.talk) _ _ _ _ (λ f. (over e f, here, omega arith))
-      (λ _. reads_beside All xs ys (λ k payload rest. stays (with_talk p (grow k p.talk payload) rest) refl) (all_kind xs ys (λ k payload rest. stays (with_talk p (grow k p.talk payload) rest) refl))))
+      (λ _. reads_beside All refl xs ys (λ k payload rest. stays (with_talk p (grow k p.talk payload) rest) refl) (all_kind xs ys (λ k payload rest. stays (with_talk p (grow k p.talk payload) rest) refl))))
 
   -- the statement is executed at both places
   executed_is : (params : Params) → executed login d q params ≡ executed login d p params
@@ -221,7 +225,7 @@ module _ (login : Login) (c d : Call) (tail : List Part) (p : Place) (call : Cal
         → Steps n (unless_long p (limit_of t) o (Goes xs (with_exchange p c t))) (unless_long q (limit_of t) o (Goes ys (with_exchange q d t)))
     long_beside n less t None = (
       stands (with_exchange p c t) refl refl,
-      record { talk = refl; older = ap (λ ts. p.talk ∷ ts) same; end_left = refl; taken = refl; statements = refl; status = refl; trial = refl; unread = refl; sent = refl },
+      record { talk = refl; older = ap (λ ts. p.talk ∷ ts) same; end_left = refl; taken = refl; statements = refl; status = refl; account = refl; trial = refl; unread = refl; sent = refl },
       omega (arith, less),
     )
     long_beside n less t (Some len) = (here, refl, refl)
@@ -260,6 +264,7 @@ module _ (login : Login) (c d : Call) (tail : List Part) (p : Place) (call : Cal
             taken = refl;
             statements = ap (λ i. with_columns i (facts_at login q).columns p.statements) (sym e) ∙ ap (λ (f : Facts). with_columns (id_in c) f.columns p.statements) facts_are;
             status = refl;
+            account = refl;
             trial = refl;
             unread = refl;
             sent = refl;
@@ -280,7 +285,7 @@ module _ (login : Login) (c d : Call) (tail : List Part) (p : Place) (call : Cal
 
     returning_beside : Steps (size (Back ∷ []) p) (step_of login c (Back ∷ []) p) (step_of login d (Back ∷ []) q)
     returning_beside = either c d tail (size (Back ∷ []) p) (is_over p.talk) _ _ _ _ (λ _. returned_beside (size (Back ∷ []) p) p.trial refused)
-        (λ _. reads_beside Back [] [] (λ k payload rest. Returning refused)
+        (λ _. reads_beside Back refl [] [] (λ k payload rest. Returning refused)
         (λ k payload rest row other shorter. (Returning refused, like (with_talk p (grow k p.talk payload) rest) refl, omega (arith, shorter))))
 
   -- parts of both calls, where a part of each has gone
@@ -292,7 +297,7 @@ module _ (login : Login) (c d : Call) (tail : List Part) (p : Place) (call : Cal
         → Steps (size (Head ∷ xs) p) (after_kind Head xs k (with_talk p (grow k p.talk payload) rest) row) (after_kind Head ys k (with_talk q (grow k p.talk payload) rest) other)
     head_kind (kinds.Good status) payload rest row other shorter = (
       Paired calm xs ys pairs known,
-      record { talk = refl; older = same; end_left = refl; taken = refl; statements = refl; status = refl; trial = refl; unread = refl; sent = refl },
+      record { talk = refl; older = same; end_left = refl; taken = refl; statements = refl; status = refl; account = refl; trial = refl; unread = refl; sent = refl },
       omega (arith, shorter),
     )
     head_kind k payload rest row other shorter =
@@ -302,7 +307,7 @@ module _ (login : Login) (c d : Call) (tail : List Part) (p : Place) (call : Cal
     part_beside x y BothAll = all_beside xs ys (λ r e. Paired calm (All ∷ xs) (All ∷ ys) (More calm All All xs ys BothAll pairs) (subst (Calm calm) (sym e) known)) (λ e f. stands_so p refl refl)
     part_beside x y BothHead = either c d tail (size (Head ∷ xs) p) (is_rows (context_of p.talk).spot) _ _ _ _
         (λ _. (stands_so p refl refl, here, omega arith))
-        (λ _. reads_beside Head xs ys (λ k payload rest. Paired calm (Head ∷ xs) (Head ∷ ys) (More calm Head Head xs ys BothHead pairs) known) head_kind)
+        (λ _. reads_beside Head refl xs ys (λ k payload rest. Paired calm (Head ∷ xs) (Head ∷ ys) (More calm Head Head xs ys BothHead pairs) known) head_kind)
     part_beside x y BothUndo = undone_beside xs ys stands_so (size (Undo ∷ xs) p) (omega arith) (is_given_up p.status)
     part_beside x y (BothLearn e) = learned_beside xs ys stands_so (size (Learn ∷ xs) p) (omega arith) e
     part_beside x y (BothCheck params e) = checked_beside xs ys stands_so (size (Check params ∷ xs) p) (omega arith) _ _ (ap (λ s. values_for s params) (sym e))
@@ -314,7 +319,7 @@ module _ (login : Login) (c d : Call) (tail : List Part) (p : Place) (call : Cal
 
   -- after the cleaning of both, and before that of the first call alone
   calms_beside : (xs ys : List Part) → Pairs c d tail true xs ys → Steps (size (Undone ∷ xs) p) (step_of login c (Undone ∷ xs) p) (step_of login d (Undone ∷ ys) q)
-  calms_beside xs ys pairs = (Paired true xs ys pairs (is_calm p.status), record { talk = refl; older = same; end_left = refl; taken = refl; statements = refl; status = refl; trial = refl; unread = refl; sent = refl }, omega arith)
+  calms_beside xs ys pairs = (Paired true xs ys pairs (is_calm p.status), record { talk = refl; older = same; end_left = refl; taken = refl; statements = refl; status = refl; account = refl; trial = refl; unread = refl; sent = refl }, omega arith)
 
   alone_beside : (xs ys : List Part) → Pairs c d tail true xs ys → is_given_up p.status ≡ false
       → Steps (size (All ∷ Undo ∷ All ∷ Undone ∷ xs) p) (step_of login c (All ∷ Undo ∷ All ∷ Undone ∷ xs) p) (step_of login d (All ∷ ys) q)
@@ -341,14 +346,15 @@ module _ (login : Login) (c d : Call) (tail : List Part) (p : Place) (call : Cal
 -- a place like another is it, with other calls
 pub is_placed : (q p : Place) → AlikePlaces q p → placed q.call q.older p ≡ q
 is_placed q p w =
-    ap (λ (x : Talk). let r : Place = record { call = q.call; talk = x; older = q.older; end_left = p.end_left; taken = p.taken; statements = p.statements; status = p.status; trial = p.trial; unread = p.unread; sent = p.sent } in r) (sym w.talk)
-    ∙ ap (λ (x : Bool). let r : Place = record { call = q.call; talk = q.talk; older = q.older; end_left = x; taken = p.taken; statements = p.statements; status = p.status; trial = p.trial; unread = p.unread; sent = p.sent } in r) (sym w.end_left)
-    ∙ ap (λ (x : Bool). let r : Place = record { call = q.call; talk = q.talk; older = q.older; end_left = q.end_left; taken = x; statements = p.statements; status = p.status; trial = p.trial; unread = p.unread; sent = p.sent } in r) (sym w.taken)
-    ∙ ap (λ (x : Statements). let r : Place = record { call = q.call; talk = q.talk; older = q.older; end_left = q.end_left; taken = q.taken; statements = x; status = p.status; trial = p.trial; unread = p.unread; sent = p.sent } in r) (sym w.statements)
-    ∙ ap (λ (x : TxStatus). let r : Place = record { call = q.call; talk = q.talk; older = q.older; end_left = q.end_left; taken = q.taken; statements = q.statements; status = x; trial = p.trial; unread = p.unread; sent = p.sent } in r) (sym w.status)
-    ∙ ap (λ (x : Trial). let r : Place = record { call = q.call; talk = q.talk; older = q.older; end_left = q.end_left; taken = q.taken; statements = q.statements; status = q.status; trial = x; unread = p.unread; sent = p.sent } in r) (sym w.trial)
-    ∙ ap (λ (x : List ℕ). let r : Place = record { call = q.call; talk = q.talk; older = q.older; end_left = q.end_left; taken = q.taken; statements = q.statements; status = q.status; trial = q.trial; unread = x; sent = p.sent } in r) (sym w.unread)
-    ∙ ap (λ (x : List ℕ). let r : Place = record { call = q.call; talk = q.talk; older = q.older; end_left = q.end_left; taken = q.taken; statements = q.statements; status = q.status; trial = q.trial; unread = q.unread; sent = x } in r) (sym w.sent)
+    ap (λ (x : Talk). let r : Place = record { call = q.call; talk = x; older = q.older; end_left = p.end_left; taken = p.taken; statements = p.statements; status = p.status; account = p.account; trial = p.trial; unread = p.unread; sent = p.sent } in r) (sym w.talk)
+    ∙ ap (λ (x : Bool). let r : Place = record { call = q.call; talk = q.talk; older = q.older; end_left = x; taken = p.taken; statements = p.statements; status = p.status; account = p.account; trial = p.trial; unread = p.unread; sent = p.sent } in r) (sym w.end_left)
+    ∙ ap (λ (x : Bool). let r : Place = record { call = q.call; talk = q.talk; older = q.older; end_left = q.end_left; taken = x; statements = p.statements; status = p.status; account = p.account; trial = p.trial; unread = p.unread; sent = p.sent } in r) (sym w.taken)
+    ∙ ap (λ (x : Statements). let r : Place = record { call = q.call; talk = q.talk; older = q.older; end_left = q.end_left; taken = q.taken; statements = x; status = p.status; account = p.account; trial = p.trial; unread = p.unread; sent = p.sent } in r) (sym w.statements)
+    ∙ ap (λ (x : TxStatus). let r : Place = record { call = q.call; talk = q.talk; older = q.older; end_left = q.end_left; taken = q.taken; statements = q.statements; status = x; account = p.account; trial = p.trial; unread = p.unread; sent = p.sent } in r) (sym w.status)
+    ∙ ap (λ (x : Account). let r : Place = record { call = q.call; talk = q.talk; older = q.older; end_left = q.end_left; taken = q.taken; statements = q.statements; status = q.status; account = x; trial = p.trial; unread = p.unread; sent = p.sent } in r) (sym w.account)
+    ∙ ap (λ (x : Trial). let r : Place = record { call = q.call; talk = q.talk; older = q.older; end_left = q.end_left; taken = q.taken; statements = q.statements; status = q.status; account = q.account; trial = x; unread = p.unread; sent = p.sent } in r) (sym w.trial)
+    ∙ ap (λ (x : List ℕ). let r : Place = record { call = q.call; talk = q.talk; older = q.older; end_left = q.end_left; taken = q.taken; statements = q.statements; status = q.status; account = q.account; trial = q.trial; unread = x; sent = p.sent } in r) (sym w.unread)
+    ∙ ap (λ (x : List ℕ). let r : Place = record { call = q.call; talk = q.talk; older = q.older; end_left = q.end_left; taken = q.taken; statements = q.statements; status = q.status; account = q.account; trial = q.trial; unread = q.unread; sent = x } in r) (sym w.sent)
 
 module _ (login : Login) (c d : Call) (tail : List Part) (p q : Place) (w : AlikePlaces q p) where
   -- a step of each, at places that are alike

@@ -1,5 +1,5 @@
 -- The cleaning of a call: what is left is read, and a transaction that was given up is rolled back, while a property of places holds.
-use Rattle.std.proofs.Common.{ℕ, Bool, true, false, List, ◌∷◌}
+use Rattle.std.proofs.Common.{ℕ, Bool, true, false, List, ◌∷◌, refl}
 use Rattle.my_reply.specs.declared.err.ErrPacket.{ErrPacket}
 use Rattle.my_grammar.specs.declared.login.Login.{Login}
 use Rattle.my_grammar.specs.declared.spot.Kind.{Kind}
@@ -35,7 +35,7 @@ module _ (login : Login) (call : Call) (parts : List Part) (H : Place → Type 0
     (settled : (p : Place) (status : TxStatus) → H p → H (with_status status p)) where
   all_has : (more : List Part) (p : Place) → Cleans parts (All ∷ more) → ((q : Place) → H q → R (Goes more q)) → H p → R (step_of login call (All ∷ more) p)
   all_has more p here next w = either R p.end_left _ _ (during (All ∷ more) (without_end p) here (ended p w))
-      (either R (is_over p.talk) _ _ (next p w) (reads_have R p (stops p w) login All more
+      (either R (is_over p.talk) _ _ (next p w) (reads_have R p (stops p w) login All more refl
       (λ k q rest _. during (All ∷ more) (with_talk p (grow k p.talk q) rest) here (grown p k q rest w))
       (λ k q rest row _. during (All ∷ more) (with_talk p (grow k p.talk q) rest) here (grown p k q rest w))
       (λ q rest e. refused p q rest e w)))

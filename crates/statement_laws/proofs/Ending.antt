@@ -2,7 +2,7 @@
 use Rattle.std.proofs.Common.{◌≡◌, ℕ, Bool, true, false, not, ◌||◌, None, List, [], ◌∷◌, refl, sym, ap, subst}
 use Rattle.my_grammar.specs.declared.login.Login.{Login}
 use Rattle.my_reading.specs.declared.call.Call.{Call}
-use Rattle.my_reading.specs.declared.call.Call.TheVariants.{Connect, Query, Prepare, Execute, Batch, CloseStmt, NextRow, DropResult, TakeSet, SkipTaken, Ping, Reset, Begin, Commit, Rollback, ForgetTransaction, Quit}
+use Rattle.my_reading.specs.declared.call.Call.TheVariants.{Connect, Query, Prepare, Execute, Batch, CloseStmt, NextRow, DropResult, TakeSet, SkipTaken, Ping, Reset, ChangeUser, Begin, Commit, Rollback, ForgetTransaction, CleanForPool, ResetForPool, Quit}
 use Rattle.my_reading.specs.Calls.{kind_of}
 use Rattle.my_reading.specs.Course.{Stop, Owes, Awaits, Returns}
 use Rattle.my_reading.specs.Endings.{AreCalls, Ends, IsCut, IsOpen, IsCancelled, IsLinkFailure, IsLinkEnd, closes_cancelled}
@@ -51,10 +51,13 @@ module _ (login : Login) (c : ReadCall) where
   one_settles SkipTaken whole e leaves ended = refl
   one_settles Ping whole e leaves ended = refl
   one_settles Reset whole e leaves ended = refl
+  one_settles (ChangeUser change) whole e leaves ended = refl
   one_settles (Begin opts) whole e leaves ended = refl
   one_settles Commit whole e leaves ended = refl
   one_settles Rollback whole e leaves ended = refl
   one_settles ForgetTransaction whole e leaves ended = refl
+  one_settles CleanForPool whole e leaves ended = refl
+  one_settles ResetForPool whole e leaves ended = refl
   one_settles Quit whole e leaves ended = refl
 
 left_is_false : (a b : Bool) → (a || b) ≡ false → a ≡ false

@@ -116,7 +116,7 @@ module _ (login : Login) (text : List ℕ) (n : ℕ) where
   part_has parts p (Clears more q left low) = clears_have more q left low
   part_has parts p (Sends q low) = sent_has q (next_exchange login (Prepare text) q) refl low
   part_has parts p (Hears q low) = either Has (is_over q.talk) _ _ (Keeps q low)
-      (reads_have Has q (stops q) login Reply (Keep ∷ Give ∷ [])
+      (reads_have Has q (stops q) login Reply (Keep ∷ Give ∷ []) refl
       (λ k b more _. Hears (with_talk q (grow k q.talk b) more) low) (λ k b more row _. Hears (with_talk q (grow k q.talk b) more) low) (λ b more x. refused_has q.trial (with_talk q (grow kinds.Failed q.talk b) more) (server_error x)))
   part_has parts p (Keeps q low) =
       let f = facts_at login q in
@@ -125,7 +125,7 @@ module _ (login : Login) (text : List ℕ) (n : ℕ) where
   part_has parts p (Gives q low) = λ _. low
   part_has parts p (Reverts q r) = reverts_have q (is_given_up q.status) r
   part_has parts p (Backs q r) = either Has (is_over q.talk) _ _ (returned_has q q.trial r)
-      (reads_have Has q (stops q) login Back []
+      (reads_have Has q (stops q) login Back [] refl
       (λ k b more _. Backs (with_talk q (grow k q.talk b) more) r) (λ k b more row _. Backs (with_talk q (grow k q.talk b) more) r)
       (λ b more x. refused_has q.trial (with_talk q (grow kinds.Failed q.talk b) more) (server_error x)))
 

@@ -14,7 +14,7 @@ use Rattle.my_grammar.specs.Growth.{grow}
 use Rattle.my_grammar.specs.Response.{response}
 use Rattle.my_grammar.specs.Talk.{Talk, commands_in, context_of, limit_of}
 use Rattle.my_reading.specs.declared.call.Call.{Call}
-use Rattle.my_reading.specs.Course.{Part, Stop, Awaits, Step, Goes, Stops, with_front, reads, after_payload, after_kind, after_err, refused_at, unfit, unless_cached, unless_long, with_command, first_above, is_greeting}
+use Rattle.my_reading.specs.Course.{Part, Drain, Stop, Awaits, Step, Goes, Stops, with_front, reads, after_payload, after_kind, after_err, dropped_at, failed_at, is_drain, refused_at, unfit, unless_cached, unless_long, with_command, first_above, is_greeting}
 use Rattle.my_reading.specs.Errors.{server_error}
 use Rattle.my_reading.specs.Place.{Place, with_exchange, with_talk}
 use Rattle.my_reading.specs.Statements.{is_cached}
@@ -51,15 +51,20 @@ module _ (R : Step → Type 0) (p : Place) (stops : StopsHave R p) where
   command_has call parts None w v = w
   command_has call parts (Some t) w v = begun_has call parts t (v t refl)
 
+  -- after an ERR, and where one is dropped
+  err_has : (login : Login) (new : Place) (o : Option ErrPacket) → ((e : ErrPacket) → R (refused_at p.trial new (server_error e))) → R (after_err login p new o)
+  err_has login new None refused = stops _ refl
+  err_has login new (Some e) refused = refused e
+
+  dropped_has : (login : Login) (parts : List Part) (new : Place) (o : Option ErrPacket) → R (Goes (Drain ∷ parts) new) → R (dropped_at login parts p new o)
+  dropped_has login parts new None again = stops _ refl
+  dropped_has login parts new (Some e) again = again
+
   -- where each payload more has the property, reading has it
   module _ (login : Login) (part : Part) (parts : List Part)
       (again : (k : Kind) (q rest : List ℕ) → Comes p k q → R (Goes (part ∷ parts) (with_talk p (grow k p.talk q) rest)))
       (other : (k : Kind) (q rest : List ℕ) (row : Told) → Comes p k q → R (after_kind part parts k (with_talk p (grow k p.talk q) rest) row))
-      (refused : (q rest : List ℕ) (e : ErrPacket) → R (refused_at p.trial (with_talk p (grow kinds.Failed p.talk q) rest) (server_error e))) where
-    err_has : (q : List ℕ) (rest : List ℕ) (o : Option ErrPacket) → R (after_err login p (with_talk p (grow kinds.Failed p.talk q) rest) o)
-    err_has q rest None = stops _ refl
-    err_has q rest (Some e) = refused q rest e
-
+      (failed : (q rest : List ℕ) (o : Option ErrPacket) → R (failed_at login part parts p (with_talk p (grow kinds.Failed p.talk q) rest) o)) where
     head_has : (q rest : List ℕ) (params columns : ℕ) → kind_of p.talk q ≡ kinds.Prepared params columns → (o : Option PrepareOk) → prepare_ok_at q ≡ o
         → R (unless_cached login p o (Goes (part ∷ parts) (with_talk p (grow (kinds.Prepared params columns) p.talk q) rest)))
     head_has q rest params columns i None e =
@@ -75,7 +80,7 @@ module _ (R : Step → Type 0) (p : Place) (stops : StopsHave R p) where
 
     payload_has : (q rest : List ℕ) (k : Kind) → kind_of p.talk q ≡ k → R (after_payload login part parts p (with_talk p (grow k p.talk q) rest) q k)
     payload_has q rest kinds.Bad e = stops _ refl
-    payload_has q rest kinds.Failed e = err_has q rest (err_at (is_greeting (context_of p.talk).spot) q)
+    payload_has q rest kinds.Failed e = failed q rest (err_at (is_greeting (context_of p.talk).spot) q)
     payload_has q rest (kinds.Greets n) e = either R (nat_lt (limit_of p.talk) (length (response login q))) _ _ (stops _ refl)
         (again (kinds.Greets n) q rest (record { kind_is = e; fits = refl; good = refl; fresh = tt }))
     payload_has q rest (kinds.Prepared params columns) e = head_has q rest params columns e (prepare_ok_at q) refl
@@ -93,5 +98,21 @@ module _ (R : Step → Type 0) (p : Place) (stops : StopsHave R p) where
     front_has (Broken fault) = stops _ refl
     front_has (Whole q rest next) = payload_has q rest (kind_of p.talk q) refl
 
-    pub reads_have : R (reads login part parts p)
-    reads_have = front_has (front_of p.talk p.unread)
+    payloads_have : R (reads login part parts p)
+    payloads_have = front_has (front_of p.talk p.unread)
+
+  -- of a part that drops no ERR, and of the one that does
+  pub reads_have : (login : Login) (part : Part) (parts : List Part) → is_drain part ≡ false
+      → ((k : Kind) (q rest : List ℕ) → Comes p k q → R (Goes (part ∷ parts) (with_talk p (grow k p.talk q) rest)))
+      → ((k : Kind) (q rest : List ℕ) (row : Told) → Comes p k q → R (after_kind part parts k (with_talk p (grow k p.talk q) rest) row))
+      → ((q rest : List ℕ) (e : ErrPacket) → R (refused_at p.trial (with_talk p (grow kinds.Failed p.talk q) rest) (server_error e)))
+      → R (reads login part parts p)
+  reads_have login part parts tells again other refused = payloads_have login part parts again other
+      (λ q rest o.
+      let new = with_talk p (grow kinds.Failed p.talk q) rest in
+      subst (λ b. R (cond b (dropped_at login parts p new o) (after_err login p new o))) (sym tells) (err_has login new o (λ e. refused q rest e)))
+
+  pub drains_have : (login : Login) (parts : List Part) → ((k : Kind) (q rest : List ℕ) → R (Goes (Drain ∷ parts) (with_talk p (grow k p.talk q) rest)))
+      → R (reads login Drain parts p)
+  drains_have login parts again = payloads_have login Drain parts (λ k q rest _. again k q rest) (λ k q rest row _. again k q rest)
+      (λ q rest o. dropped_has login parts (with_talk p (grow kinds.Failed p.talk q) rest) o (again kinds.Failed q rest))

@@ -95,7 +95,7 @@ each_is_kept st since (e ∷ es) w =
 
 -- after a payload
 pub grown_resets : (k : Kind) (t : Talk) (q : List ℕ) → Resets t → Resets (grow k t q)
-grown_resets k t q w = (w.0, w.1, w.2, ap (λ x. grow k x q) w.3)
+grown_resets k t q w = (w.0, w.1, w.2, w.3, w.4, ap (λ x. grow k x q) w.5)
 
 freed_grown : (p : Place) (k : Kind) (q rest : List ℕ) (id : ℕ) → IsFreed id (newest_of p) → IsFreed id (newest_of (with_talk p (grow k p.talk q) rest))
 freed_grown p k q rest id (inl (inl w)) = inl (inl (w.0, ap (λ x. grow k x q) w.1))
@@ -176,7 +176,7 @@ forgotten_holds p id w =
 pub cleared_holds : (p : Place) → Resets p.talk → Holds p → Holds (with_statements (cleared p.statements) p)
 cleared_holds p reset w = (
   (
-    none_some (λ i. IsKept (cleared p.statements) [] i ⊎ ⊥) (prepared_in p.talk) (ap prepared_in reset.3),
+    none_some (λ i. IsKept (cleared p.statements) [] i ⊎ ⊥) (prepared_in p.talk) (ap prepared_in reset.5),
     each_moves (λ i. ⊥) (λ i. ⊥) p.statements (cleared p.statements) (λ e. e) (newest_of p) (newest_of p)
         (λ i x. inl (inr (inl (inl (inr reset))))) (λ i x. x) (λ i x. absurd x) p.older w.0.1,
   ),

@@ -1,20 +1,21 @@
 -- What holds before each part of a call, and where it may stop.
 use Rattle.std.proofs.Common.{◌≡◌, ℕ, Bool, true, false, ◌&&◌, None, List, [], ◌∷◌, ◌⊎◌, refl}
-use Rattle.my_command.specs.declared.client.ClientPacket.TheVariants as packets
+use Rattle.my_command.specs.declared.client.ClientPacket.{ClientPacket}
 use Rattle.my_command.specs.Client.Packet.{client_bytes as packet_bytes}
+use Rattle.my_opts.specs.ChangeUser.{ChangeView}
 use Rattle.my_grammar.specs.declared.spot.Terms.{Terms}
 use Rattle.my_grammar.specs.Cut.{is_over}
 use Rattle.my_grammar.specs.Talk.{Talk, Asked}
 use Rattle.my_reading.specs.declared.call.Call.{Call}
-use Rattle.my_reading.specs.declared.call.Call.TheVariants.{Prepare, CloseStmt, Reset}
+use Rattle.my_reading.specs.declared.call.Call.TheVariants.{Prepare, CloseStmt, Reset, ChangeUser}
 use Rattle.my_reading.specs.Commands.{closing}
-use Rattle.my_reading.specs.Course.{Part, All, Command, Find, Reply, Keep, Give, Forget, Offered, Clear, Undo, Back, clean, Step, Goes, Stops, Stop, Owes, Awaits, Returns}
+use Rattle.my_reading.specs.Course.{Part, Adopt, All, Command, Find, Reply, Keep, Give, Forget, Offered, Renew, Clear, Undo, Back, clean, Step, Goes, Stops, Stop, Owes, Awaits, Returns}
 use Rattle.my_reading.specs.Place.{Place}
 use Rattle.my_reading.specs.declared.transaction.Trial.{Trial}
 use Rattle.my_reading.specs.declared.transaction.Trial.TheVariants.{Refused}
 use Rattle.my_reading.specs.Statements.{held_in, query_of}
-use Rattle.my_reading.specs.Told.{ToldReady, ToldRow, ToldEnd, ToldNone, ToldStatement, ToldFlag, ToldError, Dropped}
-use Rattle.statement_laws.specs.Kept.{Resets, is_answered, is_settled, leaves_open}
+use Rattle.my_reading.specs.Told.{ToldReady, ToldRow, ToldEnd, ToldNone, ToldStatement, ToldFlag, ToldError, ToldPassed, Dropped}
+use Rattle.statement_laws.specs.Kept.{Resets, is_answered, is_reset, is_settled, leaves_open}
 use Rattle.statement_laws.proofs.Cleaning.{Cleans}
 use Rattle.statement_laws.proofs.Having.{StopsHave}
 use Rattle.statement_laws.proofs.Holding.{Holds, HoldsBefore, HoldsBut}
@@ -26,6 +27,7 @@ is_plain_part Reply = false
 is_plain_part Keep = false
 is_plain_part Give = false
 is_plain_part Forget = false
+is_plain_part Renew = false
 is_plain_part Clear = false
 is_plain_part Back = false
 is_plain_part _ = true
@@ -38,9 +40,14 @@ abbrev pub prepares : Call → Bool
 prepares (Prepare text) = true
 prepares _ = false
 
+-- the part of a call that sends a command by which the server's session is reset
+pub data Renewing : Call → Part → Type 0 where
+  ByCommand : Renewing Reset Command
+  ByRenewal : (call : Call) → prepares call ≡ false → Renewing call Renew
+
 -- the server's answer to the command that resets its session is awaited, or is an OK
 abbrev pub IsResetting : Talk → Type 0
-IsResetting t = ((terms : Terms) × (t ≡ Asked terms (packet_bytes packets.ResetConnection))) ⊎ Resets t
+IsResetting t = ((packet : ClientPacket) × (is_reset packet ≡ true) × (terms : Terms) × (t ≡ Asked terms (packet_bytes packet))) ⊎ Resets t
 
 -- a transaction couldn't be committed
 abbrev pub IsRefused : Trial → Type 0
@@ -64,12 +71,13 @@ pub data Phase : Call → List Part → Place → Type 0 where
   Passing : (id : ℕ) (parts : List Part) (p : Place) → Cleans (Command ∷ []) parts → HoldsBut (λ i. i ≡ id) p → Phase (CloseStmt id) parts p
   Closing : (id : ℕ) (p : Place) → HoldsBut (λ i. i ≡ id) p → Phase (CloseStmt id) (Command ∷ []) p
   Offering : (parts : List Part) (p : Place) → is_plain parts ≡ true → Holds p → Phase Reset (Offered ∷ clean (Command ∷ All ∷ Clear ∷ parts)) p
-  Readying : (parts left : List Part) (p : Place) → Cleans (Command ∷ All ∷ Clear ∷ parts) left → is_plain parts ≡ true → Holds p → Phase Reset left p
-  Commanding : (parts : List Part) (p : Place) → is_plain parts ≡ true → Holds p → Phase Reset (Command ∷ All ∷ Clear ∷ parts) p
-  Awaiting : (parts : List Part) (p : Place) → is_plain parts ≡ true → Holds p → IsResetting p.talk → Phase Reset (All ∷ Clear ∷ parts) p
+  Adopting : (change : ChangeView) (parts : List Part) (p : Place) → is_plain parts ≡ true → Holds p → Phase (ChangeUser change) (Adopt change ∷ clean (Renew ∷ All ∷ Clear ∷ parts)) p
+  Readying : (call : Call) (part : Part) → Renewing call part → (parts left : List Part) (p : Place) → Cleans (part ∷ All ∷ Clear ∷ parts) left → is_plain parts ≡ true → Holds p → Phase call left p
+  Commanding : (call : Call) (part : Part) → Renewing call part → (parts : List Part) (p : Place) → is_plain parts ≡ true → Holds p → Phase call (part ∷ All ∷ Clear ∷ parts) p
+  Awaiting : (call : Call) → prepares call ≡ false → (parts : List Part) (p : Place) → is_plain parts ≡ true → Holds p → IsResetting p.talk → Phase call (All ∷ Clear ∷ parts) p
   Reverting : (call : Call) (p : Place) → IsRefused p.trial → Unanswered call p → Phase call (Undo ∷ Back ∷ []) p
   Returning : (call : Call) (p : Place) → IsRefused p.trial → Unanswered call p → Phase call (Back ∷ []) p
-  Emptying : (parts : List Part) (p : Place) → is_plain parts ≡ true → Holds p → Resets p.talk → Phase Reset (Clear ∷ parts) p
+  Emptying : (call : Call) → prepares call ≡ false → (parts : List Part) (p : Place) → is_plain parts ≡ true → Holds p → Resets p.talk → Phase call (Clear ∷ parts) p
 
 -- a step leads to the next phase, or the call stops where all is kept, unless what it prepares or closes isn't settled
 abbrev pub IsFine : Call → Step → Type 0
@@ -86,6 +94,7 @@ answer_leaves_open (Returns ToldNone) e = refl
 answer_leaves_open (Returns (ToldStatement statement)) e = refl
 answer_leaves_open (Returns (ToldFlag flag)) e = refl
 answer_leaves_open (Returns (ToldError x)) e = absurd (cc)
+answer_leaves_open (Returns (ToldPassed x)) e = refl
 answer_leaves_open (Returns (Dropped closing)) e = absurd (cc)
 
 is_unanswered : (s : Stop) → leaves_open s ≡ false → is_answered s ≡ false
@@ -98,6 +107,7 @@ is_unanswered (Returns ToldNone) e = absurd (cc)
 is_unanswered (Returns (ToldStatement statement)) e = absurd (cc)
 is_unanswered (Returns (ToldFlag flag)) e = absurd (cc)
 is_unanswered (Returns (ToldError x)) e = refl
+is_unanswered (Returns (ToldPassed x)) e = absurd (cc)
 is_unanswered (Returns (Dropped closing)) e = refl
 
 -- A call that prepares or closes a statement isn't settled where it closes the session, or is left open.
@@ -119,9 +129,10 @@ stopped_fine c parts p (Forgetting id q w) = closing_stops id q
 stopped_fine c parts p (Passing id ps q left w) = closing_stops id q
 stopped_fine c parts p (Closing id q w) = closing_stops id q
 stopped_fine c parts p (Offering ps q e w) = λ s _ _. w
-stopped_fine c parts p (Readying ps more q left e w) = λ s _ _. w
-stopped_fine c parts p (Commanding ps q e w) = λ s _ _. w
-stopped_fine c parts p (Awaiting ps q e w r) = λ s _ _. w
+stopped_fine c parts p (Adopting change ps q e w) = λ s _ _. w
+stopped_fine c parts p (Readying d part by ps more q left e w) = λ s _ _. w
+stopped_fine c parts p (Commanding d part by ps q e w) = λ s _ _. w
+stopped_fine c parts p (Awaiting d other ps q e w r) = λ s _ _. w
 stopped_fine c parts p (Reverting d q r w) = λ s l e. w s (is_unanswered s l) e
 stopped_fine c parts p (Returning d q r w) = λ s l e. w s (is_unanswered s l) e
-stopped_fine c parts p (Emptying ps q e w r) = λ s _ _. w
+stopped_fine c parts p (Emptying d other ps q e w r) = λ s _ _. w

@@ -46,7 +46,7 @@ module _ (login : Login) (call : Call) (p : Place) (refused : IsRefused p.trial)
 
   pub returning : IsFine call (step_of login call (Back ∷ []) p)
   returning = either (IsFine call) (is_over p.talk) _ _ (returned_fine p.trial refused)
-      (reads_have (IsFine call) p (stopped_fine call (Back ∷ []) p (Returning call p refused w)) login Back []
+      (reads_have (IsFine call) p (stopped_fine call (Back ∷ []) p (Returning call p refused w)) login Back [] refl
       (λ k q rest _. Returning call (with_talk p (grow k p.talk q) rest) refused (grown k q rest))
       (λ k q rest row _. Returning call (with_talk p (grow k p.talk q) rest) refused (grown k q rest))
       (λ q rest e. refused_fine call p.trial (with_talk p (grow kinds.Failed p.talk q) rest) (server_error e) (grown kinds.Failed q rest)))

@@ -12,14 +12,15 @@ use Rattle.my_grammar.specs.Prepares.{Unanswered}
 use Rattle.my_grammar.specs.Talk.{Talk, Preparing, context_of}
 use Rattle.my_statements.specs.Cache.{Held}
 use Rattle.my_reading.specs.declared.call.Call.{Call}
-use Rattle.my_reading.specs.declared.call.Call.TheVariants.{Connect, Query, Prepare, Execute, Batch, CloseStmt, NextRow, DropResult, TakeSet, SkipTaken, Ping, Reset, Begin, Commit, Rollback, ForgetTransaction, Quit}
+use Rattle.my_reading.specs.declared.call.Call.TheVariants.{Connect, Query, Prepare, Execute, Batch, CloseStmt, NextRow, DropResult, TakeSet, SkipTaken, Ping, Reset, ChangeUser, Begin, Commit, Rollback, ForgetTransaction, CleanForPool, ResetForPool, Quit}
 use Rattle.my_params.specs.declared.params.Params.{Params}
+use Rattle.my_reading.specs.Accounts.{changed}
 use Rattle.my_reading.specs.Calls.{id_in, statement_in}
 use Rattle.my_reading.specs.Commands.{arranging, arranging_texts, closing, connecting, execution, opening, queried, setup_texts}
-use Rattle.my_reading.specs.Course.{Part, All, Head, Item, Set, Rest, Command, Find, Check, Run, Reply, Keep, Give, Learn, Forget, Offered, Clear, Text, Flag, Undo, Undone, Refuse, Settle, GiveUp, Try, Back, Goes, step, step_of, unless_owed, reads, after_kind, with_command, found, checked, executed, closing_of, learned, offered, undone, unless_refused, is_rows, clean, parts_of, parts_of_batch, parts_of_lists, parts_of_queries, parts_of_texts, Owes}
+use Rattle.my_reading.specs.Course.{Part, All, Head, Item, Set, Rest, Command, Find, Check, Run, Reply, Keep, Give, Learn, Forget, Offered, Clear, Text, Flag, Adopt, Renew, Drain, Undo, Undone, Refuse, Settle, GiveUp, Try, Back, Goes, step, step_of, unless_owed, reads, after_kind, with_command, found, checked, executed, closing_of, learned, offered, undone, unless_refused, is_drain, is_rows, clean, parts_of, parts_of_batch, parts_of_lists, parts_of_queries, parts_of_texts, Owes}
 use Rattle.my_reading.specs.Executions.{Values, Fitting, Unfitting, values_for}
 use Rattle.my_reading.specs.Facts.{prepared_by}
-use Rattle.my_reading.specs.Place.{Place, connects_in, exchanges, facts_at, facts_of, next_exchange, owed, terms_of, with_end, with_exchange, with_statements, with_status, with_talk, with_trial, without_end}
+use Rattle.my_reading.specs.Place.{Place, connects_in, exchanges, facts_at, facts_of, next_exchange, owed, terms_of, with_account, with_end, with_exchange, with_statements, with_status, with_talk, with_trial, without_end}
 use Rattle.my_reading.specs.Statements.{Statements, cleared, held_in, is_cached, is_mixed_text, leaving, query_of, with_prepared, without_statement}
 use Rattle.my_handshake.specs.Version.{version_of}
 use Rattle.my_reading.specs.declared.error.DriverError.{DriverError}
@@ -31,10 +32,10 @@ use Rattle.my_reading.specs.Versions.{can_reset}
 use Rattle.my_reading.specs.Told.{Told}
 use Rattle.statement_laws.specs.Kept.{prepared_in}
 use Rattle.statement_laws.proofs.Cleaning.{Cleans, Reads, cleans_have}
-use Rattle.statement_laws.proofs.Having.{Comes, begun_has, command_has, either, reads_have}
+use Rattle.statement_laws.proofs.Having.{Comes, begun_has, command_has, drains_have, either, reads_have}
 use Rattle.statement_laws.proofs.Holding.{Holds, HoldsBefore, HoldsBut, cleared_holds, closing_holds, fetched_holds, forgotten_holds, grown_before, grown_holds, learned_holds, opened_before, opened_holds, prepared_holds, refused_holds, weaker_holds}
 use Rattle.statement_laws.proofs.Talks.{is_open, over_is_done, whole_talk}
-use Rattle.statement_laws.proofs.Phases.{IsFine, Phase, Steady, Finding, Clearing, Asking, Replying, Keeping, Giving, Forgetting, Passing, Closing, Offering, Readying, Commanding, Awaiting, Reverting, Returning, Emptying, closing_stops, is_plain, prepares, preparing_stops, stopped_fine}
+use Rattle.statement_laws.proofs.Phases.{IsFine, Phase, Steady, Finding, Clearing, Asking, Replying, Keeping, Giving, Forgetting, Passing, Closing, Offering, Adopting, ByRenewal, Readying, Commanding, Awaiting, Reverting, Returning, Emptying, closing_stops, is_plain, prepares, preparing_stops, stopped_fine}
 use Rattle.statement_laws.proofs.Reverting.{refused_fine, returning, reverting}
 use Rattle.statement_laws.proofs.Resetting.{awaiting, commanding, offering, readying}
 
@@ -70,10 +71,13 @@ opening_plain login terms st TakeSet n e = tt
 opening_plain login terms st SkipTaken n e = tt
 opening_plain login terms st Ping n e = (refl, refl)
 opening_plain login terms st Reset n e = (refl, refl)
+opening_plain login terms st (ChangeUser change) n e = tt
 opening_plain login terms st (Begin opts) n e = tt
 opening_plain login terms st Commit n e = tt
 opening_plain login terms st Rollback n e = tt
 opening_plain login terms st ForgetTransaction n e = tt
+opening_plain login terms st CleanForPool n e = tt
+opening_plain login terms st ResetForPool n e = tt
 opening_plain login terms st Quit n e = (refl, refl)
 
 -- a call that prepares nothing, at each of its parts
@@ -90,6 +94,8 @@ module _ (login : Login) (call : Call) (other : prepares call ≡ false) where
   steady_kind Offered parts e k new row w = Steady call (Offered ∷ parts) new e other w
   steady_kind (Text text) parts e k new row w = Steady call (Text text ∷ parts) new e other w
   steady_kind (Flag flag) parts e k new row w = Steady call (Flag flag ∷ parts) new e other w
+  steady_kind (Adopt change) parts e k new row w = Steady call (Adopt change ∷ parts) new e other w
+  steady_kind Drain parts e k new row w = Steady call (Drain ∷ parts) new e other w
   steady_kind Undo parts e k new row w = Steady call (Undo ∷ parts) new e other w
   steady_kind Undone parts e k new row w = Steady call (Undone ∷ parts) new e other w
   steady_kind (Refuse opts) parts e k new row w = Steady call (Refuse opts ∷ parts) new e other w
@@ -110,13 +116,18 @@ module _ (login : Login) (call : Call) (other : prepares call ≡ false) where
   steady_kind Keep parts e k new row w = absurd (cc)
   steady_kind Give parts e k new row w = absurd (cc)
   steady_kind Forget parts e k new row w = absurd (cc)
+  steady_kind Renew parts e k new row w = absurd (cc)
   steady_kind Clear parts e k new row w = absurd (cc)
 
-  steady_reads : (part : Part) (parts : List Part) (p : Place) → is_plain (part ∷ parts) ≡ true → Holds p → IsFine call (reads login part parts p)
-  steady_reads part parts p e w = reads_have (IsFine call) p (λ s _ _. w) login part parts
+  steady_reads : (part : Part) → is_drain part ≡ false → (parts : List Part) (p : Place) → is_plain (part ∷ parts) ≡ true → Holds p → IsFine call (reads login part parts p)
+  steady_reads part tells parts p e w = reads_have (IsFine call) p (λ s _ _. w) login part parts tells
       (λ k q rest _. Steady call (part ∷ parts) (with_talk p (grow k p.talk q) rest) e other (grown_holds (λ i. ⊥) p k q rest w))
       (λ k q rest row _. steady_kind part parts e k (with_talk p (grow k p.talk q) rest) row (grown_holds (λ i. ⊥) p k q rest w))
       (λ q rest x. refused_fine call p.trial (with_talk p (grow kinds.Failed p.talk q) rest) (server_error x) (λ s _ _. grown_holds (λ i. ⊥) p kinds.Failed q rest w))
+
+  steady_drains : (parts : List Part) (p : Place) → is_plain parts ≡ true → Holds p → IsFine call (reads login Drain parts p)
+  steady_drains parts p e w = drains_have (IsFine call) p (λ s _ _. w) login parts
+      (λ k q rest. Steady call (Drain ∷ parts) (with_talk p (grow k p.talk q) rest) e other (grown_holds (λ i. ⊥) p k q rest w))
 
   steady_checked : (parts : List Part) (p : Place) (v : Values) → is_plain parts ≡ true → Holds p → IsFine call (checked parts p v)
   steady_checked parts p (Fitting values) e w = Steady call parts p e other w
@@ -153,13 +164,13 @@ module _ (login : Login) (call : Call) (other : prepares call ≡ false) where
   steady (Command ∷ parts) p e w = command_has (IsFine call) p (λ s _ _. w) call parts (next_exchange login call p) (Steady call parts p e other w)
       (λ t i. steady_begun t parts p (next_exchange login call p) (opening_plain login (terms_of login (exchanges p)) p.statements call (connects_in (exchanges p)) other) i e w)
   steady (All ∷ parts) p e w = either (IsFine call) p.end_left _ _ (Steady call (All ∷ parts) (without_end p) e other w)
-      (either (IsFine call) (is_over p.talk) _ _ (Steady call parts p e other w) (steady_reads All parts p e w))
-  steady (Head ∷ parts) p e w = either (IsFine call) (is_rows (context_of p.talk).spot) _ _ (Steady call parts p e other w) (steady_reads Head parts p e w)
-  steady (Item ∷ parts) p e w = either (IsFine call) p.end_left _ _ (λ _. w) (either (IsFine call) (is_over p.talk) _ _ (λ _. w) (steady_reads Item parts p e w))
+      (either (IsFine call) (is_over p.talk) _ _ (Steady call parts p e other w) (steady_reads All refl parts p e w))
+  steady (Head ∷ parts) p e w = either (IsFine call) (is_rows (context_of p.talk).spot) _ _ (Steady call parts p e other w) (steady_reads Head refl parts p e w)
+  steady (Item ∷ parts) p e w = either (IsFine call) p.end_left _ _ (λ _. w) (either (IsFine call) (is_over p.talk) _ _ (λ _. w) (steady_reads Item refl parts p e w))
   steady (Set ∷ parts) p e w = either (IsFine call) (p.end_left || is_rows (context_of p.talk).spot) _ _ (λ _. w)
-      (either (IsFine call) (is_over p.talk) _ _ (λ _. w) (steady_reads Set parts p e w))
+      (either (IsFine call) (is_over p.talk) _ _ (λ _. w) (steady_reads Set refl parts p e w))
   steady (Rest ∷ parts) p e w = either (IsFine call) p.end_left _ _ (Steady call (Rest ∷ parts) (without_end p) e other w)
-      (either (IsFine call) (is_rows (context_of p.talk).spot) _ _ (steady_reads Rest parts p e w) (Steady call parts p e other w))
+      (either (IsFine call) (is_rows (context_of p.talk).spot) _ _ (steady_reads Rest refl parts p e w) (Steady call parts p e other w))
   steady (Check params ∷ parts) p e w = steady_checked parts p (values_for (statement_in call) params) e w
   steady (Run params ∷ parts) p e w = command_has (IsFine call) p (λ s _ _. w) call parts (executed login call p params) (Steady call parts p e other w)
       (λ t i. steady_begun t parts p (executed login call p params) (execution_plain (terms_of login (exchanges p)) p.statements (id_in call) (values_for (statement_in call) params)) i e w)
@@ -172,6 +183,9 @@ module _ (login : Login) (call : Call) (other : prepares call ≡ false) where
   steady (Offered ∷ parts) p e w = steady_offered parts p (can_reset (version_of (facts_at login p).version)) e w
   steady (Text text ∷ parts) p e w = steady_asked parts p (terms_of login (exchanges p)) text e w
   steady (Flag flag ∷ parts) p e w = λ _. w
+  steady (Adopt change ∷ parts) p e w = Steady call parts (with_account (changed change p.account) p) e other w
+  steady (Drain ∷ parts) p e w = either (IsFine call) p.end_left _ _ (Steady call (Drain ∷ parts) (without_end p) e other w)
+      (either (IsFine call) (is_over p.talk) _ _ (Steady call parts p e other w) (steady_drains parts p e w))
   steady (Undo ∷ parts) p e w = steady_undone parts p (is_given_up p.status) e w
   steady (Undone ∷ parts) p e w = Steady call parts (with_status (rolled_back p.status) p) e other w
   steady (Refuse opts ∷ parts) p e w = steady_refused parts p (begin_refusal opts (version_of (facts_at login p).version) p.status) e w
@@ -179,6 +193,7 @@ module _ (login : Login) (call : Call) (other : prepares call ≡ false) where
   steady (GiveUp ∷ parts) p e w = Steady call parts (with_status (given_up p.status) p) e other w
   steady (Try ∷ parts) p e w = Steady call parts (with_trial trials.On p) e other w
   steady (Back ∷ parts) p e w = absurd (cc)
+  steady (Renew ∷ parts) p e w = absurd (cc)
   steady (Clear ∷ parts) p e w = absurd (cc)
 
 -- a call that prepares a statement
@@ -222,7 +237,7 @@ module _ (login : Login) (text : List ℕ) where
 
       by_over : (b : Bool) → is_over p.talk ≡ b → IsFine asking_call (cond b (Goes (Keep ∷ Give ∷ []) p) (reads login Reply (Keep ∷ Give ∷ []) p))
       by_over true e = Keeping text p w e
-      by_over false e = reads_have (IsFine asking_call) p (preparing_stops text p) login Reply (Keep ∷ Give ∷ []) again (λ k q rest row c. again k q rest c)
+      by_over false e = reads_have (IsFine asking_call) p (preparing_stops text p) login Reply (Keep ∷ Give ∷ []) refl again (λ k q rest row c. again k q rest c)
           (λ q rest x. refused_fine asking_call p.trial (with_talk p (grow kinds.Failed p.talk q) rest) (server_error x) (λ s _ _. refused_holds (query_of text) p q rest w))
 
   closed : (p : Place) (terms : Terms) (o : Option ℕ) → HoldsBut (λ i. o ≡ Some i) p → IsFine asking_call (with_command asking_call (Give ∷ []) p (closing_of terms o))
@@ -270,12 +285,14 @@ part_fine login c parts p (Forgetting id q w) = Passing id (clean (Command ∷ [
 part_fine login c parts p (Passing id ps q left w) = passing login id ps q left w
 part_fine login c parts p (Closing id q w) = closing_begun login id q w
 part_fine login c parts p (Offering ps q e w) = offering login ps e q (can_reset (version_of (facts_at login q).version)) w
-part_fine login c parts p (Readying ps more q left e w) = readying login ps e more q left w
-part_fine login c parts p (Commanding ps q e w) = commanding login ps e q w
-part_fine login c parts p (Awaiting ps q e w r) = awaiting login ps e q w r
+part_fine login c parts p (Adopting change ps q e w) =
+    Readying (ChangeUser change) Renew (ByRenewal (ChangeUser change) refl) ps (clean (Renew ∷ All ∷ Clear ∷ ps)) (with_account (changed change q.account) q) Reads e w
+part_fine login c parts p (Readying d part by ps more q left e w) = readying login ps e d part by more q left w
+part_fine login c parts p (Commanding d part by ps q e w) = commanding login ps e d part by q w
+part_fine login c parts p (Awaiting d other ps q e w r) = awaiting login ps e d other q w r
 part_fine login c parts p (Reverting d q r w) = reverting login d q r w
 part_fine login c parts p (Returning d q r w) = returning login d q r w
-part_fine login c parts p (Emptying ps q e w r) = Steady Reset ps (with_statements (cleared q.statements) q) e refl (cleared_holds q r w)
+part_fine login c parts p (Emptying d other ps q e w r) = Steady d ps (with_statements (cleared q.statements) q) e other (cleared_holds q r w)
 
 pub step_fine : (login : Login) (call : Call) (parts : List Part) (p : Place) → Phase call parts p → IsFine call (step login call parts p)
 unfolding step
@@ -314,8 +331,11 @@ begins_fine login TakeSet p w = Steady TakeSet (parts_of login TakeSet) p refl r
 begins_fine login SkipTaken p w = Steady SkipTaken (parts_of login SkipTaken) p refl refl w
 begins_fine login Ping p w = Steady Ping (parts_of login Ping) p refl refl w
 begins_fine login Reset p w = Offering (parts_of_queries (setup_texts login) (Flag true ∷ [])) p (queries_plain (setup_texts login) (Flag true ∷ []) refl) w
+begins_fine login (ChangeUser change) p w = Adopting change (parts_of_queries (setup_texts login) []) p (queries_plain (setup_texts login) [] refl) w
 begins_fine login (Begin opts) p w = Steady (Begin opts) (parts_of login (Begin opts)) p (queries_plain (begin_texts opts) (Settle InTransaction ∷ []) refl) refl w
 begins_fine login Commit p w = Steady Commit (parts_of login Commit) p refl refl w
 begins_fine login Rollback p w = Steady Rollback (parts_of login Rollback) p refl refl w
 begins_fine login ForgetTransaction p w = Steady ForgetTransaction (parts_of login ForgetTransaction) p refl refl w
+begins_fine login CleanForPool p w = Steady CleanForPool (parts_of login CleanForPool) p refl refl w
+begins_fine login ResetForPool p w = Readying ResetForPool Renew (ByRenewal ResetForPool refl) (parts_of_queries (setup_texts login) []) (parts_of login ResetForPool) p Reads (queries_plain (setup_texts login) [] refl) w
 begins_fine login Quit p w = Steady Quit (parts_of login Quit) p refl refl w

@@ -16,6 +16,7 @@ pub record AlikePlaces (p q : Place) : Type 0 where
   pub taken : p.taken ≡ q.taken
   pub statements : p.statements ≡ q.statements
   pub status : p.status ≡ q.status
+  pub account : p.account ≡ q.account
   pub trial : p.trial ≡ q.trial
   pub unread : p.unread ≡ q.unread
   pub sent : p.sent ≡ q.sent

@@ -1,11 +1,12 @@
 -- What became of each statement that a connection's calls prepared.
 -- MySQL client/server protocol, "COM_STMT_CLOSE": a statement that isn't closed stays at the server while the connection lasts, unless
--- "COM_RESET_CONNECTION" resets its session, which frees all statements.
+-- "COM_RESET_CONNECTION" resets its session or "COM_CHANGE_USER" gives it another user, each of which frees all statements.
 use Rattle.std.specs.Prelude.{◌≡◌, ◌⊎◌, ℕ, List, [], ◌∷◌, Option, Some, None, IfSome, Bool, true, false, not, ◌||◌}
 use Rattle.std.specs.List.{AllByRecursion}
 use Rattle.std.specs.Option.{option_map}
 use Rattle.my_flags.specs.declared.flags.StatusFlags.{StatusFlags}
-use Rattle.my_command.specs.declared.client.ClientPacket.TheVariants.{ResetConnection}
+use Rattle.my_command.specs.declared.client.ClientPacket.{ClientPacket}
+use Rattle.my_command.specs.declared.client.ClientPacket.TheVariants.{ResetConnection, ChangeUser}
 use Rattle.my_command.specs.Client.Packet.{client_bytes}
 use Rattle.my_reply.specs.Replies.{prepare_ok_at}
 use Rattle.my_grammar.specs.declared.login.Login.{Login}
@@ -38,9 +39,16 @@ prepared_in _ = None
 abbrev pub Closes : ℕ → Talk → Type 0
 Closes id t = (terms : Terms) × (t ≡ closing terms id)
 
+-- the commands that reset the server's session, a new user's among them
+abbrev pub is_reset : ClientPacket → Bool
+is_reset ResetConnection = true
+is_reset (ChangeUser change) = true
+is_reset _ = false
+
 -- the exchange resets the server's session: an OK answers the command, and no ERR
 abbrev pub Resets : Talk → Type 0
-Resets t = (terms : Terms) × (ok : List ℕ) × (status : StatusFlags) × (t ≡ Replied terms (client_bytes ResetConnection) ok (Good status))
+Resets t = (packet : ClientPacket) × (is_reset packet ≡ true) × (terms : Terms) × (ok : List ℕ) × (status : StatusFlags)
+    × (t ≡ Replied terms (client_bytes packet) ok (Good status))
 
 -- the server freed the statement in one of these exchanges: it was closed, or the session was reset
 abbrev pub IsFreed : ℕ → List Exchange → Type 0

@@ -6,7 +6,7 @@ ghost use Rattle.statement_laws.specs.Found.{CachedIsReturned, OthersAreAskedFor
 ghost use Rattle.statement_laws.specs.Batches.{BatchesAreExecutions};
 
 /// Each statement that a call of a connection prepared is cached, or was closed after it was prepared, or the server's
-/// session was reset since, or the cache keeps none. It is so where each call so far returned with no error (`returned`); where each that was to prepare a
+/// session was reset or got another user since, or the cache keeps none. It is so where each call so far returned with no error (`returned`); where each that was to prepare a
 /// statement returned it or was refused, and each that was to close one returned (`settled`); and on each connection
 /// that is open, unless a call is, or one that was to close a statement ended with an error (`while_open`).
 pub fn statements_are_kept()

@@ -1,2 +1,3 @@
+pub mod Clean
 pub mod Right
 pub mod Wrong

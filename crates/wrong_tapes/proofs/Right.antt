@@ -54,4 +54,16 @@ are_right = record {
   not_told = record { first = refl; calls = (record { ends = refl; sent = refl; quiet = refl }, (record { ends = refl; sent = refl; quiet = refl }, (record { ends = refl; sent = refl; quiet = refl }, tt))) };
   begin_refused = record { first = refl; calls = (record { ends = refl; sent = refl; quiet = refl }, (record { ends = refl; sent = refl; quiet = refl }, (record { ends = refl; sent = refl; quiet = refl }, tt))) };
   given_up_closed = record { first = refl; calls = (record { ends = refl; sent = refl; quiet = refl }, (record { ends = refl; sent = refl; quiet = refl }, (record { ends = refl; sent = refl; quiet = refl }, (record { ends = refl; sent = refl; quiet = refl }, tt)))) };
+  user_changed = record { first = refl; calls = (record { ends = refl; sent = refl; quiet = refl }, (record { ends = refl; sent = refl; quiet = refl }, (record { ends = refl; sent = refl; quiet = refl }, tt))) };
+  secret_kept = record { first = refl; calls = (record { ends = refl; sent = refl; quiet = refl }, (record { ends = refl; sent = refl; quiet = refl }, tt)) };
+  set_up_anew = record { first = refl; calls = (record { ends = refl; sent = refl; quiet = refl }, (record { ends = refl; sent = refl; quiet = refl }, (record { ends = refl; sent = refl; quiet = refl }, (record { ends = refl; sent = refl; quiet = refl }, tt)))) };
+  change_refused = record { first = refl; calls = (record { ends = refl; sent = refl; quiet = refl }, (record { ends = refl; sent = refl; quiet = refl }, (record { ends = refl; sent = refl; quiet = refl }, (record { ends = refl; sent = refl; quiet = refl }, (record { ends = refl; sent = refl; quiet = refl }, tt))))) };
+  rest_cleaned = record { first = refl; calls = (record { ends = refl; sent = refl; quiet = refl }, (record { ends = refl; sent = refl; quiet = refl }, (record { ends = refl; sent = refl; quiet = refl }, (record { ends = refl; sent = refl; quiet = refl }, tt)))) };
+  error_cleaned = record { first = refl; calls = (record { ends = refl; sent = refl; quiet = refl }, (record { ends = refl; sent = refl; quiet = refl }, (record { ends = refl; sent = refl; quiet = refl }, (record { ends = refl; sent = refl; quiet = refl }, tt)))) };
+  transaction_cleaned = record { first = refl; calls = (record { ends = refl; sent = refl; quiet = refl }, (record { ends = refl; sent = refl; quiet = refl }, (record { ends = refl; sent = refl; quiet = refl }, (record { ends = refl; sent = refl; quiet = refl }, tt)))) };
+  both_cleaned = record { first = refl; calls = (record { ends = refl; sent = refl; quiet = refl }, (record { ends = refl; sent = refl; quiet = refl }, (record { ends = refl; sent = refl; quiet = refl }, (record { ends = refl; sent = refl; quiet = refl }, (record { ends = refl; sent = refl; quiet = refl }, tt))))) };
+  not_cleaned = record { first = refl; calls = (record { ends = refl; sent = refl; quiet = refl }, (record { ends = refl; sent = refl; quiet = refl }, (record { ends = refl; sent = refl; quiet = refl }, (record { ends = refl; sent = refl; quiet = refl }, tt)))) };
+  renewed_by_reset = record { first = refl; calls = (record { ends = refl; sent = refl; quiet = refl }, (record { ends = refl; sent = refl; quiet = refl }, (record { ends = refl; sent = refl; quiet = refl }, (record { ends = refl; sent = refl; quiet = refl }, tt)))) };
+  renewed_by_change = record { first = refl; calls = (record { ends = refl; sent = refl; quiet = refl }, (record { ends = refl; sent = refl; quiet = refl }, tt)) };
+  renewed_by_new = record { first = refl; calls = (record { ends = refl; sent = refl; quiet = refl }, (record { ends = refl; sent = refl; quiet = refl }, (record { ends = refl; sent = refl; quiet = refl }, tt))) };
 }

@@ -12,7 +12,7 @@ use Rattle.my_reading.specs.declared.error.IoKind.{IoKind}
 use Rattle.my_reading.specs.declared.error.IoKind.TheVariants as kinds
 use Rattle.my_reading.specs.Endings.{IsCut, IsOpen, IsCancelled, IsLinkFailure, IsLinkEnd, cancelling}
 use Rattle.my_reading.specs.Reading.{ReadCall}
-use Rattle.my_reading.specs.Told.{Told, ToldReady, ToldRow, ToldEnd, ToldNone, ToldStatement, ToldFlag, ToldError, Dropped}
+use Rattle.my_reading.specs.Told.{Told, ToldReady, ToldRow, ToldEnd, ToldNone, ToldStatement, ToldFlag, ToldError, ToldPassed, Dropped}
 use Rattle.wrong_tapes.specs.Wrong.{AreWrong}
 use Rattle.my_frame.specs.Writing.{le_bytes, len_bytes, text_bytes, text0_bytes, short_bytes}
 use Rattle.my_frame.specs.Front.{front_within, front_from}
@@ -24,6 +24,8 @@ use Rattle.my_reply.specs.OkPacket.{fields_at}
 use Rattle.my_handshake.specs.Greeting.{settings_at}
 use Rattle.my_handshake.specs.Version.{dotted_at}
 use Rattle.my_grammar.specs.Response.{response}
+use Rattle.my_grammar.specs.Scramble.{native_scramble}
+use Rattle.sha1.specs.Sha1.{first_words, schedule, rounds, compress, hash_after, digest_bytes, sha1}
 use Rattle.my_reading.specs.Course.{step, run}
 use Rattle.my_reading.specs.Reading.{read_calls, reading}
 
@@ -64,6 +66,7 @@ mark (Some (Dropped false)) = 6
 mark (Some (ToldFlag true)) = 7
 mark (Some (ToldFlag false)) = 8
 mark (Some (ToldError e)) = error_mark e
+mark (Some (ToldPassed e)) = 9
 mark (Some (ToldRow row)) = cell row.cells
 mark (Some (ToldStatement statement)) = 21 + statement.inner.num_params
 
@@ -79,7 +82,7 @@ not_cut login c a b d e (IsLinkFailure x) = d (ap mark x)
 not_cut login c a b d e (IsLinkEnd y x) = e (ap mark x)
 
 pub are_wrong : AreWrong
-unfolding le_bytes len_bytes text_bytes text0_bytes short_bytes front_within front_from parts_of chunks number_after_payload null_bitmap names_at form_at prepare_ok_at fields_at settings_at dotted_at response step run read_calls reading mark error_mark io_mark kind_mark cell byte
+unfolding le_bytes len_bytes text_bytes text0_bytes short_bytes front_within front_from parts_of chunks number_after_payload null_bitmap names_at form_at prepare_ok_at fields_at settings_at dotted_at response step run read_calls reading native_scramble first_words schedule rounds compress hash_after digest_bytes sha1 mark error_mark io_mark kind_mark cell byte
 are_wrong = record {
   other_cells = λ w. differs _ _ (λ e. absurd (omega arith)) w.calls.1.1.0.ends;
   invented_row = λ w. differs _ _ (λ e. absurd (omega arith)) w.calls.1.0.ends;
@@ -140,4 +143,18 @@ are_wrong = record {
   second_refusal = λ w. differs _ _ (λ e. absurd (omega arith)) w.calls.1.1.0.ends;
   undone_commit = λ w. false≢true w.calls.1.1.0.sent;
   silent_commit = λ w. not_cut _ _ (λ e. absurd (omega arith)) (λ e. absurd (omega arith)) (λ e. absurd (omega arith)) (λ e. absurd (omega arith)) w.calls.1.1.0.ends;
+  old_user = λ w. false≢true w.calls.1.0.sent;
+  early_change = λ w. not_cut _ _ (λ e. absurd (omega arith)) (λ e. absurd (omega arith)) (λ e. absurd (omega arith)) (λ e. absurd (omega arith)) w.calls.1.0.ends;
+  changed_by_error = λ w. differs _ _ (λ e. absurd (omega arith)) w.calls.1.0.ends;
+  kept_over_change = λ w. not_cut _ _ (λ e. absurd (omega arith)) (λ e. absurd (omega arith)) (λ e. absurd (omega arith)) (λ e. absurd (omega arith)) w.calls.1.1.1.0.ends;
+  not_set_up = λ w. not_cut _ _ (λ e. absurd (omega arith)) (λ e. absurd (omega arith)) (λ e. absurd (omega arith)) (λ e. absurd (omega arith)) w.calls.1.0.ends;
+  other_nonce = λ w. false≢true w.calls.1.0.sent;
+  error_told = λ w. differs _ _ (λ e. absurd (omega arith)) w.calls.1.1.0.ends;
+  still_in_transaction = λ w. not_cut _ _ (λ e. absurd (omega arith)) (λ e. absurd (omega arith)) (λ e. absurd (omega arith)) (λ e. absurd (omega arith)) w.calls.1.1.0.ends;
+  clean_by_error = λ w. differs _ _ (λ e. absurd (omega arith)) w.calls.1.1.0.ends;
+  reset_of_old = λ w. false≢true w.calls.1.0.sent;
+  changed_not_reset = λ w. false≢true w.calls.1.0.sent;
+  renewed_by_old = λ w. false≢true w.calls.1.1.0.sent;
+  early_renewal = λ w. not_cut _ _ (λ e. absurd (omega arith)) (λ e. absurd (omega arith)) (λ e. absurd (omega arith)) (λ e. absurd (omega arith)) w.calls.1.0.ends;
+  kept_over_renewal = λ w. not_cut _ _ (λ e. absurd (omega arith)) (λ e. absurd (omega arith)) (λ e. absurd (omega arith)) (λ e. absurd (omega arith)) w.calls.1.1.1.0.ends;
 }

@@ -3,6 +3,7 @@ use Rattle.std.specs.Prelude.{ℕ, zero, suc, pos, ◌+◌, List, [], ◌∷◌,
 use Rattle.my_reply.specs.declared.column.Column.{Column}
 use Rattle.my_value.specs.declared.value.Value.{Value}
 use Rattle.my_value.specs.declared.value.Value.TheVariants.{Bytes, Int}
+use Rattle.my_opts.specs.ChangeUser.{ChangeView}
 use Rattle.my_opts_parts.specs.declared.transaction.IsolationLevel.TheVariants.{ReadCommitted}
 use Rattle.my_opts_parts.specs.TransactionOptions.{TxView, default_tx}
 use Rattle.my_params.specs.declared.params.Params.{Params}
@@ -11,7 +12,7 @@ use Rattle.my_value.specs.RowParts.{RowParts}
 use Rattle.my_statements.specs.Prepared.{StatementView}
 use Rattle.my_grammar.specs.declared.login.Login.{Login}
 use Rattle.my_reading.specs.declared.call.Call.{Call}
-use Rattle.my_reading.specs.declared.call.Call.TheVariants.{Connect, Query, Prepare, Ping, Reset, Begin, Commit, Rollback, ForgetTransaction}
+use Rattle.my_reading.specs.declared.call.Call.TheVariants.{Connect, Query, Prepare, Ping, Reset, ChangeUser, Begin, Commit, Rollback, ForgetTransaction, CleanForPool, ResetForPool}
 use Rattle.my_reading.specs.Tape.{Tape, TapeCall, Span}
 use Rattle.my_reading.specs.Told.{Told, ToldReady, ToldStatement, ToldFlag}
 
@@ -117,6 +118,18 @@ set_up_queries = asks (codes "DO 2") ++ asks (codes "DO 1")
 abbrev pub resets : List ℕ
 resets = packet 0 (31 ∷ [])
 
+-- the packet that gives a session this user, with these bytes of the password
+abbrev pub changes_with : List ℕ → List ℕ → List ℕ
+changes_with scramble user = packet 0 (17 ∷ user ++ 0 ∷ length scramble ∷ scramble ++ 0 ∷ 45 ∷ 0 ∷ plugin)
+
+-- and without a password
+abbrev pub changes_to : List ℕ → List ℕ
+changes_to user = changes_with [] user
+
+-- what the change to the user `bob` changes
+abbrev pub to_bob : ChangeView
+to_bob = record { user = Some (Some (codes "bob")); pass = None; db_name = None }
+
 -- a ping, and the queries that begin and end a transaction
 abbrev pub pings : List ℕ
 pings = packet 0 (14 ∷ [])
@@ -179,8 +192,13 @@ call_with call sent taken ending = record { call = call; sent = sent; taken = ta
 abbrev pub returned : Call → List ℕ → List ℕ → Told → Span
 returned call sent taken t = call_with call sent taken (Some t)
 
+-- a connection is made, with these bytes of the password
+abbrev pub connected_with : List ℕ → Span
+connected_with scramble = returned Connect (response scramble) (greeting ++ fine 2 2) ToldReady
+
+-- with no password
 abbrev pub connected : Span
-connected = returned Connect (response []) (greeting ++ fine 2 2) ToldReady
+connected = connected_with []
 
 -- to a server of this version
 abbrev pub connected_to : List ℕ → Span
@@ -193,6 +211,16 @@ arranged = returned Connect (response [] ++ set_up_queries) (greeting ++ fine 2 
 -- a reset, for which this is sent and received, and that the server had the command or hadn't
 abbrev pub reset : List ℕ → List ℕ → Bool → Span
 reset sent taken flag = returned Reset sent taken (ToldFlag flag)
+
+-- the user is changed to `bob`, a pool cleans the connection, and it renews the session, for which this is sent and received
+abbrev pub changed : List ℕ → List ℕ → Span
+changed sent taken = returned (ChangeUser to_bob) sent taken ToldReady
+
+abbrev pub cleaned : List ℕ → List ℕ → Span
+cleaned sent taken = returned CleanForPool sent taken ToldReady
+
+abbrev pub renewed : List ℕ → List ℕ → Span
+renewed sent taken = returned ResetForPool sent taken ToldReady
 
 -- a ping, before which this is sent and answered by an OK
 abbrev pub pinged : List ℕ → List ℕ → Span
@@ -221,6 +249,10 @@ selected = asked (codes "SELECT 1") head
 -- the statement of one parameter and one column is prepared, and returned with n parameters
 abbrev pub prepared : ℕ → Span
 prepared n = returned (Prepare (codes "SELECT ?")) (prepares (codes "SELECT ?")) (prepare_ok 1 1 ++ column 2 ++ column 3) (ToldStatement (asking n))
+
+-- it is found in the cache
+abbrev pub found : Span
+found = returned (Prepare (codes "SELECT ?")) [] [] (ToldStatement (asking 1))
 
 -- a statement without parameters is prepared, for which this is sent, too
 abbrev pub prepared_plain : List ℕ → ℕ → List ℕ → Span

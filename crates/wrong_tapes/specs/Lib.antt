@@ -1,3 +1,4 @@
 pub mod Bytes
+pub mod Clean
 pub mod Right
 pub mod Wrong

@@ -4,7 +4,7 @@ use Rattle.std.specs.Str.Lossy.{utf8_lossy}
 use Rattle.my_value.specs.declared.value.Value.TheVariants.{Int}
 use Rattle.my_params.specs.declared.params.Params.TheVariants.{Empty, Positional}
 use Rattle.my_grammar.specs.declared.login.Login.{Login}
-use Rattle.my_reading.specs.declared.call.Call.TheVariants.{Connect, Query, Prepare, Execute, Batch, CloseStmt, NextRow, DropResult, TakeSet, SkipTaken, Ping, Reset, Begin, Commit, Quit}
+use Rattle.my_reading.specs.declared.call.Call.TheVariants.{Connect, Query, Prepare, Execute, Batch, CloseStmt, NextRow, DropResult, TakeSet, SkipTaken, Ping, Reset, ChangeUser, Begin, Commit, CleanForPool, Quit}
 use Rattle.my_reading.specs.declared.error.DriverError.TheVariants.{NestedTransaction, ReadOnlyTransNotSupported, StmtParamsMismatch}
 use Rattle.my_reading.specs.declared.error.Error.TheVariants.{Driver, Server}
 use Rattle.my_reading.specs.declared.error.ServerError.{ServerError}
@@ -12,8 +12,8 @@ use Rattle.my_reading.specs.Endings.{IsTape}
 use Rattle.my_reading.specs.Errors.{connection_closed, mixed_params}
 use Rattle.my_reading.specs.Place.{facts_at}
 use Rattle.my_reading.specs.Reading.{reading}
-use Rattle.my_reading.specs.Told.{ToldReady, ToldRow, ToldEnd, ToldNone, ToldStatement, ToldError, Dropped}
-use Rattle.wrong_tapes.specs.Bytes.{root, frugal, orderly, login_by, connected, connected_to, arranged, selected, prepared, prepared_plain, reset, begun, committed, rolled_back, forgotten, pinged, asking, ones, asked, asks, executes, closes, resets, commits, rolls_back, sets_level, sets_access, starts_fully, reading_tx, full_tx, set_up_queries, returned, call_with, row, row_with, one, binary_one, end, head, fine, refusal, other_refusal, column, packet, response, greeting, tape_of}
+use Rattle.my_reading.specs.Told.{ToldReady, ToldRow, ToldEnd, ToldNone, ToldError, Dropped}
+use Rattle.wrong_tapes.specs.Bytes.{root, frugal, orderly, login_by, connected, connected_to, connected_with, arranged, selected, prepared, prepared_plain, reset, begun, committed, rolled_back, forgotten, pinged, changed, changes_to, changes_with, cleaned, found, renewed, to_bob, asking, ones, asked, asks, executes, closes, resets, commits, rolls_back, sets_level, sets_access, starts_fully, reading_tx, full_tx, set_up_queries, returned, call_with, row, row_with, one, binary_one, end, head, fine, refusal, other_refusal, column, packet, response, greeting, tape_of}
 
 -- what the server's ERRs say
 abbrev pub error : ServerError
@@ -31,6 +31,10 @@ curious = login_by None None None
 
 abbrev pub scramble : List ℕ
 scramble = 18 ∷ 144 ∷ 157 ∷ 114 ∷ 216 ∷ 117 ∷ 82 ∷ 63 ∷ 140 ∷ 157 ∷ 109 ∷ 164 ∷ 76 ∷ 189 ∷ 58 ∷ 108 ∷ 28 ∷ 231 ∷ 148 ∷ 219 ∷ []
+
+-- a user with the password `pw`
+abbrev pub secretive : Login
+secretive = login_by (Some (codes "pw")) (Some 4194304) (Some 28800)
 
 pub record AreRight : Type 0 where
   -- a query with one row, its end, and nothing after it; then a ping and a quit
@@ -54,11 +58,11 @@ pub record AreRight : Type 0 where
   pub set_up : IsTape curious (tape_of (returned Connect (response [] ++ asks (codes "SELECT @@max_allowed_packet,@@wait_timeout")) (greeting ++ fine 2 2 ++ settings) ToldReady ∷ []))
   pub limit : (facts_at curious (reading curious (tape_of (returned Connect (response [] ++ asks (codes "SELECT @@max_allowed_packet,@@wait_timeout")) (greeting ++ fine 2 2 ++ settings) ToldReady ∷ []))).place).settings.limit ≡ 67108864
   -- a login with a password
-  pub password : IsTape (login_by (Some (codes "pw")) (Some 4194304) (Some 28800)) (tape_of (returned Connect (response scramble) (greeting ++ fine 2 2) ToldReady ∷ []))
+  pub password : IsTape secretive (tape_of (connected_with scramble ∷ []))
   -- a statement is prepared, and executed with a row of the binary protocol; it is found in the cache, and closed
   pub executed : IsTape root (tape_of (connected ∷ prepared 1 ∷ returned (Execute (asking 1) (Positional (Int (pos 1) ∷ []))) executes head ToldReady
       ∷ returned NextRow [] (binary_one 3) (ToldRow (row_with (Int (pos 1)))) ∷ returned NextRow [] (end 4) ToldEnd
-      ∷ returned (Prepare (codes "SELECT ?")) [] [] (ToldStatement (asking 1)) ∷ returned (CloseStmt 1) (closes 1) [] ToldReady ∷ []))
+      ∷ found ∷ returned (CloseStmt 1) (closes 1) [] ToldReady ∷ []))
   -- a statement is executed twice in one call, and what each response has is read whole; then nothing is left
   pub batch : IsTape root (tape_of (connected ∷ prepared 1 ∷ returned (Batch (asking 1) (ones 2)) (executes ++ executes)
       (head ++ binary_one 3 ++ end 4 ++ fine 1 2) ToldReady ∷ returned NextRow [] [] ToldNone ∷ []))
@@ -81,7 +85,7 @@ pub record AreRight : Type 0 where
   pub prepared_anew : IsTape root (tape_of (connected ∷ prepared 1 ∷ reset resets (fine 1 2) true ∷ prepared 1 ∷ []))
   -- where the server refuses it, the connection stays open, and the statement cached
   pub reset_refused : IsTape root (tape_of (connected ∷ prepared 1 ∷ returned Reset resets (refusal 1) (ToldError (Server error))
-      ∷ returned (Prepare (codes "SELECT ?")) [] [] (ToldStatement (asking 1)) ∷ []))
+      ∷ found ∷ []))
   -- a transaction begins, a query is sent in it, and it is rolled back; then a ping sends no more than itself
   pub transaction : IsTape root (tape_of (connected ∷ begun ∷ asked (codes "DO 1") (fine 1 2) ∷ rolled_back ∷ pinged [] [] ∷ []))
   -- or it is committed
@@ -110,3 +114,25 @@ pub record AreRight : Type 0 where
   pub begin_refused : IsTape root (tape_of (connected ∷ returned (Begin full_tx) (sets_level ++ sets_access) (fine 1 2 ++ refusal 1) (ToldError (Server error)) ∷ begun ∷ []))
   -- one is given up on a closed connection
   pub given_up_closed : IsTape root (tape_of (connected ∷ begun ∷ returned Quit (packet 0 (1 ∷ [])) [] ToldReady ∷ forgotten ∷ []))
+  -- a connection gets the user `bob`
+  pub user_changed : IsTape root (tape_of (connected ∷ changed (changes_to (codes "bob")) (fine 1 2) ∷ pinged [] [] ∷ []))
+  -- its password stays, and the answer to the nonce of the greeting with it
+  pub secret_kept : IsTape secretive (tape_of (connected_with scramble ∷ changed (changes_with scramble (codes "bob")) (fine 1 2) ∷ []))
+  -- the queries that set the connection up are sent from the last to the first, and the statement that was cached is prepared anew
+  pub set_up_anew : IsTape orderly (tape_of (arranged ∷ prepared 1 ∷ changed (changes_to (codes "bob") ++ set_up_queries) (fine 1 2 ++ fine 1 2 ++ fine 1 2) ∷ prepared 1 ∷ []))
+  -- where the server refuses it, the connection stays open, and the statement cached
+  pub change_refused : IsTape root (tape_of (connected ∷ prepared 1 ∷ returned (ChangeUser to_bob) (changes_to (codes "bob")) (refusal 1) (ToldError (Server error)) ∷ found ∷ pinged [] [] ∷ []))
+  -- a pool cleans: the rest of a set is read
+  pub rest_cleaned : IsTape root (tape_of (connected ∷ selected ∷ cleaned [] (one 3 ++ end 4) ∷ pinged [] [] ∷ []))
+  -- an ERR in it is dropped
+  pub error_cleaned : IsTape root (tape_of (connected ∷ selected ∷ cleaned [] (refusal 3) ∷ pinged [] [] ∷ []))
+  -- an open transaction is rolled back, also after an ERR in the rest
+  pub transaction_cleaned : IsTape root (tape_of (connected ∷ begun ∷ cleaned rolls_back (fine 1 2) ∷ pinged [] [] ∷ []))
+  pub both_cleaned : IsTape root (tape_of (connected ∷ begun ∷ selected ∷ cleaned rolls_back (refusal 3 ++ fine 1 2) ∷ pinged [] [] ∷ []))
+  -- where the server refuses that, the call returns why, and the next command tries it again
+  pub not_cleaned : IsTape root (tape_of (connected ∷ begun ∷ returned CleanForPool rolls_back (refusal 1) (ToldError (Server error)) ∷ pinged rolls_back (fine 1 2) ∷ []))
+  -- a pool renews the session: it is reset, and set up again; the statement that was cached is prepared anew
+  pub renewed_by_reset : IsTape orderly (tape_of (arranged ∷ prepared 1 ∷ renewed (resets ++ set_up_queries) (fine 1 2 ++ fine 1 2 ++ fine 1 2) ∷ prepared 1 ∷ []))
+  -- a server of version 5.7.2 gets the user of the options in force: `root`, or `bob` after a change
+  pub renewed_by_change : IsTape root (tape_of (connected_to (codes "5.7.2") ∷ renewed (changes_to (codes "root")) (fine 1 2) ∷ []))
+  pub renewed_by_new : IsTape root (tape_of (connected_to (codes "5.7.2") ∷ changed (changes_to (codes "bob")) (fine 1 2) ∷ renewed (changes_to (codes "bob")) (fine 1 2) ∷ []))

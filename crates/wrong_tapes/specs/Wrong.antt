@@ -1,22 +1,26 @@
 -- Tapes that no client has.
-use Rattle.std.specs.Prelude.{pos, List, [], ◌∷◌, ◌++◌, codes, None, false, true}
+use Rattle.std.specs.Prelude.{ℕ, pos, List, [], ◌∷◌, ◌++◌, codes, None, false, true}
 use Rattle.my_value.specs.declared.value.Value.TheVariants.{Int}
 use Rattle.my_params.specs.declared.params.Params.TheVariants.{Empty, Positional}
-use Rattle.my_reading.specs.declared.call.Call.TheVariants.{Connect, Query, Prepare, Execute, Batch, CloseStmt, NextRow, DropResult, TakeSet, SkipTaken, Ping, Begin, Commit, Rollback, ForgetTransaction, Quit}
+use Rattle.my_reading.specs.declared.call.Call.TheVariants.{Connect, Query, Prepare, Execute, Batch, CloseStmt, NextRow, DropResult, TakeSet, SkipTaken, Ping, Begin, Commit, Rollback, ForgetTransaction, CleanForPool, Quit}
 use Rattle.my_opts_parts.specs.TransactionOptions.{default_tx}
 use Rattle.my_reading.specs.declared.error.DriverError.TheVariants.{NestedTransaction}
 use Rattle.my_reading.specs.declared.error.Error.TheVariants.{Driver, Server}
 use Rattle.my_reading.specs.declared.error.IoKind.TheVariants.{Link}
 use Rattle.my_reading.specs.Endings.{IsTape}
 use Rattle.my_reading.specs.Errors.{connection_closed, mixed_params, io_error, unexpected_eof, invalid_data}
-use Rattle.my_reading.specs.Told.{ToldReady, ToldRow, ToldEnd, ToldNone, ToldStatement, ToldError, Dropped}
+use Rattle.my_reading.specs.Told.{ToldReady, ToldRow, ToldEnd, ToldNone, ToldError, Dropped}
 use Rattle.my_reading.specs.Tape.{Span}
-use Rattle.wrong_tapes.specs.Bytes.{root, frugal, orderly, connected, connected_to, arranged, selected, prepared, prepared_plain, reset, begun, committed, forgotten, pinged, asking, ones, executes, closes, resets, starts, commits, rolls_back, sets_level, sets_access, starts_fully, reading_tx, full_tx, asked, asks, returned, call_with, row, one, end, fine, refusal, other_refusal, head, packet, response, greeting, tape_of}
-use Rattle.wrong_tapes.specs.Right.{curious, error, other_error}
+use Rattle.wrong_tapes.specs.Bytes.{root, frugal, orderly, connected, connected_to, connected_with, arranged, selected, prepared, prepared_plain, reset, begun, forgotten, pinged, changed, changes_to, changes_with, cleaned, found, renewed, asking, ones, executes, closes, resets, starts, commits, rolls_back, sets_level, sets_access, starts_fully, reading_tx, full_tx, asked, asks, returned, call_with, row, one, end, fine, refusal, other_refusal, head, packet, response, greeting, tape_of}
+use Rattle.wrong_tapes.specs.Right.{curious, error, other_error, scramble, secretive}
 
 -- the calls are on no tape of a client that logs in as root
 abbrev pub NoTape : List Span → Type 0
 NoTape ss = IsTape root (tape_of ss) → ⊥
+
+-- the same password for the nonce `tsrqponmlkjihgfedcba`
+abbrev pub other_scramble : List ℕ
+other_scramble = 231 ∷ 238 ∷ 155 ∷ 117 ∷ 128 ∷ 70 ∷ 10 ∷ 178 ∷ 202 ∷ 224 ∷ 157 ∷ 217 ∷ 184 ∷ 246 ∷ 193 ∷ 153 ∷ 145 ∷ 112 ∷ 70 ∷ 85 ∷ []
 
 pub record AreWrong : Type 0 where
   -- a row of other cells than the payload's
@@ -98,7 +102,7 @@ pub record AreWrong : Type 0 where
   pub other_order : IsTape orderly (tape_of (arranged ∷ reset (resets ++ asks (codes "DO 1") ++ asks (codes "DO 2")) (fine 1 2 ++ fine 1 2 ++ fine 1 2) true ∷ [])) → ⊥
   pub half_reset : IsTape orderly (tape_of (arranged ∷ reset (resets ++ asks (codes "DO 2")) (fine 1 2 ++ fine 1 2) true ∷ [])) → ⊥
   -- a statement is found in the cache after a reset
-  pub kept_over_reset : NoTape (connected ∷ prepared 1 ∷ reset resets (fine 1 2) true ∷ returned (Prepare (codes "SELECT ?")) [] [] (ToldStatement (asking 1)) ∷ [])
+  pub kept_over_reset : NoTape (connected ∷ prepared 1 ∷ reset resets (fine 1 2) true ∷ found ∷ [])
   -- a transaction that was given up isn't rolled back before the next command, or is rolled back twice
   pub not_undone : NoTape (connected ∷ begun ∷ forgotten ∷ pinged [] [] ∷ [])
   pub undone_twice : NoTape (connected ∷ begun ∷ forgotten ∷ pinged rolls_back (fine 1 2) ∷ pinged rolls_back (fine 1 2) ∷ [])
@@ -129,3 +133,27 @@ pub record AreWrong : Type 0 where
   -- one that was committed is rolled back; or isn't sent at all
   pub undone_commit : NoTape (connected ∷ begun ∷ returned Commit (commits ++ rolls_back) (fine 1 2 ++ fine 1 2) ToldReady ∷ [])
   pub silent_commit : NoTape (connected ∷ begun ∷ returned Commit [] [] ToldReady ∷ [])
+  -- a connection gets another user than the change says, or is ready before the server's OK, or though the server refused
+  pub old_user : NoTape (connected ∷ changed (changes_to (codes "root")) (fine 1 2) ∷ [])
+  pub early_change : NoTape (connected ∷ changed (changes_to (codes "bob")) [] ∷ [])
+  pub changed_by_error : NoTape (connected ∷ changed (changes_to (codes "bob")) (refusal 1) ∷ [])
+  -- a statement is found in the cache after it
+  pub kept_over_change : NoTape (connected ∷ prepared 1 ∷ changed (changes_to (codes "bob")) (fine 1 2) ∷ found ∷ [])
+  -- the queries that set the connection up aren't sent after it
+  pub not_set_up : IsTape orderly (tape_of (arranged ∷ changed (changes_to (codes "bob")) (fine 1 2) ∷ [])) → ⊥
+  -- the password is proved for another nonce than the greeting's
+  pub other_nonce : IsTape secretive (tape_of (connected_with scramble ∷ changed (changes_with other_scramble (codes "bob")) (fine 1 2) ∷ [])) → ⊥
+  -- a pool cleans: the ERR in the rest of a set is returned; nothing is rolled back, though a transaction is open
+  pub error_told : NoTape (connected ∷ selected ∷ returned CleanForPool [] (refusal 3) (ToldError (Server error)) ∷ [])
+  pub still_in_transaction : NoTape (connected ∷ begun ∷ cleaned [] [] ∷ [])
+  -- it is ready though the server refused to roll back
+  pub clean_by_error : NoTape (connected ∷ begun ∷ cleaned rolls_back (refusal 1) ∷ [])
+  -- it renews the session: a server of version 5.7.2 is to reset it; one that can reset it gets a user
+  pub reset_of_old : NoTape (connected_to (codes "5.7.2") ∷ renewed resets (fine 1 2) ∷ [])
+  pub changed_not_reset : NoTape (connected ∷ renewed (changes_to (codes "root")) (fine 1 2) ∷ [])
+  -- a server of version 5.7.2 gets the user from before a change
+  pub renewed_by_old : NoTape (connected_to (codes "5.7.2") ∷ changed (changes_to (codes "bob")) (fine 1 2) ∷ renewed (changes_to (codes "root")) (fine 1 2) ∷ [])
+  -- it is ready before the server's OK
+  pub early_renewal : NoTape (connected ∷ renewed resets [] ∷ [])
+  -- a statement is found in the cache after it
+  pub kept_over_renewal : NoTape (connected ∷ prepared 1 ∷ renewed resets (fine 1 2) ∷ found ∷ [])

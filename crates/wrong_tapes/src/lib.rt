@@ -1,6 +1,7 @@
 //! Tapes of connections, right and wrong ones: what the reading of a tape accepts, and what it refutes.
 #![tactic(auto)]
 
+ghost use Rattle.wrong_tapes.specs.Clean.{AreClean, AreUnclean};
 ghost use Rattle.wrong_tapes.specs.Right.{AreRight};
 ghost use Rattle.wrong_tapes.specs.Wrong.{AreWrong};
 
@@ -9,7 +10,8 @@ ghost use Rattle.wrong_tapes.specs.Wrong.{AreWrong};
 /// a statement that is prepared, executed, found in the cache and closed, one that has to go for another, and what is refused;
 /// batches of two lists of parameters, of none, and of one that doesn't fit; a reset with the queries that follow it, one that
 /// an older server isn't asked for, one that the server refuses, and a statement that is prepared anew after one; transactions
-/// that begin, are committed, rolled back, given up and refused.
+/// that begin, are committed, rolled back, given up and refused; a change of user, with a password and without one, with the
+/// queries that follow it, and one that the server refuses; what a pool sends to clean a connection and to renew its session.
 pub fn right_tapes_are_accepted()
     ensures { AreRight }
 {}
@@ -21,7 +23,16 @@ pub fn right_tapes_are_accepted()
 /// that is left out, or whose queries are sent in the other order or in part, and a statement that is found after one; a
 /// transaction that was given up and isn't rolled back, or twice or too early, one that begins in another one or is refused for
 /// none, queries of one in another order, one that has begun before its last OK, a rollback that sends nothing, and one
-/// that is committed though the server refused, or isn't rolled back then.
+/// that is committed though the server refused, or isn't rolled back then; a change to another user, for another nonce, before
+/// the OK or without the queries that follow, and a statement that is found after one; a pool that gets the error of what is left,
+/// rolls nothing back, or has a session renewed as the server can't, with an older user, or otherwise than by a reset.
 pub fn wrong_tapes_are_refuted()
     ensures { AreWrong }
+{}
+
+/// A connection is clean once it is made and once its pool has cleaned it; it isn't while a call is open, rows or a lone OK's
+/// end are left, a transaction is open or was given up, nor once it is closed.
+pub fn clean_tapes_are_told_apart()
+    ensures clean { AreClean }
+    ensures unclean { AreUnclean }
 {}

@@ -24,8 +24,8 @@ use my_statements::Statement;
 use my_value::Value;
 use std::alloc::Global;
 
-// The packet's payload.
-fn payload_of(alloc: Global, packet: ClientPacket) -> Result<Vec<u8>, NoMemory>
+/// The packet's payload.
+pub(super) fn payload_of(alloc: Global, packet: ClientPacket) -> Result<Vec<u8>, NoMemory>
     requires { PartsFit packet }
     ensures { IfOk result (λ payload. payload.items ≡ client_bytes packet) }
 {
@@ -82,8 +82,13 @@ fn sent_ahead(alloc: Global, ahead: &[Blob]) -> Result<Queue, NoMemory>
 }
 
 impl Stand {
-    // The exchange of this command begins, unless the command is above the limit.
-    fn ask(&mut self, spot: Spot, command: &[u8], arranged: usize) -> Result<Step, NoMemory>
+    /// The exchange of this command begins, unless the command is above the limit.
+    pub(super) fn ask(
+        &mut self,
+        spot: Spot,
+        command: &[u8],
+        arranged: usize,
+    ) -> Result<Step, NoMemory>
         ensures { IfOk result (λ step. Comes (asks spot command.now arranged self.old) step self.new) }
     {
         let limit = self.facts.settings.limit;
@@ -202,8 +207,8 @@ impl Stand {
         self.ask(spot, &command, self.arranged)
     }
 
-    // How many of the queries that set the connection up were begun after an exchange of the call.
-    fn arranged_after(&self, call: &Call) -> usize
+    /// How many of the queries that set the connection up were begun after an exchange of the call.
+    pub(super) fn arranged_after(&self, call: &Call) -> usize
         ensures { result ≡ arranged_after call.now self.now }
     {
         if is_connect(call.kind()) && self.arranged < self.texts.len() {
@@ -263,10 +268,13 @@ impl Stand {
             | Call::DropResult
             | Call::TakeSet
             | Call::SkipTaken
+            | Call::ChangeUser(_)
             | Call::Begin(_)
             | Call::Commit
             | Call::Rollback
-            | Call::ForgetTransaction => Ok(Step::Passes),
+            | Call::ForgetTransaction
+            | Call::CleanForPool
+            | Call::ResetForPool => Ok(Step::Passes),
             Call::Ping => self.ask_packet(alloc, Spot::Single, ClientPacket::Ping),
             Call::Reset => self.ask_packet(alloc, Spot::Single, ClientPacket::ResetConnection),
             Call::Quit => self.ask_packet(alloc, Spot::Idle, ClientPacket::Quit),

@@ -5,45 +5,23 @@ ghost use Rattle.my_frame.specs.Chunks.{number_after_payload};
 ghost use Rattle.my_grammar.specs.Growth.{number_next, said};
 ghost use Rattle.my_grammar.specs.Kinds.{kind_there};
 ghost use Rattle.my_grammar.specs.Response.{response};
-ghost use Rattle.my_reply.specs.ErrPacket.{err_at};
 ghost use Rattle.my_reply.specs.Replies.{prepare_ok_at};
 ghost use Rattle.my_reading.specs.Course.{is_greeting, is_rows};
-ghost use Rattle.my_reading.specs.Errors.{server_error};
 ghost use Rattle.my_reading.specs.Rows.{row_of};
 ghost use Rattle.my_judge.specs.Stands.{Comes, failure, heard, reads, read_payload, unfit};
-ghost use Rattle.my_judge.specs.Stands.{after_err, after_greeting, after_kind, after_prepared, is_cached_by};
+ghost use Rattle.my_judge.specs.Stands.{after_greeting, after_kind, after_prepared, is_cached_by};
 
 use super::Stand;
 use crate::part::Part;
 use crate::step::{Step, Stop};
 use crate::tape::Ending;
-use my_frame::{
-    CodecError, CodecFault, FramedPayload, NoMemory, ReadError, Text, payload_in_front,
-};
+use my_frame::{CodecError, CodecFault, FramedPayload, NoMemory, ReadError, payload_in_front};
 use my_grammar::{Kind, Login, Spot, kind_at, login_response};
-use my_reading::{Answer, Error, IoError, IoFault, IoKind, ServerError, read_row};
-use my_reply::{ErrPacket, read_err, read_prepare_ok};
+use my_reading::{Answer, Error, IoError, IoFault, IoKind, read_row};
+use my_reply::read_prepare_ok;
 use my_value::Row;
 use std::alloc::Global;
 use std::sync::Arc;
-
-// What an ERR says.
-fn server_error(alloc: Global, packet: ErrPacket) -> Result<ServerError, NoMemory>
-    ensures { IfOk result (λ e. e ≡ server_error packet) }
-{
-    let state = match Text::from_utf8_lossy(alloc, &packet.state) {
-        Ok(state) => state,
-        Err(_) => {
-            drop(packet);
-            return Err(NoMemory);
-        }
-    };
-    Ok(ServerError {
-        code: packet.code,
-        state,
-        message: packet.message,
-    })
-}
 
 /// The call fails so.
 pub(super) fn failure(error: Error) -> Step
@@ -66,7 +44,8 @@ pub(super) fn answered(answer: Answer) -> Step
     Step::Stops(Stop::Returns(Ending::Answered(answer)))
 }
 
-fn is_greeting(spot: Spot) -> bool
+/// Whether the greeting is awaited.
+pub(super) fn is_greeting(spot: Spot) -> bool
     ensures { result ≡ is_greeting spot }
 {
     match spot {
@@ -86,8 +65,8 @@ pub(super) fn is_rows(spot: Spot) -> bool
 }
 
 impl Stand {
-    // A payload that fits no case.
-    fn unfit(&self) -> Step
+    /// A payload that fits no case.
+    pub(super) fn unfit(&self) -> Step
         ensures { result ≡ unfit self.now }
     {
         failure(Error::Io(IoError::Io(IoFault {
@@ -121,8 +100,8 @@ impl Stand {
         Ok(())
     }
 
-    // The payload that was found is read.
-    fn hear(
+    /// The payload that was found is read.
+    pub(super) fn hear(
         &mut self,
         alloc: Global,
         login: &Login,
@@ -189,37 +168,6 @@ impl Stand {
                 drop(row);
                 Step::Stays
             }
-        }
-    }
-
-    // The server's error ends the call.
-    fn refuse(
-        &mut self,
-        alloc: Global,
-        login: &Login,
-        found: &FramedPayload,
-    ) -> Result<Step, NoMemory>
-        requires next { found.now.span.next ≡ number_after_payload found.now.payload self.old.number }
-        requires fits { found.now.span.len ≤ length self.old.unread }
-        ensures { let s = self.old in
-            let packet = err_at (is_greeting s.context.spot) found.now.payload in
-            let new = heard login.now Kind.Failed found.now.payload (drop found.now.span.len s.unread) s in
-            IfOk result (λ step. Comes (after_err packet s new) step self.new) }
-    {
-        let payload = found.payload.as_slice();
-        match read_err(alloc, payload, is_greeting(self.context.spot)) {
-            Ok(packet) => {
-                let error = server_error(alloc, packet)?;
-                match self.hear(alloc, login, Kind::Failed, found) {
-                    Ok(()) => Ok(self.refuse_at(error)),
-                    Err(NoMemory) => {
-                        drop(error);
-                        Err(NoMemory)
-                    }
-                }
-            }
-            Err(ReadError::Malformed) => Ok(self.unfit()),
-            Err(ReadError::NoMemory) => Err(NoMemory),
         }
     }
 
@@ -328,7 +276,7 @@ impl Stand {
         let kind = self.kind_here(found.payload.as_slice());
         match kind {
             Kind::Bad => Ok(self.unfit()),
-            Kind::Failed => self.refuse(alloc, login, found),
+            Kind::Failed => self.fail(alloc, login, part, found),
             Kind::Greets(_) => self.greet(alloc, login, kind, found),
             Kind::Prepared { .. } => self.prepare(alloc, login, kind, found),
             _ => self.go_on(alloc, login, part, kind, found),

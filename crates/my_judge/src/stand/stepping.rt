@@ -102,6 +102,20 @@ impl Stand {
         self.read(alloc, login, Part::Reply)
     }
 
+    // The rest of the newest exchange is read for nobody.
+    fn read_drained(&mut self, alloc: Global, login: &Login, call: &Call) -> Result<Step, NoMemory>
+        ensures { IfOk result (λ step. Comes (begins login.now call.now (Part.Drain ∷ []) self.old) step self.new) }
+    {
+        if self.end_left {
+            self.end_left = false;
+            return Ok(Step::Stays);
+        }
+        if is_idle(self.context.spot) {
+            return Ok(Step::Passes);
+        }
+        self.read(alloc, login, Part::Drain)
+    }
+
     // The transaction is rolled back that couldn't be committed, and the call returns why.
     fn read_back(&mut self, alloc: Global, login: &Login, call: &Call) -> Result<Step, NoMemory>
         ensures { IfOk result (λ step. Comes (begins login.now call.now (Part.Back ∷ []) self.old) step self.new) }
@@ -158,6 +172,9 @@ impl Stand {
             Part::Text(text) => self.query(alloc, call, text.as_slice()),
             Part::Start(opts, place) => self.start(alloc, call, **opts, *place),
             Part::Flag(flag) => Ok(answered(Answer::Flag(*flag))),
+            Part::Adopt(change) => self.adopt(alloc, change),
+            Part::Renew => self.renew(alloc, login, call),
+            Part::Drain => self.read_drained(alloc, login, call),
             Part::Undo => self.undo(alloc, call),
             Part::Undone => Ok(self.stand_so(self.status.rolled_back())),
             Part::Refuse(opts) => Ok(self.refuse_transaction(**opts)),
