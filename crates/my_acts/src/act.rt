@@ -80,6 +80,7 @@ fn at_idle(closed: bool, next: usize, step: &Step, outcome: &Outcome, uses: usiz
         | Step::Drop(_)
         | Step::Ping(_)
         | Step::Reset(_)
+        | Step::User(_, _)
         | Step::Begin(_, _)
         | Step::Commit(_)
         | Step::Rollback(_) => asked(closed, outcome, uses),

@@ -2,7 +2,7 @@
 use Rattle.std.specs.Prelude.{ℕ, List, codes, if◌then◌else◌}
 use Rattle.std.specs.Str.{bytes_eq}
 use Rattle.my_script.specs.declared.reading.keyword.Keyword.{Keyword}
-use Rattle.my_script.specs.declared.reading.keyword.Keyword.TheVariants.{Packet, Drip, Bytes, Turn, Wait, Fail, End, Accept, WriteWait, WriteFail, Dial, Conn, Query, Prepare, Execute, ExecuteNamed, CloseStatement, Next, Collect, Stream, StreamItem, Unstream, Drop, Ping, Reset, Begin, Commit, Rollback, Forget, Quit, Fields, Poll, Cancel, Advance, Random, Unknown}
+use Rattle.my_script.specs.declared.reading.keyword.Keyword.TheVariants.{Packet, Drip, Bytes, Turn, Wait, Fail, End, Accept, WriteWait, WriteFail, Dial, Conn, Query, Prepare, Execute, ExecuteNamed, CloseStatement, Next, Collect, Stream, StreamItem, Unstream, Drop, Ping, Reset, User, Begin, Commit, Rollback, Forget, Quit, Fields, Poll, Cancel, Advance, Random, Unknown}
 
 -- the words of steps that move the world
 abbrev pub moving_keyword_of : List ℕ → Keyword
@@ -29,6 +29,16 @@ statement_keyword_of word =
     else if bytes_eq word (codes "closestmt") then CloseStatement
     else transaction_keyword_of word
 
+-- the words of steps that name a session and nothing of a result
+abbrev pub session_keyword_of : List ℕ → Keyword
+session_keyword_of word =
+    if bytes_eq word (codes "ping") then Ping
+    else if bytes_eq word (codes "reset") then Reset
+    else if bytes_eq word (codes "user") then User
+    else if bytes_eq word (codes "quit") then Quit
+    else if bytes_eq word (codes "fields") then Fields
+    else statement_keyword_of word
+
 -- the words of steps
 abbrev pub step_keyword_of : List ℕ → Keyword
 step_keyword_of word =
@@ -40,13 +50,9 @@ step_keyword_of word =
     else if bytes_eq word (codes "item") then StreamItem
     else if bytes_eq word (codes "unstream") then Unstream
     else if bytes_eq word (codes "drop") then Drop
-    else if bytes_eq word (codes "ping") then Ping
-    else if bytes_eq word (codes "reset") then Reset
-    else if bytes_eq word (codes "quit") then Quit
-    else if bytes_eq word (codes "fields") then Fields
     else if bytes_eq word (codes "poll") then Poll
     else if bytes_eq word (codes "cancel") then Cancel
-    else statement_keyword_of word
+    else session_keyword_of word
 
 -- the words of a world's lines, and those of steps
 abbrev pub keyword_of : List ℕ → Keyword

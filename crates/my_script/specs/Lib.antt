@@ -8,6 +8,7 @@ pub mod Keyword
 pub mod ValueWord
 pub mod Execution
 pub mod Beginning
+pub mod Changing
 pub mod Line
 pub mod Script
 pub mod Words

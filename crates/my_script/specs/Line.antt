@@ -7,18 +7,19 @@ use Rattle.my_params.specs.declared.params.Params.{Params}
 use Rattle.my_params.specs.declared.params.Params.TheVariants.{Named, Positional}
 use Rattle.my_opts_parts.specs.TransactionOptions.{TxView}
 use Rattle.my_world.specs.declared.line.WorldLine.TheVariants as lines
-use Rattle.my_script.specs.declared.reading.line.Item.{Item}
-use Rattle.my_script.specs.declared.reading.line.Item.TheVariants.{Nothing, Plans, Steps, Wrong}
+use Rattle.my_script.specs.declared.reading.item.Item.{Item}
+use Rattle.my_script.specs.declared.reading.item.Item.TheVariants.{Nothing, Plans, Steps, Wrong}
 use Rattle.my_script.specs.declared.reading.keyword.Keyword.{Keyword}
-use Rattle.my_script.specs.declared.reading.keyword.Keyword.TheVariants.{Packet, Drip, Bytes, Turn, Wait, Fail, End, Accept, WriteWait, WriteFail, Dial, Conn, Query, Prepare, Execute, ExecuteNamed, CloseStatement, Next, Collect, Stream, StreamItem, Unstream, Drop, Ping, Reset, Begin, Commit, Rollback, Forget, Quit, Fields, Poll, Cancel, Advance, Random, Unknown}
-use Rattle.my_script.specs.declared.reading.line.PacketParts.{PacketParts}
-use Rattle.my_script.specs.declared.reading.line.LinkParts.{LinkParts}
-use Rattle.my_script.specs.declared.reading.line.AcceptParts.{AcceptParts}
+use Rattle.my_script.specs.declared.reading.keyword.Keyword.TheVariants.{Packet, Drip, Bytes, Turn, Wait, Fail, End, Accept, WriteWait, WriteFail, Dial, Conn, Query, Prepare, Execute, ExecuteNamed, CloseStatement, Next, Collect, Stream, StreamItem, Unstream, Drop, Ping, Reset, User, Begin, Commit, Rollback, Forget, Quit, Fields, Poll, Cancel, Advance, Random, Unknown}
+use Rattle.my_script.specs.declared.reading.plan.PacketParts.{PacketParts}
+use Rattle.my_script.specs.declared.reading.plan.LinkParts.{LinkParts}
+use Rattle.my_script.specs.declared.reading.plan.AcceptParts.{AcceptParts}
 use Rattle.my_script.specs.declared.reading.line.QueryParts.{QueryParts}
 use Rattle.my_script.specs.Cut.{first_of, rest_of}
 use Rattle.my_script.specs.Keyword.{keyword_of}
 use Rattle.my_script.specs.Number.{number_of, number_at_most, bytes_of}
 use Rattle.my_script.specs.Beginning.{BeginWords, begin_parts, options_in}
+use Rattle.my_script.specs.Changing.{UserWords, user_parts}
 use Rattle.my_script.specs.Execution.{StatementWords, statement_parts, params_in}
 
 -- a link's number, a packet's number and the digits of its payload
@@ -168,6 +169,11 @@ abbrev pub begin_item : Option BeginWords → Item
 begin_item None = Wrong
 begin_item (Some p) = begun_with p.connection (options_in p.rest)
 
+-- `user C USER PASS DB`
+abbrev pub user_item : Option UserWords → Item
+user_item None = Wrong
+user_item (Some p) = Steps (steps.User p.connection p.change)
+
 -- `turn L`, `wait L`, `fail L`, `end L`, `wwait L`, `wfail L`
 abbrev pub link_item : Keyword → Option ℕ → Item
 link_item keyword None = Wrong
@@ -238,6 +244,7 @@ item_with Drop rest = connection_item Drop (number_of rest)
 item_with Ping rest = connection_item Ping (number_of rest)
 item_with Reset rest = connection_item Reset (number_of rest)
 item_with Begin rest = begin_item (begin_parts rest)
+item_with User rest = user_item (user_parts rest)
 item_with Commit rest = connection_item Commit (number_of rest)
 item_with Rollback rest = connection_item Rollback (number_of rest)
 item_with Forget rest = connection_item Forget (number_of rest)

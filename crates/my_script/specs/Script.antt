@@ -4,8 +4,8 @@ use Rattle.std.specs.List.{slice_split, list_all}
 use Rattle.my_script.specs.declared.step.Step.{Step}
 use Rattle.my_script.specs.declared.step.Step.TheVariants.{Conn, Advance, Random}
 use Rattle.my_world.specs.declared.line.WorldLine.{WorldLine}
-use Rattle.my_script.specs.declared.reading.line.Item.{Item}
-use Rattle.my_script.specs.declared.reading.line.Item.TheVariants.{Nothing, Plans, Steps, Wrong}
+use Rattle.my_script.specs.declared.reading.item.Item.{Item}
+use Rattle.my_script.specs.declared.reading.item.Item.TheVariants.{Nothing, Plans, Steps, Wrong}
 use Rattle.my_script.specs.declared.reading.script.BadLine.{BadLine}
 use Rattle.my_script.specs.declared.reading.script.Read.{Read}
 use Rattle.my_script.specs.declared.reading.script.Read.TheVariants as reads

@@ -24,6 +24,7 @@ target (steps.Unstream n) = Some n
 target (steps.Drop n) = Some n
 target (steps.Ping n) = Some n
 target (steps.Reset n) = Some n
+target (steps.User n change) = Some n
 target (steps.Begin n opts) = Some n
 target (steps.Commit n) = Some n
 target (steps.Rollback n) = Some n

@@ -1,6 +1,7 @@
 //! What a script asks for.
 
 use my_frame::Blob;
+use my_opts::ChangeUserOpts;
 use my_opts_parts::TxOpts;
 use my_params::Params;
 
@@ -33,6 +34,8 @@ pub enum Step {
     Ping(u64),
     /// Has the server reset this connection's session.
     Reset(u64),
+    /// Changes the user of this connection's session, the password and the database.
+    User(u64, ChangeUserOpts),
     /// Begins a transaction at this connection.
     Begin(u64, TxOpts),
     /// Commits this connection's transaction.

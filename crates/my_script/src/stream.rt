@@ -35,6 +35,7 @@ pub fn target(step: &Step) -> Option<u64>
         | Step::Drop(number)
         | Step::Ping(number)
         | Step::Reset(number)
+        | Step::User(number, _)
         | Step::Begin(number, _)
         | Step::Commit(number)
         | Step::Rollback(number)

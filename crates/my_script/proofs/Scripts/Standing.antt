@@ -4,8 +4,8 @@ use Rattle.std.specs.List.{slice_split}
 use Rattle.my_script.specs.declared.step.Step.{Step}
 use Rattle.my_script.specs.declared.step.Step.TheVariants as steps
 use Rattle.my_world.specs.declared.line.WorldLine.{WorldLine}
-use Rattle.my_script.specs.declared.reading.line.Item.{Item}
-use Rattle.my_script.specs.declared.reading.line.Item.TheVariants.{Nothing, Plans, Steps, Wrong}
+use Rattle.my_script.specs.declared.reading.item.Item.{Item}
+use Rattle.my_script.specs.declared.reading.item.Item.TheVariants.{Nothing, Plans, Steps, Wrong}
 use Rattle.my_script.specs.declared.reading.script.Sofar.{Sofar}
 use Rattle.my_script.specs.Line.{line_of}
 use Rattle.my_script.specs.Script.{Script, Good, Bad, front, with_item, on_line, admitted, admitted_moving, admitted_step, script_from, script_of, may_stand, StandsIn}

@@ -1,6 +1,6 @@
 //! The words that lines begin with.
 ghost use Rattle.std.specs.Prelude.{◌≡◌};
-ghost use Rattle.my_script.specs.Keyword.{moving_keyword_of, transaction_keyword_of, statement_keyword_of, step_keyword_of, keyword_of};
+ghost use Rattle.my_script.specs.Keyword.{moving_keyword_of, transaction_keyword_of, statement_keyword_of, session_keyword_of, step_keyword_of, keyword_of};
 
 /// The word that a line begins with.
 #[derive(Clone, Copy)]
@@ -30,6 +30,7 @@ pub enum Keyword {
     Drop,
     Ping,
     Reset,
+    User,
     Begin,
     Commit,
     Rollback,
@@ -91,6 +92,27 @@ fn statement_keyword(word: &[u8]) -> Keyword
     transaction_keyword(word)
 }
 
+fn session_keyword(word: &[u8]) -> Keyword
+    ensures { result ≡ session_keyword_of word.now }
+{
+    if word == b"ping".as_slice() {
+        return Keyword::Ping;
+    }
+    if word == b"reset".as_slice() {
+        return Keyword::Reset;
+    }
+    if word == b"user".as_slice() {
+        return Keyword::User;
+    }
+    if word == b"quit".as_slice() {
+        return Keyword::Quit;
+    }
+    if word == b"fields".as_slice() {
+        return Keyword::Fields;
+    }
+    statement_keyword(word)
+}
+
 fn step_keyword(word: &[u8]) -> Keyword
     ensures { result ≡ step_keyword_of word.now }
 {
@@ -118,25 +140,13 @@ fn step_keyword(word: &[u8]) -> Keyword
     if word == b"drop".as_slice() {
         return Keyword::Drop;
     }
-    if word == b"ping".as_slice() {
-        return Keyword::Ping;
-    }
-    if word == b"reset".as_slice() {
-        return Keyword::Reset;
-    }
-    if word == b"quit".as_slice() {
-        return Keyword::Quit;
-    }
-    if word == b"fields".as_slice() {
-        return Keyword::Fields;
-    }
     if word == b"poll".as_slice() {
         return Keyword::Poll;
     }
     if word == b"cancel".as_slice() {
         return Keyword::Cancel;
     }
-    statement_keyword(word)
+    session_keyword(word)
 }
 
 /// Which keyword this word is.

@@ -3,7 +3,8 @@ ghost use Rattle.std.specs.Prelude.{◌≡◌, [], IfOk, OnOk, take};
 ghost use Rattle.my_script.specs.Script.{Script as Scripts, front, with_item, admitted as admits, admitted_step, admitted_moving, read_as, read_into, script_of, StandsIn};
 
 use super::cut::cut;
-use super::line::{Item, read_line};
+use super::item::Item;
+use super::line::read_line;
 use crate::Step;
 use my_frame::{Blob, NoMemory};
 use my_world::WorldLine;
