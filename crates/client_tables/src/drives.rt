@@ -2,7 +2,7 @@
 
 ghost use Rattle.std.specs.Prelude.{◌≡◌, None};
 
-use crate::held::{Given, execution_of, text_of};
+use crate::held::{Given, change_of, execution_of, text_of};
 use crate::library::count_rows;
 use crate::told::{failed, of_prepared, of_result, of_shown};
 use my_conn::Conn;
@@ -61,6 +61,15 @@ fn drive_held<L: BlockingLink>(
     }
 }
 
+fn change_user<L: BlockingLink>(alloc: Global, conn: &mut Conn<L>, step: u8) -> u8
+    requires { conn.old.pending ≡ None }
+{
+    match change_of(alloc, step) {
+        Ok(change) => of_result(conn.change_user(alloc, change)),
+        Err(_) => b'?',
+    }
+}
+
 fn drive_idle<L: BlockingLink>(
     alloc: Global,
     conn: &mut Conn<L>,
@@ -79,6 +88,7 @@ fn drive_idle<L: BlockingLink>(
         b'd' => of_result(conn.drop_result(alloc)),
         b'p' => of_result(conn.ping(alloc)),
         b'R' => of_result(conn.reset(alloc)),
+        b'U' | b'E' => change_user(alloc, conn, step),
         b'u' => of_result(conn.quit(alloc)),
         // The rows of a query are counted.
         b'n' => of_count(count_rows(alloc, conn, b"SELECT 1")),

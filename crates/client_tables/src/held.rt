@@ -1,10 +1,11 @@
-//! The statement that a conversation holds, and what it is executed with.
+//! The statement that a conversation holds, and what it is executed with; and what changes its user.
 
 use my_frame::{Blob, Listed, NoMemory};
+use my_opts::ChangeUserOpts;
 use my_params::Params;
 use my_statements::Statement;
 use my_value::Value;
-use std::alloc::Global;
+use std::alloc::{AllocError, Global};
 
 /// The text that a step prepares: `P` has a name, `M` a name and a mark.
 pub fn text_of(alloc: Global, step: u8) -> Result<Blob, NoMemory> {
@@ -67,4 +68,16 @@ pub fn execution_of(
             Ok(Some((copy, given_by(alloc, step)?)))
         }
     }
+}
+
+/// What a step changes: `U` the user's name, `E` also the password and the database.
+pub fn change_of(alloc: Global, step: u8) -> Result<ChangeUserOpts, AllocError> {
+    let user = String::from_str(alloc, "bob")?;
+    let change = ChangeUserOpts::new().with_user(Some(user));
+    if step == b'U' {
+        return Ok(change);
+    }
+    let pass = String::from_str(alloc, "secret")?;
+    let db_name = String::from_str(alloc, "shop")?;
+    Ok(change.with_pass(Some(pass)).with_db_name(Some(db_name)))
 }

@@ -16,7 +16,11 @@ mod link;
 #[cfg(test)]
 mod polls;
 #[cfg(test)]
+mod renewing;
+#[cfg(test)]
 mod row;
+#[cfg(test)]
+mod rows;
 #[cfg(test)]
 mod talks;
 #[cfg(test)]

@@ -45,6 +45,19 @@ const NULL_ROW: &[u8] = b"\x02\x00\x00\x04\x00\x04";
 const COLUMN: &[u8] =
     b"\x17\x00\x00\x02\x03def\x00\x00\x00\x011\x00\x0c\x3f\x00\x01\x00\x00\x00\x08\x81\x00\x00\x00\x00";
 
+// The client's changes of user: to `bob`, to `bob` with the password `secret` and the database `shop`, and to `root`.
+fn change_piece(letter: u8) -> &'static [u8] {
+    match letter {
+        b'c' => b"\x1f\x00\x00\x00\x11bob\x00\x00\x00\x2d\x00mysql_native_password\x00",
+        b'd' => {
+            b"\x37\x00\x00\x00\x11bob\x00\x14\x88\x17\xc5\x0f\xa7\x79\xda\xef\x01\x0e\xe7\x57\x78\x25\xb0\
+            \x84\x7d\xf9\x84\x2eshop\x00\x2d\x00mysql_native_password\x00"
+        }
+        b'r' => b"\x20\x00\x00\x00\x11root\x00\x00\x00\x2d\x00mysql_native_password\x00",
+        _ => b"",
+    }
+}
+
 // The client's queries that begin and end a transaction.
 fn transaction_piece(letter: u8) -> &'static [u8] {
     match letter {
@@ -54,7 +67,7 @@ fn transaction_piece(letter: u8) -> &'static [u8] {
         b'S' => b"\x2b\x00\x00\x00\x03START TRANSACTION WITH CONSISTENT SNAPSHOT",
         b'M' => b"\x07\x00\x00\x00\x03COMMIT",
         b'U' => b"\x09\x00\x00\x00\x03ROLLBACK",
-        _ => b"",
+        _ => change_piece(letter),
     }
 }
 

@@ -4,17 +4,17 @@ ghost use Rattle.std.specs.Prelude.{◌≡◌, None};
 ghost use Rattle.my_line.specs.Calls.{MayPoll};
 
 use crate::aid::Script;
-use crate::held::{Given, execution_of, text_of};
+use crate::held::{Given, change_of, execution_of, text_of};
 use crate::told::{Letter, of_prepared, of_result, of_shown};
 use my_calls::{
-    CallState, CloseCall, DropCall, ExecCall, NextCall, PingCall, Poll, PrepCall, QueryCall,
-    QuitCall, ResetCall, Returns, StreamCall, TxCall,
+    CallState, ChangeUserCall, CloseCall, DropCall, ExecCall, NextCall, PingCall, Poll, PoolCall,
+    PrepCall, QueryCall, QuitCall, ResetCall, Returns, StreamCall, TxCall,
 };
 use my_conn::{Conn, Connected, Connecting};
 use my_frame::Blob;
 use my_link::{Link, NoAid};
 use my_opts_parts::{IsolationLevel, TxOpts};
-use my_reading::Error;
+use my_reading::{Call, Error};
 use my_statements::Statement;
 use std::alloc::Global;
 
@@ -129,6 +129,15 @@ fn close<L: Link>(alloc: Global, conn: &mut Conn<L>, held: &mut Option<Statement
     }
 }
 
+fn change_user<L: Link>(alloc: Global, conn: &mut Conn<L>, step: u8, polls: u64) -> u8
+    requires { conn.old.pending ≡ None }
+{
+    match change_of(alloc, step) {
+        Ok(change) => letter(play(alloc, conn, ChangeUserCall::new(change), polls)),
+        Err(_) => b'?',
+    }
+}
+
 // A transaction with every option.
 fn every_option() -> TxOpts {
     let mut opts = TxOpts::new();
@@ -175,6 +184,9 @@ fn poll_idle<L: Link>(
         b'd' => letter(play(alloc, conn, DropCall::new(), polls)),
         b'p' => letter(play(alloc, conn, PingCall::new(), polls)),
         b'R' => letter(play(alloc, conn, ResetCall::new(), polls)),
+        b'U' | b'E' => change_user(alloc, conn, step, polls),
+        b'C' => letter(play(alloc, conn, PoolCall::new(Call::CleanForPool), polls)),
+        b'D' => letter(play(alloc, conn, PoolCall::new(Call::ResetForPool), polls)),
         b'O' => letter(play(alloc, conn, TxCall::start(TxOpts::new()), polls)),
         b'I' => letter(play(alloc, conn, TxCall::start(every_option()), polls)),
         b'J' => letter(play(alloc, conn, TxCall::commit(), polls)),

@@ -7,7 +7,7 @@ use my_client::{Said, Tape};
 use my_conn::{Conn, NextAnswer};
 use my_link::{CheckStep, Link};
 use my_opts::UrlError;
-use my_reading::{DriverError, Error, IoError, IoKind, OtherError};
+use my_reading::{Answer, DriverError, Error, IoError, IoKind, OtherError};
 use my_statements::Statement;
 use std::mem;
 
@@ -85,6 +85,18 @@ impl Letter for () {
 impl Letter for bool {
     fn letter(self) -> u8 {
         if self { b'k' } else { b'n' }
+    }
+}
+
+// What a pool does with a connection is done.
+impl Letter for Answer {
+    fn letter(self) -> u8 {
+        let letter = match &self {
+            Answer::Ready => b'k',
+            _ => b'?',
+        };
+        drop(self);
+        letter
     }
 }
 
@@ -192,6 +204,15 @@ fn of_server<L>(conn: &Conn<L>) -> u8 {
     }
 }
 
+// Whether the options have another user than the connection was made with.
+fn of_user<L>(conn: &Conn<L>) -> u8 {
+    match conn.opts().user() {
+        Some("bob") => b'y',
+        Some("root") => b'n',
+        _ => b'?',
+    }
+}
+
 // Whether something of a response is unread, or the server has a transaction.
 fn of_rest<L>(conn: &Conn<L>) -> u8 {
     if conn.is_dirty() { b'y' } else { b'n' }
@@ -247,6 +268,7 @@ pub fn of_shown<L: Link>(conn: &mut Conn<L>, held: &Option<Statement>, step: u8)
         b't' => of_tape(conn.take_tape()),
         b'i' => of_facts(conn),
         b'v' => of_server(conn),
+        b'w' => of_user(conn),
         b'y' => of_rest(conn),
         b'm' => of_moment(conn),
         b'l' => of_life(conn),

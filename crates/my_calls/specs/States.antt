@@ -1,5 +1,5 @@
 -- What a state of a call does, and what a caller gets of it.
-use Rattle.std.specs.Prelude.{ℕ, ◌≡◌, Option, Some, None}
+use Rattle.std.specs.Prelude.{ℕ, ◌≡◌, Bool, true, false, Option, Some, None}
 use Rattle.std.specs.declared.result.Result.{Result}
 use Rattle.std.specs.declared.result.Result.TheVariants.{Ok, Err}
 use Rattle.my_link.specs.Looks.{Looks}
@@ -9,6 +9,7 @@ use Rattle.my_packets.specs.declared.poll.Poll.TheVariants as polls
 use Rattle.my_reading.specs.declared.answer.Answer.{Answer}
 use Rattle.my_reading.specs.declared.call.Call.{Call}
 use Rattle.my_reading.specs.declared.call.CallKind.{CallKind}
+use Rattle.my_reading.specs.declared.call.CallKind.TheVariants.{CleanForPool, ResetForPool}
 use Rattle.my_reading.specs.Calls.{kind_of}
 use Rattle.my_reading.specs.declared.error.Error.{Error}
 use Rattle.my_client.specs.declared.poll.After.{After}
@@ -16,6 +17,12 @@ use Rattle.my_client.specs.declared.poll.After.TheVariants.{Pending, Answered, F
 use Rattle.my_conn.specs.Calls.{CallIs}
 use Rattle.my_conn.specs.Cancels.{CancelIs}
 use Rattle.my_conn.specs.Conn.{ConnSeen}
+
+-- the calls by which a pool has a connection cleaned, and renewed for its next user
+abbrev pub is_for_pool : CallKind → Bool
+is_for_pool CleanForPool = true
+is_for_pool ResetForPool = true
+is_for_pool c = false
 
 -- the kind of a call, and the call itself where it didn't begin yet
 pub record StateSeen : Type 0 where

@@ -1,14 +1,16 @@
 //! The calls of a connection: each has a state by which it is polled by hand.
-ghost use Rattle.std.specs.Prelude.{◌≡◌};
+ghost use Rattle.std.specs.Prelude.{◌≡◌, true};
+ghost use Rattle.my_reading.specs.Calls.{kind_of};
 ghost use Rattle.my_reading.specs.declared.call.Call.TheVariants as calls;
-ghost use Rattle.my_calls.specs.States.{first_state};
+ghost use Rattle.my_calls.specs.States.{first_state, is_for_pool};
 
 use crate::states::CallState;
 use my_conn::NextAnswer;
 use my_frame::{Blob, Listed};
+use my_opts::ChangeUserOpts;
 use my_opts_parts::TxOpts;
 use my_params::Params;
-use my_reading::Call;
+use my_reading::{Answer, Call};
 use my_statements::Statement;
 
 /// A query, until the server accepts it.
@@ -138,6 +140,37 @@ impl CallState<Reset, bool> {
         ensures { result ≡ first_state calls.Reset }
     {
         CallState::first(Call::Reset)
+    }
+}
+
+/// A change of the connection's user.
+pub type ChangeUserCall = CallState<ChangeUser, ()>;
+
+/// Marks `ChangeUserCall`.
+#[derive(Drop)]
+pub struct ChangeUser;
+
+impl CallState<ChangeUser, ()> {
+    pub fn new(opts: ChangeUserOpts) -> ChangeUserCall
+        ensures { result ≡ first_state (calls.ChangeUser opts) }
+    {
+        CallState::first(Call::ChangeUser(opts))
+    }
+}
+
+/// What a pool does with a connection that came back: it is cleaned, or renewed for its next user.
+pub type PoolCall = CallState<ForPool, Answer>;
+
+/// Marks `PoolCall`.
+#[derive(Drop)]
+pub struct ForPool;
+
+impl CallState<ForPool, Answer> {
+    pub fn new(call: Call) -> PoolCall
+        requires { is_for_pool (kind_of call) ≡ true }
+        ensures { result ≡ first_state call }
+    {
+        CallState::first(call)
     }
 }
 

@@ -6,9 +6,9 @@ mod states;
 mod stream;
 
 pub use calls::{
-    CloseCall, CloseStmt, DropCall, DropResult, ExecCall, Execute, NextCall, NextRow, Ping,
-    PingCall, PrepCall, Prepare, Query, QueryCall, Quit, QuitCall, Reset, ResetCall, Transact,
-    TxCall,
+    ChangeUser, ChangeUserCall, CloseCall, CloseStmt, DropCall, DropResult, ExecCall, Execute,
+    ForPool, NextCall, NextRow, Ping, PingCall, PoolCall, PrepCall, Prepare, Query, QueryCall,
+    Quit, QuitCall, Reset, ResetCall, Transact, TxCall,
 };
 pub use my_packets::Poll;
 pub use states::{CallState, Returns};

@@ -10,7 +10,7 @@ ghost use Rattle.my_reading.specs.Calls.{kind_of};
 ghost use Rattle.my_session.specs.Fits.{may_be};
 ghost use Rattle.my_line.specs.Calls.{AfterFits, MayPoll};
 ghost use Rattle.my_conn.specs.Answers.{done_of, next_of};
-ghost use Rattle.my_calls.specs.States.{PollIs, ReturnedBy, StateCancels, first_state};
+ghost use Rattle.my_calls.specs.States.{PollIs, ReturnedBy, StateCancels, first_state, is_for_pool};
 
 use my_client::After;
 use my_conn::{Conn, NextAnswer, flag_answer, next_answer, statement_answer};
@@ -62,6 +62,16 @@ impl Returns for bool {
 
     fn from_answer(given: Answer) -> bool {
         flag_answer(given)
+    }
+}
+
+impl Returns for Answer {
+    ghost takes = { λ c. is_for_pool c ≡ true };
+
+    ghost gives = { λ given answer. answer ≡ given };
+
+    fn from_answer(given: Answer) -> Answer {
+        given
     }
 }
 

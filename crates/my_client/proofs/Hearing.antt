@@ -4,18 +4,18 @@ pub mod Cancelling
 pub mod Failing
 pub mod Readying
 pub mod Stepping
-use Rattle.std.proofs.Common.{ℕ, ◌≡◌, ◌&&◌, List, [], ◌∷◌, ◌++◌, true, false, cond, Option, Some, None, refl, sym, ap, ◌∙◌, subst}
+use Rattle.std.proofs.Common.{ℕ, ◌≡◌, ◌&&◌, ◌||◌, List, [], ◌∷◌, ◌++◌, Bool, true, false, cond, Option, Some, None, refl, sym, ap, ◌∙◌, subst}
 use Rattle.my_grammar.specs.declared.login.Login.{Login}
 use Rattle.my_reading.specs.declared.call.Call.{Call}
 use Rattle.my_reading.specs.declared.call.Call.TheVariants as calls
 use Rattle.my_reading.specs.declared.call.CallKind.{CallKind}
-use Rattle.my_reading.specs.declared.call.CallKind.TheVariants.{Connect, Query, Prepare, Execute, Batch, CloseStmt, NextRow, DropResult, TakeSet, SkipTaken, Ping, Reset, Begin, Commit, Rollback, ForgetTransaction, Quit}
+use Rattle.my_reading.specs.declared.call.CallKind.TheVariants.{Connect, Query, Prepare, Execute, Batch, CloseStmt, NextRow, DropResult, TakeSet, SkipTaken, Ping, Reset, ChangeUser, Begin, Commit, Rollback, ForgetTransaction, CleanForPool, ResetForPool, Quit}
 use Rattle.my_session.specs.declared.task.LinkFault.{LinkFault}
 use Rattle.my_reading.specs.Calls.{kind_of, call_of}
 use Rattle.my_session.specs.Fits.{may_be}
-use Rattle.my_reading.specs.Told.{Told, ToldReady, ToldRow, ToldEnd, ToldNone, ToldStatement, ToldFlag, ToldError, Dropped}
+use Rattle.my_reading.specs.Told.{Told, ToldReady, ToldRow, ToldEnd, ToldNone, ToldStatement, ToldFlag, ToldError, ToldPassed, Dropped}
 use Rattle.my_session.specs.History.{History, Made, answered, noted, passing, gone, took, ending}
-use Rattle.my_session.specs.Passed.{IsItem, ArePassed, is_passing}
+use Rattle.my_session.specs.Passed.{IsItem, ArePassed, drains}
 use Rattle.my_session.specs.Seen.{Seen}
 use Rattle.my_session.specs.Stands.{Stands, call_with}
 use Rattle.my_session.specs.Steps.{with_owed, with_unread, with_end, with_failing}
@@ -29,16 +29,21 @@ pub made_more : (ds : List DoneCall) (d : DoneCall) → made_of (ds ++ d ∷ [])
 made_more [] d = refl
 made_more (x ∷ ds) d = ap (λ ms. ms ++ record { call = x.call; what = told_by x.said } ∷ []) (made_more ds d)
 
+or_true : (b : Bool) → b || true ≡ true
+or_true true = refl
+or_true false = refl
+
 -- what a call passed over is a note
-item_noted : (c : CallKind) (t : Told) → passes_over c ≡ true → IsItem t → is_note c t ≡ true
-item_noted c ToldReady p i = absurd i
-item_noted c (ToldRow row) p i = ap (λ b. b && true) p
-item_noted c ToldEnd p i = ap (λ b. b && true) p
-item_noted c ToldNone p i = absurd i
-item_noted c (ToldStatement statement) p i = absurd i
-item_noted c (ToldFlag flag) p i = absurd i
-item_noted c (ToldError e) p i = absurd i
-item_noted c (Dropped closing) p i = absurd i
+item_noted : (c : CallKind) (t : Told) → IsItem (Some c) t → is_note c t ≡ true
+item_noted c ToldReady i = absurd i
+item_noted c (ToldRow row) i = ap (λ b. (b && true) || (drains c && false)) i
+item_noted c ToldEnd i = ap (λ b. (b && true) || (drains c && false)) i
+item_noted c ToldNone i = absurd i
+item_noted c (ToldStatement statement) i = absurd i
+item_noted c (ToldFlag flag) i = absurd i
+item_noted c (ToldError e) i = absurd i
+item_noted c (ToldPassed e) i = ap (λ b. (passes_over c && false) || (b && true)) i ∙ or_true (passes_over c && false)
+item_noted c (Dropped closing) i = absurd i
 
 -- an answer is no note
 pub answer_counts : (c : CallKind) (t : Told) → may_be c t ≡ true → is_note c t ≡ false
@@ -56,6 +61,7 @@ answer_counts DropResult ToldNone m = cc
 answer_counts DropResult (ToldStatement statement) m = cc
 answer_counts DropResult (ToldFlag flag) m = cc
 answer_counts DropResult (ToldError e) m = refl
+answer_counts DropResult (ToldPassed e) m = refl
 answer_counts DropResult (Dropped closing) m = refl
 answer_counts TakeSet t m = refl
 answer_counts SkipTaken ToldReady m = refl
@@ -65,13 +71,25 @@ answer_counts SkipTaken ToldNone m = cc
 answer_counts SkipTaken (ToldStatement statement) m = cc
 answer_counts SkipTaken (ToldFlag flag) m = cc
 answer_counts SkipTaken (ToldError e) m = refl
+answer_counts SkipTaken (ToldPassed e) m = refl
 answer_counts SkipTaken (Dropped closing) m = refl
 answer_counts Ping t m = refl
 answer_counts Reset t m = refl
+answer_counts ChangeUser t m = refl
 answer_counts Begin t m = refl
 answer_counts Commit t m = refl
 answer_counts Rollback t m = refl
 answer_counts ForgetTransaction t m = refl
+answer_counts CleanForPool ToldReady m = refl
+answer_counts CleanForPool (ToldRow row) m = refl
+answer_counts CleanForPool ToldEnd m = refl
+answer_counts CleanForPool ToldNone m = refl
+answer_counts CleanForPool (ToldStatement statement) m = refl
+answer_counts CleanForPool (ToldFlag flag) m = refl
+answer_counts CleanForPool (ToldError e) m = refl
+answer_counts CleanForPool (ToldPassed e) m = cc
+answer_counts CleanForPool (Dropped closing) m = refl
+answer_counts ResetForPool t m = refl
 answer_counts Quit t m = refl
 
 pub pending_passing : (h : History) (ts : List Told) → (passing h ts).pending ≡ h.pending
@@ -82,34 +100,60 @@ pending_passing h (t ∷ ts) = pending_passing h ts
 answers_noted : (c : CallKind) (p : Option Call) (t : Told) (ms : List Made) → p ≡ call_with (Some c) calls.Connect → is_note (kind_of (call_of c calls.Connect)) t ≡ true → answers_in (noted (record { sent = []; taken = []; calls = ms; pending = p; ended = false; lost = false }) t).calls ≡ answers_in ms
 answers_noted c p t ms e i = subst (λ (p : Option Call). answers_in (noted (record { sent = []; taken = []; calls = ms; pending = p; ended = false; lost = false }) t).calls ≡ answers_in ms) (sym e) (ap (λ b. cond b (answers_in ms) (record { call = call_of c calls.Connect; what = t } ∷ answers_in ms)) i)
 
-noted_by : (kind : Option CallKind) (carried : Call) (p : Option Call) (t : Told) (ms : List Made) → p ≡ call_with kind carried → is_passing kind ≡ true → IsItem t → answers_in (noted (record { sent = []; taken = []; calls = ms; pending = p; ended = false; lost = false }) t).calls ≡ answers_in ms
-noted_by None carried p t ms e passing i = cc
-noted_by (Some Connect) carried p t ms e passing i = cc
-noted_by (Some Query) carried p t ms e passing i = cc
-noted_by (Some Prepare) carried p t ms e passing i = cc
-noted_by (Some Execute) carried p t ms e passing i = cc
-noted_by (Some Batch) carried p t ms e passing i = cc
-noted_by (Some CloseStmt) carried p t ms e passing i = cc
-noted_by (Some NextRow) carried p t ms e passing i = cc
-noted_by (Some DropResult) carried p t ms e passing i = answers_noted DropResult p t ms e (item_noted DropResult t refl i)
-noted_by (Some TakeSet) carried p t ms e passing i = cc
-noted_by (Some SkipTaken) carried p t ms e passing i = answers_noted SkipTaken p t ms e (item_noted SkipTaken t refl i)
-noted_by (Some Ping) carried p t ms e passing i = cc
-noted_by (Some Reset) carried p t ms e passing i = cc
-noted_by (Some Begin) carried p t ms e passing i = cc
-noted_by (Some Commit) carried p t ms e passing i = cc
-noted_by (Some Rollback) carried p t ms e passing i = cc
-noted_by (Some ForgetTransaction) carried p t ms e passing i = cc
-noted_by (Some Quit) carried p t ms e passing i = cc
+-- no other call passes over anything
+none_passed : (t : Told) → IsItem None t → ⊥
+none_passed ToldReady i = absurd i
+none_passed (ToldRow row) i = cc
+none_passed ToldEnd i = cc
+none_passed ToldNone i = absurd i
+none_passed (ToldStatement statement) i = absurd i
+none_passed (ToldFlag flag) i = absurd i
+none_passed (ToldError e) i = absurd i
+none_passed (ToldPassed e) i = cc
+none_passed (Dropped closing) i = absurd i
+
+unpassed : (c : CallKind) → passes_over c ≡ false → drains c ≡ false → (t : Told) → IsItem (Some c) t → ⊥
+unpassed c p d ToldReady i = absurd i
+unpassed c p d (ToldRow row) i = let no : true ≡ false = sym i ∙ p in cc
+unpassed c p d ToldEnd i = let no : true ≡ false = sym i ∙ p in cc
+unpassed c p d ToldNone i = absurd i
+unpassed c p d (ToldStatement statement) i = absurd i
+unpassed c p d (ToldFlag flag) i = absurd i
+unpassed c p d (ToldError e) i = absurd i
+unpassed c p d (ToldPassed e) i = let no : true ≡ false = sym i ∙ d in cc
+unpassed c p d (Dropped closing) i = absurd i
+
+noted_by : (kind : Option CallKind) (carried : Call) (p : Option Call) (t : Told) (ms : List Made) → p ≡ call_with kind carried → IsItem kind t → answers_in (noted (record { sent = []; taken = []; calls = ms; pending = p; ended = false; lost = false }) t).calls ≡ answers_in ms
+noted_by None carried p t ms e i = absurd (none_passed t i)
+noted_by (Some Connect) carried p t ms e i = absurd (unpassed Connect refl refl t i)
+noted_by (Some Query) carried p t ms e i = absurd (unpassed Query refl refl t i)
+noted_by (Some Prepare) carried p t ms e i = absurd (unpassed Prepare refl refl t i)
+noted_by (Some Execute) carried p t ms e i = absurd (unpassed Execute refl refl t i)
+noted_by (Some Batch) carried p t ms e i = absurd (unpassed Batch refl refl t i)
+noted_by (Some CloseStmt) carried p t ms e i = absurd (unpassed CloseStmt refl refl t i)
+noted_by (Some NextRow) carried p t ms e i = absurd (unpassed NextRow refl refl t i)
+noted_by (Some DropResult) carried p t ms e i = answers_noted DropResult p t ms e (item_noted DropResult t i)
+noted_by (Some TakeSet) carried p t ms e i = absurd (unpassed TakeSet refl refl t i)
+noted_by (Some SkipTaken) carried p t ms e i = answers_noted SkipTaken p t ms e (item_noted SkipTaken t i)
+noted_by (Some Ping) carried p t ms e i = absurd (unpassed Ping refl refl t i)
+noted_by (Some Reset) carried p t ms e i = absurd (unpassed Reset refl refl t i)
+noted_by (Some ChangeUser) carried p t ms e i = absurd (unpassed ChangeUser refl refl t i)
+noted_by (Some Begin) carried p t ms e i = absurd (unpassed Begin refl refl t i)
+noted_by (Some Commit) carried p t ms e i = absurd (unpassed Commit refl refl t i)
+noted_by (Some Rollback) carried p t ms e i = absurd (unpassed Rollback refl refl t i)
+noted_by (Some ForgetTransaction) carried p t ms e i = absurd (unpassed ForgetTransaction refl refl t i)
+noted_by (Some CleanForPool) carried p t ms e i = answers_noted CleanForPool p t ms e (item_noted CleanForPool t i)
+noted_by (Some ResetForPool) carried p t ms e i = absurd (unpassed ResetForPool refl refl t i)
+noted_by (Some Quit) carried p t ms e i = absurd (unpassed Quit refl refl t i)
 
 pub passing_of : (k : Kept) (h : History) (kind : Option CallKind) (carried : Call) (ts : List Told) → h.pending ≡ call_with kind carried → ArePassed kind ts → IsOf k h → IsOf k (passing h ts)
 passing_of k h kind carried [] p a w = w
 passing_of k h kind carried (t ∷ ts) p a w =
-    let u = passing_of k h kind carried ts p a.2 w in
+    let u = passing_of k h kind carried ts p a.1 w in
     record {
       sent_is = u.sent_is;
       taken_is = u.taken_is;
-      calls_are = noted_by kind carried (passing h ts).pending t (passing h ts).calls (pending_passing h ts ∙ p) a.0 a.1 ∙ u.calls_are;
+      calls_are = noted_by kind carried (passing h ts).pending t (passing h ts).calls (pending_passing h ts ∙ p) a.0 ∙ u.calls_are;
       pending_is = u.pending_is;
       lost_is = u.lost_is;
     }

@@ -1,5 +1,6 @@
 -- What a connection kept goes on being what the reading of its tape says.
 pub mod Lists
+pub mod Resting
 pub mod Sessions
 pub mod Stopping
 use Rattle.std.proofs.Common.{◌≡◌, ◌≢◌, ◌⊎◌, ◌≤◌, ℕ, List, [], ◌∷◌, ◌++◌, length, take, drop, Bool, true, false, ◌||◌, ◌&&◌, not, Option, Some, None, inl, inr, refl, sym, ap, ◌∙◌, subst, arith, length-append}
@@ -50,13 +51,13 @@ said_of s p w = subst (λ bytes. begins_with bytes p.sent ≡ true) w.mirrors.al
 -- bytes come to a place in two parts, or none come
 pub bytes_more : (out come more_out more_come : List ℕ) (p : Place) → with_bytes (out ++ more_out) (come ++ more_come) p ≡ with_bytes more_out more_come (with_bytes out come p)
 bytes_more out come more_out more_come p =
-    ap (λ bs. record { call = p.call; talk = p.talk; older = p.older; end_left = p.end_left; taken = p.taken; statements = p.statements; status = p.status; trial = p.trial; unread = bs; sent = p.sent ++ (out ++ more_out) }) (sym (append_assoc p.unread come more_come))
-    ∙ ap (λ bs. record { call = p.call; talk = p.talk; older = p.older; end_left = p.end_left; taken = p.taken; statements = p.statements; status = p.status; trial = p.trial; unread = (p.unread ++ come) ++ more_come; sent = bs }) (sym (append_assoc p.sent out more_out))
+    ap (λ bs. record { call = p.call; talk = p.talk; older = p.older; end_left = p.end_left; taken = p.taken; statements = p.statements; status = p.status; account = p.account; trial = p.trial; unread = bs; sent = p.sent ++ (out ++ more_out) }) (sym (append_assoc p.unread come more_come))
+    ∙ ap (λ bs. record { call = p.call; talk = p.talk; older = p.older; end_left = p.end_left; taken = p.taken; statements = p.statements; status = p.status; account = p.account; trial = p.trial; unread = (p.unread ++ come) ++ more_come; sent = bs }) (sym (append_assoc p.sent out more_out))
 
 pub no_bytes : (p : Place) → with_bytes [] [] p ≡ p
 no_bytes p =
-    ap (λ bs. record { call = p.call; talk = p.talk; older = p.older; end_left = p.end_left; taken = p.taken; statements = p.statements; status = p.status; trial = p.trial; unread = bs; sent = p.sent ++ [] }) (append-nil p.unread)
-    ∙ ap (λ bs. record { call = p.call; talk = p.talk; older = p.older; end_left = p.end_left; taken = p.taken; statements = p.statements; status = p.status; trial = p.trial; unread = p.unread; sent = bs }) (append-nil p.sent)
+    ap (λ bs. record { call = p.call; talk = p.talk; older = p.older; end_left = p.end_left; taken = p.taken; statements = p.statements; status = p.status; account = p.account; trial = p.trial; unread = bs; sent = p.sent ++ [] }) (append-nil p.unread)
+    ∙ ap (λ bs. record { call = p.call; talk = p.talk; older = p.older; end_left = p.end_left; taken = p.taken; statements = p.statements; status = p.status; account = p.account; trial = p.trial; unread = p.unread; sent = bs }) (append-nil p.sent)
 
 -- the calls that ended, when bytes come
 pub ended_more : (login : Login) (k : Kept) (n m : ℕ) (closed : Bool) (place : Place) (out come : List ℕ) → EndedRead login k n m closed place

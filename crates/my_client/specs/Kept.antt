@@ -1,13 +1,13 @@
 -- What a connection keeps of what it did, and when its session stands for that.
-use Rattle.std.specs.Prelude.{ℕ, ◌≡◌, ◌&&◌, List, [], ◌∷◌, ◌++◌, length, Option, Some, None, Bool, true, false, if◌then◌else◌}
+use Rattle.std.specs.Prelude.{ℕ, ◌≡◌, ◌&&◌, ◌||◌, List, [], ◌∷◌, ◌++◌, length, Option, Some, None, Bool, true, false, if◌then◌else◌}
 use Rattle.my_value.specs.RowParts.{RowParts}
 use Rattle.my_grammar.specs.declared.login.Login.{Login}
 use Rattle.my_reading.specs.declared.call.Call.{Call}
 use Rattle.my_reading.specs.declared.call.Call.TheVariants as calls
 use Rattle.my_reading.specs.declared.call.CallKind.{CallKind}
 use Rattle.my_reading.specs.Calls.{kind_of}
-use Rattle.my_reading.specs.Told.{Told, ToldReady, ToldRow, ToldEnd, ToldNone, ToldStatement, ToldFlag, ToldError, Dropped, told}
-pub use Rattle.my_session.specs.Passed.{passes_over}
+use Rattle.my_reading.specs.Told.{Told, ToldReady, ToldRow, ToldEnd, ToldNone, ToldStatement, ToldFlag, ToldError, ToldPassed, Dropped, told}
+pub use Rattle.my_session.specs.Passed.{passes_over, drains}
 use Rattle.my_session.specs.History.{History, Made}
 use Rattle.my_session.specs.Seen.{Seen}
 use Rattle.my_session.specs.Stands.{Stands}
@@ -50,11 +50,16 @@ is_item ToldNone = false
 is_item (ToldStatement statement) = false
 is_item (ToldFlag flag) = false
 is_item (ToldError e) = false
+is_item (ToldPassed e) = false
 is_item (Dropped closing) = false
 
--- a history notes the rows and ends that a call passes over; they are no answers
+abbrev pub is_passed : Told → Bool
+is_passed (ToldPassed e) = true
+is_passed t = false
+
+-- a history notes the rows and ends, and the errors of the server, that a call passes over; they are no answers
 abbrev pub is_note : CallKind → Told → Bool
-is_note c t = passes_over c && is_item t
+is_note c t = (passes_over c && is_item t) || (drains c && is_passed t)
 
 abbrev pub answers_in : List Made → List Made
 answers_in [] = []
@@ -64,7 +69,7 @@ abbrev pub call_in : Option Asked → Option Call
 call_in None = None
 call_in (Some a) = Some a.call
 
--- the history is what was kept, with what droppings passed over
+-- the history is what was kept, with what calls passed over
 pub record IsOf (k : Kept) (h : History) : Type 0 where
   pub sent_is : h.sent ≡ k.sent
   pub taken_is : h.taken ≡ k.taken

@@ -142,10 +142,13 @@ pub fn is_connecting<L>(conn: &TapedConn<L>) -> bool
             | Call::SkipTaken
             | Call::Ping
             | Call::Reset
+            | Call::ChangeUser(_)
             | Call::Begin(_)
             | Call::Commit
             | Call::Rollback
             | Call::ForgetTransaction
+            | Call::CleanForPool
+            | Call::ResetForPool
             | Call::Quit => false,
         },
     }

@@ -7,7 +7,7 @@ use Rattle.my_reading.specs.Errors.{connection_closed}
 use Rattle.my_reading.specs.declared.answer.Answer.{Answer}
 use Rattle.my_reading.specs.declared.call.Call.{Call}
 use Rattle.my_reading.specs.declared.call.CallKind.{CallKind}
-use Rattle.my_reading.specs.declared.call.CallKind.TheVariants.{Connect, Query, Prepare, Execute, Batch, CloseStmt, NextRow, DropResult, TakeSet, SkipTaken, Ping, Reset, Begin, Commit, Rollback, ForgetTransaction, Quit}
+use Rattle.my_reading.specs.declared.call.CallKind.TheVariants.{Connect, Query, Prepare, Execute, Batch, CloseStmt, NextRow, DropResult, TakeSet, SkipTaken, Ping, Reset, ChangeUser, Begin, Commit, Rollback, ForgetTransaction, CleanForPool, ResetForPool, Quit}
 use Rattle.my_reading.specs.declared.error.Error.{Error}
 use Rattle.my_reading.specs.declared.error.DriverError.TheVariants.{TooLong}
 use Rattle.my_reading.specs.declared.error.Error.TheVariants as errors
@@ -50,10 +50,13 @@ no_pending TakeSet e = cc
 no_pending SkipTaken e = cc
 no_pending Ping e = cc
 no_pending Reset e = cc
+no_pending ChangeUser e = cc
 no_pending Begin e = cc
 no_pending Commit e = cc
 no_pending Rollback e = cc
 no_pending ForgetTransaction e = cc
+no_pending CleanForPool e = cc
+no_pending ResetForPool e = cc
 no_pending Quit e = cc
 
 pending_fails : (e : Error) → Pending ≡ Failed e → ⊥
@@ -169,10 +172,13 @@ module _ {L : Type 0} (look : L → Looks) (kind : CallKind) (call : Call) (old 
       by_kind SkipTaken f = f
       by_kind Ping f = f
       by_kind Reset f = f
+      by_kind ChangeUser f = f
       by_kind Begin f = f
       by_kind Commit f = f
       by_kind Rollback f = f
       by_kind ForgetTransaction f = f
+      by_kind CleanForPool f = f
+      by_kind ResetForPool f = f
       by_kind Quit f = f
 
   none_after : (r : Result Answer Error) → Results after r → pending_after kind after ≡ None

@@ -1,4 +1,5 @@
 pub mod Standing
+pub mod Resting
 pub mod Cancelling
 pub mod Forgetting
 pub mod Driving

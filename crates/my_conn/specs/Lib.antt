@@ -8,5 +8,6 @@ pub mod Connected
 pub mod Answers
 pub mod Drives
 pub mod Facts
+pub mod Clean
 pub mod News
 pub mod Streams

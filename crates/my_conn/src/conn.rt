@@ -1,11 +1,13 @@
 //! A connection that was made.
 ghost use Rattle.std.specs.Prelude.{◌≡◌, ◌||◌, Some, None, true, false};
 ghost use Rattle.std.specs.Option.{option_copied};
+ghost use Rattle.my_session.specs.Login.{with_account};
 ghost use Rattle.my_session.specs.Steps.{is_taken};
 ghost use Rattle.my_session.specs.Rest.{is_dirty};
 ghost use Rattle.my_statements.specs.Known.{known_of};
 ghost use Rattle.my_line.specs.Calls.{pending_after};
 ghost use Rattle.my_conn.specs.Calls.{lost_answer};
+ghost use Rattle.my_conn.specs.Clean.{EachAccount, EachClean};
 ghost use Rattle.my_conn.specs.News.{first_fixed};
 
 use my_client::{After, Tape};
@@ -96,9 +98,12 @@ fn lost_answer(kind: CallKind) -> After
         | CallKind::SkipTaken
         | CallKind::Ping
         | CallKind::Reset
+        | CallKind::ChangeUser
         | CallKind::Begin
         | CallKind::Commit
-        | CallKind::Rollback => After::Failed(Error::Driver(DriverError::ConnectionClosed)),
+        | CallKind::Rollback
+        | CallKind::CleanForPool
+        | CallKind::ResetForPool => After::Failed(Error::Driver(DriverError::ConnectionClosed)),
     }
 }
 
@@ -145,9 +150,10 @@ impl<L> Conn<L> {
         }
     }
 
-    /// The options that it was made with.
+    /// The options in force: those that it was made with, as each change of user changed them.
     pub fn opts(&self) -> &Opts
-        ensures { result.now ≡ self.now.lifetime.opts }
+        ensures value { result.now ≡ with_account self.now.seen.account self.now.lifetime.opts }
+        ensures account { EachAccount self.now result.now }
     {
         self.session.opts()
     }
@@ -174,9 +180,11 @@ impl<L> Conn<L> {
     }
 
     /// Whether the rest of a response is unread (rows, a further set, or the end of a lone OK), or the server has a transaction, which
-    /// is open or given up.
+    /// is open or given up. Where it isn't, and no call is open, a connection that isn't disconnected is clean: it may go to its
+    /// next user.
     pub fn is_dirty(&self) -> bool
-        ensures { result ≡ is_dirty self.now.seen }
+        ensures value { result ≡ is_dirty self.now.seen }
+        ensures clean { EachClean self.now result }
     {
         self.session.is_dirty()
     }

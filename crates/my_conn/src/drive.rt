@@ -14,6 +14,7 @@ use my_client::After;
 use my_frame::{Blob, Listed};
 use my_line::{TOO_LONG, never_holds};
 use my_link::BlockingLink;
+use my_opts::ChangeUserOpts;
 use my_params::Params;
 use my_reading::{Answer, Call, CallKind, DriverError, Error};
 use my_statements::Statement;
@@ -217,6 +218,16 @@ impl<L: BlockingLink> Conn<L> {
             Ok(answer) => return Ok(flag_answer(answer)),
             Err(error) => return Err(error),
         }
+    }
+
+    /// Changes the connection's user, and waits until that is done: the options get the account that the change gives them, the server
+    /// is told, and its session is a new one. Prepared statements are gone, also those of the cache. Then the texts of the option
+    /// `setup` are sent again.
+    pub fn change_user(&mut self, alloc: Global, change: ChangeUserOpts) -> Result<(), Error>
+        requires { self.old.pending ≡ None }
+        ensures { DoneIs L.looks kinds.ChangeUser (calls.ChangeUser change) self.old self.new result }
+    {
+        self.wait(alloc, CallKind::ChangeUser, Call::ChangeUser(change))
     }
 
     /// Ends the connection.

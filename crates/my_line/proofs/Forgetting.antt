@@ -50,7 +50,7 @@ begun_on s r e = ap (λ (x : Seen). is_open x.task) e ∙ open_by s.closed
 
 -- the session with this task, which owes these bytes
 abbrev asked_with : Seen → Bool → List ℕ → Seen
-asked_with s closed owed = record { context = s.context; task = (if closed then Leaving kinds.ForgetTransaction else Begun kinds.ForgetTransaction); call = ForgetTransaction; untold = s.untold; taken = s.taken; closed = s.closed; ended = s.ended; number = s.number; unread = s.unread; owed = owed; facts = s.facts; statements = s.statements; status = s.status; trial = s.trial; login = s.login }
+asked_with s closed owed = record { context = s.context; task = (if closed then Leaving kinds.ForgetTransaction else Begun kinds.ForgetTransaction); call = ForgetTransaction; untold = s.untold; taken = s.taken; closed = s.closed; ended = s.ended; number = s.number; unread = s.unread; owed = owed; facts = s.facts; statements = s.statements; status = s.status; account = s.account; trial = s.trial; login = s.login }
 
 once_with : (s : Seen) (closed : Bool) → IsAtOnce (asked_with s closed [])
 once_with s true = (refl, refl)

@@ -5,16 +5,16 @@ use Rattle.my_value.specs.RowParts.{RowParts}
 use Rattle.my_reading.specs.declared.call.Call.{Call}
 use Rattle.my_reading.specs.declared.call.Call.TheVariants as calls
 use Rattle.my_reading.specs.declared.call.CallKind.{CallKind}
-use Rattle.my_reading.specs.declared.call.CallKind.TheVariants.{Connect, Query, Prepare, Execute, Batch, CloseStmt, NextRow, DropResult, TakeSet, SkipTaken, Ping, Reset, Begin, Commit, Rollback, ForgetTransaction, Quit}
+use Rattle.my_reading.specs.declared.call.CallKind.TheVariants.{Connect, Query, Prepare, Execute, Batch, CloseStmt, NextRow, DropResult, TakeSet, SkipTaken, Ping, Reset, ChangeUser, Begin, Commit, Rollback, ForgetTransaction, CleanForPool, ResetForPool, Quit}
 use Rattle.my_session.specs.declared.task.Task.{Task}
-use Rattle.my_session.specs.declared.task.Task.TheVariants.{Nothing, Begun, Cleaning, Undoing, Cleaned, Backing, Reverting, Own, Giving, Arranging, Running, Finishing, Clearing, Asking, Reading, Dropping, Taking, Skipping, Leaving, Failing}
+use Rattle.my_session.specs.declared.task.Task.TheVariants.{Nothing, Begun, Cleaning, Undoing, Cleaned, Backing, Reverting, Own, Giving, Arranging, Running, Finishing, Clearing, Asking, Draining, Reading, Dropping, Taking, Skipping, Leaving, Failing}
 use Rattle.my_grammar.specs.declared.spot.Spot.{Spot}
 use Rattle.my_reading.specs.Calls.{kind_of, call_of, is_unrefused}
 use Rattle.my_reading.specs.Course.{is_greeting}
 use Rattle.my_reading.specs.Place.{Place, Exchange, exchanges, connects_in}
 use Rattle.my_session.specs.Tasks.{kind_in, fault_in, is_open}
 use Rattle.my_reading.specs.Errors.{connection_closed}
-use Rattle.my_reading.specs.Told.{Told, ToldReady, ToldRow, ToldEnd, ToldNone, ToldStatement, ToldFlag, ToldError, Dropped, closes}
+use Rattle.my_reading.specs.Told.{Told, ToldReady, ToldRow, ToldEnd, ToldNone, ToldStatement, ToldFlag, ToldError, ToldPassed, Dropped, closes}
 use Rattle.my_session.specs.History.{History, Made, beginning, began, answered, has_closed}
 use Rattle.my_session.specs.Seen.{Seen}
 use Rattle.my_session.specs.Entries.{connecting_in, has_connected}
@@ -47,6 +47,7 @@ note_keeps DropResult ToldNone n = cc
 note_keeps DropResult (ToldStatement statement) n = cc
 note_keeps DropResult (ToldFlag flag) n = cc
 note_keeps DropResult (ToldError e) n = cc
+note_keeps DropResult (ToldPassed e) n = cc
 note_keeps DropResult (Dropped closing) n = cc
 note_keeps TakeSet t n = cc
 note_keeps SkipTaken ToldReady n = cc
@@ -56,13 +57,25 @@ note_keeps SkipTaken ToldNone n = cc
 note_keeps SkipTaken (ToldStatement statement) n = cc
 note_keeps SkipTaken (ToldFlag flag) n = cc
 note_keeps SkipTaken (ToldError e) n = cc
+note_keeps SkipTaken (ToldPassed e) n = cc
 note_keeps SkipTaken (Dropped closing) n = cc
 note_keeps Ping t n = cc
 note_keeps Reset t n = cc
+note_keeps ChangeUser t n = cc
 note_keeps Begin t n = cc
 note_keeps Commit t n = cc
 note_keeps Rollback t n = cc
 note_keeps ForgetTransaction t n = cc
+note_keeps CleanForPool ToldReady n = cc
+note_keeps CleanForPool (ToldRow row) n = cc
+note_keeps CleanForPool ToldEnd n = cc
+note_keeps CleanForPool ToldNone n = cc
+note_keeps CleanForPool (ToldStatement statement) n = cc
+note_keeps CleanForPool (ToldFlag flag) n = cc
+note_keeps CleanForPool (ToldError e) n = cc
+note_keeps CleanForPool (ToldPassed e) n = refl
+note_keeps CleanForPool (Dropped closing) n = cc
+note_keeps ResetForPool t n = cc
 note_keeps Quit t n = cc
 
 closed_if : (m : Made) (ms : List Made) (b : Bool) → is_note (kind_of m.call) m.what ≡ b → has_closed ms ≡ has_closed (answers_in ms) → has_closed (m ∷ ms) ≡ has_closed (cond b (answers_in ms) (m ∷ answers_in ms))
@@ -96,8 +109,9 @@ open_call Giving carried p None o e f = let no : Some (call_of Prepare carried) 
 open_call (Arranging n) carried p None o e f = let no : Some (call_of Connect carried) ≡ None = sym e ∙ f in cc
 open_call (Running n) carried p None o e f = let no : Some (call_of Batch carried) ≡ None = sym e ∙ f in cc
 open_call (Finishing n) carried p None o e f = let no : Some (call_of Batch carried) ≡ None = sym e ∙ f in cc
-open_call Clearing carried p None o e f = let no : Some (call_of Reset carried) ≡ None = sym e ∙ f in cc
+open_call (Clearing c) carried p None o e f = let no : Some (call_of c carried) ≡ None = sym e ∙ f in cc
 open_call (Asking c n) carried p None o e f = let no : Some (call_of c carried) ≡ None = sym e ∙ f in cc
+open_call Draining carried p None o e f = let no : Some (call_of CleanForPool carried) ≡ None = sym e ∙ f in cc
 open_call Reading carried p None o e f = let no : Some (call_of NextRow carried) ≡ None = sym e ∙ f in cc
 open_call Dropping carried p None o e f = let no : Some (call_of DropResult carried) ≡ None = sym e ∙ f in cc
 open_call Taking carried p None o e f = let no : Some (call_of TakeSet carried) ≡ None = sym e ∙ f in cc
@@ -122,8 +136,9 @@ no_call Giving carried p (Some a) o e f = cc
 no_call (Arranging n) carried p (Some a) o e f = cc
 no_call (Running n) carried p (Some a) o e f = cc
 no_call (Finishing n) carried p (Some a) o e f = cc
-no_call Clearing carried p (Some a) o e f = cc
+no_call (Clearing c) carried p (Some a) o e f = cc
 no_call (Asking c n) carried p (Some a) o e f = cc
+no_call Draining carried p (Some a) o e f = cc
 no_call Reading carried p (Some a) o e f = cc
 no_call Dropping carried p (Some a) o e f = cc
 no_call Taking carried p (Some a) o e f = cc
@@ -150,10 +165,13 @@ begun_stands TakeSet spot connected p w first = settled_not_greeting spot (settl
 begun_stands SkipTaken spot connected p w first = settled_not_greeting spot (settled_reads spot w.1)
 begun_stands Ping spot connected p w first = settled_not_greeting spot (settled_reads spot w.1)
 begun_stands Reset spot connected p w first = settled_not_greeting spot (settled_reads spot w.1)
+begun_stands ChangeUser spot connected p w first = settled_not_greeting spot (settled_reads spot w.1)
 begun_stands Begin spot connected p w first = settled_not_greeting spot (settled_reads spot w.1)
 begun_stands Commit spot connected p w first = settled_not_greeting spot (settled_reads spot w.1)
 begun_stands Rollback spot connected p w first = settled_not_greeting spot (settled_reads spot w.1)
 begun_stands ForgetTransaction spot connected p w first = settled_not_greeting spot (settled_reads spot w.1)
+begun_stands CleanForPool spot connected p w first = settled_not_greeting spot (settled_reads spot w.1)
+begun_stands ResetForPool spot connected p w first = settled_not_greeting spot (settled_reads spot w.1)
 begun_stands Quit spot connected p w first = settled_not_greeting spot (settled_reads spot w.1)
 
 pub idle_task : (t : Task) → is_open t ≡ false → t ≡ Nothing
@@ -169,8 +187,9 @@ idle_task Giving e = cc
 idle_task (Arranging n) e = cc
 idle_task (Running n) e = cc
 idle_task (Finishing n) e = cc
-idle_task Clearing e = cc
+idle_task (Clearing c) e = cc
 idle_task (Asking c n) e = cc
+idle_task Draining e = cc
 idle_task Reading e = cc
 idle_task Dropping e = cc
 idle_task Taking e = cc

@@ -6,7 +6,7 @@ use Rattle.my_reading.specs.declared.call.CallKind.{CallKind}
 use Rattle.my_session.specs.declared.task.LinkFault.{LinkFault}
 use Rattle.my_session.specs.declared.task.LinkFault.TheVariants as faults
 use Rattle.my_session.specs.declared.task.Task.{Task}
-use Rattle.my_session.specs.declared.task.Task.TheVariants.{Nothing, Begun, Cleaning, Undoing, Cleaned, Backing, Reverting, Own, Giving, Arranging, Running, Finishing, Clearing, Asking, Reading, Dropping, Taking, Skipping, Leaving, Failing}
+use Rattle.my_session.specs.declared.task.Task.TheVariants.{Nothing, Begun, Cleaning, Undoing, Cleaned, Backing, Reverting, Own, Giving, Arranging, Running, Finishing, Clearing, Asking, Draining, Reading, Dropping, Taking, Skipping, Leaving, Failing}
 use Rattle.my_reading.specs.declared.error.IoError.{IoError}
 use Rattle.my_reading.specs.declared.error.IoError.TheVariants as ios
 use Rattle.my_reading.specs.declared.error.IoKind.{IoKind}
@@ -51,8 +51,9 @@ is_leaving Giving closed c o f a = let no : true ≡ false = sym c ∙ a refl in
 is_leaving (Arranging n) closed c o f a = let no : true ≡ false = sym c ∙ a refl in cc
 is_leaving (Running n) closed c o f a = let no : true ≡ false = sym c ∙ a refl in cc
 is_leaving (Finishing n) closed c o f a = let no : true ≡ false = sym c ∙ a refl in cc
-is_leaving Clearing closed c o f a = let no : true ≡ false = sym c ∙ a refl in cc
+is_leaving (Clearing k) closed c o f a = let no : true ≡ false = sym c ∙ a refl in cc
 is_leaving (Asking k n) closed c o f a = let no : true ≡ false = sym c ∙ a refl in cc
+is_leaving Draining closed c o f a = let no : true ≡ false = sym c ∙ a refl in cc
 is_leaving Reading closed c o f a = let no : true ≡ false = sym c ∙ a refl in cc
 is_leaving Dropping closed c o f a = let no : true ≡ false = sym c ∙ a refl in cc
 is_leaving Taking closed c o f a = let no : true ≡ false = sym c ∙ a refl in cc
@@ -123,8 +124,9 @@ told_to_fail Giving fault o = refl
 told_to_fail (Arranging n) fault o = refl
 told_to_fail (Running n) fault o = refl
 told_to_fail (Finishing n) fault o = refl
-told_to_fail Clearing fault o = refl
+told_to_fail (Clearing c) fault o = refl
 told_to_fail (Asking c n) fault o = refl
+told_to_fail Draining fault o = refl
 told_to_fail Reading fault o = refl
 told_to_fail Dropping fault o = refl
 told_to_fail Taking fault o = refl

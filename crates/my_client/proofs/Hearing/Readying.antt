@@ -2,13 +2,13 @@
 use Rattle.std.proofs.Common.{◌≡◌, List, [], ◌∷◌, ◌||◌, Bool, true, false, cond, None, refl, sym, ap, ◌∙◌, subst}
 use Rattle.my_grammar.specs.declared.login.Login.{Login}
 use Rattle.my_reading.specs.declared.call.CallKind.{CallKind}
-use Rattle.my_reading.specs.declared.call.CallKind.TheVariants.{Connect, Query, Prepare, Execute, Batch, CloseStmt, NextRow, DropResult, TakeSet, SkipTaken, Ping, Reset, Begin, Commit, Rollback, ForgetTransaction, Quit}
+use Rattle.my_reading.specs.declared.call.CallKind.TheVariants.{Connect, Query, Prepare, Execute, Batch, CloseStmt, NextRow, DropResult, TakeSet, SkipTaken, Ping, Reset, ChangeUser, Begin, Commit, Rollback, ForgetTransaction, CleanForPool, ResetForPool, Quit}
 use Rattle.my_session.specs.declared.task.Task.{Task}
 use Rattle.my_session.specs.declared.task.Task.TheVariants.{Nothing}
 use Rattle.my_reading.specs.Calls.{kind_of, is_connect}
 use Rattle.my_session.specs.Tasks.{is_open}
 use Rattle.my_session.specs.Entries.{connects, connecting_in, has_connected}
-use Rattle.my_reading.specs.Told.{Told, ToldReady, ToldRow, ToldEnd, ToldNone, ToldStatement, ToldFlag, ToldError, Dropped, told}
+use Rattle.my_reading.specs.Told.{Told, ToldReady, ToldRow, ToldEnd, ToldNone, ToldStatement, ToldFlag, ToldError, ToldPassed, Dropped, told}
 use Rattle.my_reading.specs.declared.answer.Answer.{Answer}
 use Rattle.my_reading.specs.declared.answer.Answer.TheVariants as answers
 use Rattle.my_session.specs.Fits.{may_be}
@@ -37,6 +37,7 @@ note_joins DropResult ToldNone n = cc
 note_joins DropResult (ToldStatement statement) n = cc
 note_joins DropResult (ToldFlag flag) n = cc
 note_joins DropResult (ToldError e) n = cc
+note_joins DropResult (ToldPassed e) n = cc
 note_joins DropResult (Dropped closing) n = cc
 note_joins TakeSet t n = cc
 note_joins SkipTaken ToldReady n = cc
@@ -46,13 +47,25 @@ note_joins SkipTaken ToldNone n = cc
 note_joins SkipTaken (ToldStatement statement) n = cc
 note_joins SkipTaken (ToldFlag flag) n = cc
 note_joins SkipTaken (ToldError e) n = cc
+note_joins SkipTaken (ToldPassed e) n = cc
 note_joins SkipTaken (Dropped closing) n = cc
 note_joins Ping t n = cc
 note_joins Reset t n = cc
+note_joins ChangeUser t n = cc
 note_joins Begin t n = cc
 note_joins Commit t n = cc
 note_joins Rollback t n = cc
 note_joins ForgetTransaction t n = cc
+note_joins CleanForPool ToldReady n = cc
+note_joins CleanForPool (ToldRow row) n = cc
+note_joins CleanForPool ToldEnd n = cc
+note_joins CleanForPool ToldNone n = cc
+note_joins CleanForPool (ToldStatement statement) n = cc
+note_joins CleanForPool (ToldFlag flag) n = cc
+note_joins CleanForPool (ToldError e) n = cc
+note_joins CleanForPool (ToldPassed e) n = refl
+note_joins CleanForPool (Dropped closing) n = cc
+note_joins ResetForPool t n = cc
 note_joins Quit t n = cc
 
 connected_if : (m : Made) (ms : List Made) (b : Bool) → is_note (kind_of m.call) m.what ≡ b → has_connected ms ≡ has_connected (answers_in ms) → has_connected (m ∷ ms) ≡ has_connected (cond b (answers_in ms) (m ∷ answers_in ms))
@@ -90,10 +103,13 @@ at_begun TakeSet spot e s = s
 at_begun SkipTaken spot e s = s
 at_begun Ping spot e s = s
 at_begun Reset spot e s = s
+at_begun ChangeUser spot e s = s
 at_begun Begin spot e s = s
 at_begun Commit spot e s = s
 at_begun Rollback spot e s = s
 at_begun ForgetTransaction spot e s = s
+at_begun CleanForPool spot e s = s
+at_begun ResetForPool spot e s = s
 at_begun Quit spot e s = s
 
 -- the handshake that is answered connects
@@ -115,8 +131,11 @@ connect_ready TakeSet answer e m = cc
 connect_ready SkipTaken answer e m = cc
 connect_ready Ping answer e m = cc
 connect_ready Reset answer e m = cc
+connect_ready ChangeUser answer e m = cc
 connect_ready Begin answer e m = cc
 connect_ready Commit answer e m = cc
 connect_ready Rollback answer e m = cc
 connect_ready ForgetTransaction answer e m = cc
+connect_ready CleanForPool answer e m = cc
+connect_ready ResetForPool answer e m = cc
 connect_ready Quit answer e m = cc

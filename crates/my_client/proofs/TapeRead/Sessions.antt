@@ -11,7 +11,7 @@ use Rattle.my_reading.specs.declared.answer.Answer.{Answer}
 use Rattle.my_reading.specs.declared.call.Call.{Call}
 use Rattle.my_reading.specs.declared.call.Call.TheVariants as calls
 use Rattle.my_reading.specs.declared.call.CallKind.{CallKind}
-use Rattle.my_reading.specs.declared.call.CallKind.TheVariants.{Connect, Query, Prepare, Execute, Batch, CloseStmt, NextRow, DropResult, TakeSet, SkipTaken, Ping, Reset, Begin, Commit, Rollback, ForgetTransaction, Quit}
+use Rattle.my_reading.specs.declared.call.CallKind.TheVariants.{Connect, Query, Prepare, Execute, Batch, CloseStmt, NextRow, DropResult, TakeSet, SkipTaken, Ping, Reset, ChangeUser, Begin, Commit, Rollback, ForgetTransaction, CleanForPool, ResetForPool, Quit}
 use Rattle.my_reading.specs.declared.error.Error.{Error}
 use Rattle.my_reading.specs.declared.error.Error.TheVariants as errors
 use Rattle.my_reading.specs.Calls.{asks, kind_of, call_of, is_unrefused}
@@ -39,7 +39,7 @@ use Rattle.my_session.specs.Tables.{leave_plan, plan_of, closes_when_cancelled}
 use Rattle.my_session.specs.Tasks.{kind_in, fault_in, is_open}
 use Rattle.my_session.proofs.Ends.{first_goes}
 use Rattle.my_session.proofs.Mirror.Fields.{mirrors_sent, mirrors_taken}
-use Rattle.my_session.proofs.CallKinds.{of_unrefused}
+use Rattle.my_session.proofs.CallKinds.{of_unrefused, queries_ask, set_up_queries}
 use Rattle.my_session.proofs.Mirror.Payloads.{fallen_at, resting_at}
 use Rattle.my_client.specs.declared.tape.Said.TheVariants as says
 use Rattle.my_client.specs.Kept.{Asked, Kept, nothing_kept, asking, asked_by, ended_by}
@@ -171,6 +171,7 @@ sent_at s t call parts p n e o = subst (λ (x : Seen). OpenAt x call parts (with
     task_at = o.at.task_at;
     statements_are = o.at.statements_are;
     status_is = o.at.status_is;
+    account_is = o.at.account_is;
     trial_is = o.at.trial_is;
     checked = o.at.checked;
     settled = λ quiet. ap (drop n) (o.at.settled quiet) ∙ drop-nil {A = ℕ} n;
@@ -192,6 +193,7 @@ taken_at s t call parts p bytes e o = subst (λ (x : Seen). OpenAt x call parts 
     task_at = o.at.task_at;
     statements_are = o.at.statements_are;
     status_is = o.at.status_is;
+    account_is = o.at.account_is;
     trial_is = o.at.trial_is;
     checked = o.at.checked;
     settled = o.at.settled;
@@ -205,7 +207,7 @@ taken_at s t call parts p bytes e o = subst (λ (x : Seen). OpenAt x call parts 
 
 ended_at : (s t : Seen) (call : Call) (parts : List Part) (p : Place) → t ≡ with_end s → OpenAt s call parts p → OpenAt t call parts p
 ended_at s t call parts p e o = subst (λ (x : Seen). OpenAt x call parts p) (sym e) (record {
-  at = record { mirrors = o.at.mirrors; end_is = o.at.end_is; taken_is = o.at.taken_is; own_end = o.at.own_end; task_at = o.at.task_at; statements_are = o.at.statements_are; status_is = o.at.status_is; trial_is = o.at.trial_is; checked = o.at.checked; settled = o.at.settled };
+  at = record { mirrors = o.at.mirrors; end_is = o.at.end_is; taken_is = o.at.taken_is; own_end = o.at.own_end; task_at = o.at.task_at; statements_are = o.at.statements_are; status_is = o.at.status_is; account_is = o.at.account_is; trial_is = o.at.trial_is; checked = o.at.checked; settled = o.at.settled };
   alive = o.alive;
   sound = o.sound;
   call_is = o.call_is;
@@ -247,10 +249,13 @@ kind_back TakeSet carried = refl
 kind_back SkipTaken carried = refl
 kind_back Ping carried = refl
 kind_back Reset carried = refl
+kind_back ChangeUser carried = refl
 kind_back Begin carried = refl
 kind_back Commit carried = refl
 kind_back Rollback carried = refl
 kind_back ForgetTransaction carried = refl
+kind_back CleanForPool carried = refl
+kind_back ResetForPool carried = refl
 kind_back Quit carried = refl
 
 -- the open call is cancelled
@@ -274,10 +279,13 @@ module _ (s : Seen) (call : Call) (parts : List Part) (p : Place) (o : OpenAt s 
   closes_asking SkipTaken e = cc
   closes_asking Ping e = refl
   closes_asking Reset e = refl
+  closes_asking ChangeUser e = refl
   closes_asking Begin e = refl
   closes_asking Commit e = refl
   closes_asking Rollback e = refl
   closes_asking ForgetTransaction e = refl
+  closes_asking CleanForPool e = refl
+  closes_asking ResetForPool e = refl
   closes_asking Quit e = refl
 
   closes_own : (c : CallKind) → OwnStandsAt c s.context.spot (connects_in (exchanges p)) → closes_cancelled c p ≡ true
@@ -293,10 +301,13 @@ module _ (s : Seen) (call : Call) (parts : List Part) (p : Place) (o : OpenAt s 
   closes_own SkipTaken w = absurd w
   closes_own Ping w = refl
   closes_own Reset w = refl
+  closes_own ChangeUser w = refl
   closes_own Begin w = absurd w
   closes_own Commit w = absurd w
   closes_own Rollback w = absurd w
   closes_own ForgetTransaction w = absurd w
+  closes_own CleanForPool w = absurd w
+  closes_own ResetForPool w = refl
   closes_own Quit w = refl
 
   closes_is : (t : Task) → s.task ≡ t → TaskStandsAt t s.context.spot (connects_in (exchanges p)) → closes_when_cancelled t s.context.spot ≡ closes_cancelled (kind_of call) p
@@ -312,8 +323,9 @@ module _ (s : Seen) (call : Call) (parts : List Part) (p : Place) (o : OpenAt s 
   closes_is (tasks.Arranging n) e w = sym (ap (λ k. closes_cancelled k p) (kind_is Connect (ap kind_in e)))
   closes_is (tasks.Running n) e w = sym (ap (λ k. closes_cancelled k p) (kind_is Batch (ap kind_in e)))
   closes_is (tasks.Finishing n) e w = sym (ap (λ k. closes_cancelled k p) (kind_is Batch (ap kind_in e)))
-  closes_is tasks.Clearing e w = sym (ap (λ k. closes_cancelled k p) (kind_is Reset (ap kind_in e)))
+  closes_is (tasks.Clearing c) e w = sym (ap (λ k. closes_cancelled k p) (kind_is c (ap kind_in e)) ∙ closes_asking c (queries_ask c (set_up_queries c w.1)))
   closes_is (tasks.Asking c n) e w = sym (ap (λ k. closes_cancelled k p) (kind_is c (ap kind_in e)) ∙ closes_asking c w.0)
+  closes_is tasks.Draining e w = sym (ap (λ k. closes_cancelled k p) (kind_is CleanForPool (ap kind_in e)))
   closes_is tasks.Reading e w = ap awaits_head spot_is ∙ sym (ap (λ k. closes_cancelled k p) (kind_is NextRow (ap kind_in e)))
   closes_is tasks.Dropping e w = ap awaits_head spot_is ∙ sym (ap (λ k. closes_cancelled k p) (kind_is DropResult (ap kind_in e)))
   closes_is tasks.Taking e w = ap awaits_head spot_is ∙ sym (ap (λ k. closes_cancelled k p) (kind_is TakeSet (ap kind_in e)))
@@ -334,8 +346,9 @@ module _ (s : Seen) (call : Call) (parts : List Part) (p : Place) (o : OpenAt s 
   keeps_end (tasks.Arranging n) e f = cc
   keeps_end (tasks.Running n) e f = cc
   keeps_end (tasks.Finishing n) e f = cc
-  keeps_end tasks.Clearing e f = cc
+  keeps_end (tasks.Clearing c) e f = cc
   keeps_end (tasks.Asking c n) e f = cc
+  keeps_end tasks.Draining e f = cc
   keeps_end tasks.Reading e f = refl
   keeps_end tasks.Dropping e f = refl
   keeps_end tasks.Taking e f = refl
@@ -356,8 +369,9 @@ module _ (s : Seen) (call : Call) (parts : List Part) (p : Place) (o : OpenAt s 
   owes_not (tasks.Arranging n) e f = cc
   owes_not (tasks.Running n) e f = cc
   owes_not (tasks.Finishing n) e f = cc
-  owes_not tasks.Clearing e f = cc
+  owes_not (tasks.Clearing c) e f = cc
   owes_not (tasks.Asking c n) e f = cc
+  owes_not tasks.Draining e f = cc
   owes_not tasks.Reading e f = refl
   owes_not tasks.Dropping e f = refl
   owes_not tasks.Taking e f = refl
@@ -376,6 +390,7 @@ module _ (s : Seen) (call : Call) (parts : List Part) (p : Place) (o : OpenAt s 
       task_at = tt;
       statements_are = o.at.statements_are;
       status_is = o.at.status_is;
+      account_is = o.at.account_is;
       trial_is = o.at.trial_is;
       checked = refl;
       settled = λ _. o.at.settled (owes_not s.task refl e);
@@ -413,15 +428,18 @@ module _ (login : Login) (s t : Seen) (k : Kept) (call : Call) where
   back_whole calls.SkipTaken = refl
   back_whole calls.Ping = refl
   back_whole calls.Reset = refl
+  back_whole (calls.ChangeUser change) = refl
   back_whole (calls.Begin opts) = refl
   back_whole calls.Commit = refl
   back_whole calls.Rollback = refl
   back_whole calls.ForgetTransaction = refl
+  back_whole calls.CleanForPool = refl
+  back_whole calls.ResetForPool = refl
   back_whole calls.Quit = refl
 
   -- the session with this task
   abbrev asked_with : Bool → Seen
-  asked_with b = record { context = s.context; task = (cond b (tasks.Leaving (kind_of call)) (tasks.Begun (kind_of call))); call = call; untold = s.untold; taken = s.taken; closed = s.closed; ended = s.ended; number = s.number; unread = s.unread; owed = s.owed; facts = s.facts; statements = s.statements; status = s.status; trial = s.trial; login = s.login }
+  asked_with b = record { context = s.context; task = (cond b (tasks.Leaving (kind_of call)) (tasks.Begun (kind_of call))); call = call; untold = s.untold; taken = s.taken; closed = s.closed; ended = s.ended; number = s.number; unread = s.unread; owed = s.owed; facts = s.facts; statements = s.statements; status = s.status; account = s.account; trial = s.trial; login = s.login }
 
   module _ (e : t ≡ begun s call) (log : s.login ≡ login) (idle : s.task ≡ tasks.Nothing) (w : RestRead login s k) where
     -- for any rows that are gathered
@@ -442,6 +460,7 @@ module _ (login : Login) (s t : Seen) (k : Kept) (call : Call) where
         task_at = at;
         statements_are = w.at.statements_are;
         status_is = w.at.status_is;
+        account_is = w.at.account_is;
         trial_is = w.at.trial_is;
         checked = refl;
         settled = λ _. w.at.settled (ap owes idle);
@@ -464,7 +483,7 @@ module _ (login : Login) (s t : Seen) (k : Kept) (call : Call) where
     }
 
     leaving_at : (b : Bool) → s.closed ≡ true → b ≡ true → StandsAt (asked_with b) w.place
-    leaving_at true c f = record { mirrors = w.at.mirrors; end_is = λ no _. let stop : true ≡ false = sym c ∙ no in cc; taken_is = w.at.taken_is; own_end = λ no. cc; task_at = tt; statements_are = λ no. let stop : true ≡ false = sym c ∙ no in cc; status_is = λ no. let stop : true ≡ false = sym c ∙ no in cc; trial_is = λ no. let stop : true ≡ false = sym c ∙ no in cc; checked = refl; settled = λ _. w.at.settled (ap owes idle) }
+    leaving_at true c f = record { mirrors = w.at.mirrors; end_is = λ no _. let stop : true ≡ false = sym c ∙ no in cc; taken_is = w.at.taken_is; own_end = λ no. cc; task_at = tt; statements_are = λ no. let stop : true ≡ false = sym c ∙ no in cc; status_is = λ no. let stop : true ≡ false = sym c ∙ no in cc; account_is = λ no. let stop : true ≡ false = sym c ∙ no in cc; trial_is = λ no. let stop : true ≡ false = sym c ∙ no in cc; checked = refl; settled = λ _. w.at.settled (ap owes idle) }
     leaving_at false c f = cc
 
     pub begin_unrefused : (rows : Option (List RowParts)) → s.closed ≡ true → is_unrefused (kind_of call) ≡ true → UnrefusedRead login t (asking k call rows) (record { call = call; sent_from = length k.sent; taken_from = length k.taken; rows = rows })
@@ -501,6 +520,7 @@ fresh_read login s e = record {
     task_at = tt;
     statements_are = λ _. refl;
     status_is = λ _. refl;
+    account_is = λ _. refl;
     trial_is = λ _. refl;
     checked = refl;
     settled = λ _. refl;

@@ -1,0 +1,7 @@
+use Rattle.my_conn.proofs.Resting.{each_clean}
+use Rattle.my_conn.proofs.conn.Conn.is_dirty.Goals as goal
+
+pub returns-clause-clean : goal.returns-clause-clean
+returns-clause-clean g c =
+    let v = c.self.inside in
+    rw (← c.self.view_is, c.is_dirty.ensures) (each_clean v.lost v.session.seen v.tape v.pending c.self.invariant)
