@@ -113,6 +113,7 @@ C is a connection; at most 1000 lines connect:
   fields C         prints the fields of the server's last OK packet
   ping C           asks whether the server is there
   reset C          resets the server's session: flag 1, or flag 0 where the server can't
+  user C U P DB    changes user, password and database: = keeps one, - clears it
   begin C OPTS     begins a transaction; OPTS are any of snapshot, level=0..3, ro and rw
   commit C         commits the transaction
   rollback C       rolls the transaction back
@@ -139,9 +140,10 @@ C is a connection; at most 1000 lines connect:
   prep 0 DO ?, ?   10 stmt 0 id=1 params=2 columns=0
   exec 0 0 i:1 b:  11 ok
   reset 0          12 flag 1
-  begin 0 ro       13 ok
-  commit 0         14 ok
-  quit 0           15 ok
+  user 0 bob - =   13 ok
+  begin 0 ro       14 ok
+  commit 0         15 ok
+  quit 0           16 ok
 
 A value V is written as it is printed: NULL, b:HEX, i:N, u:N, f:HEX and d:HEX with the bits of
 a float and of a double, D:Y-M-D_H:M:S.U, T:SIGN_DAYS_H:M:S.U.

@@ -281,6 +281,7 @@ step_joined login plans found named hs (steps.Collect n) o us ts w r = at_step n
 step_joined login plans found named hs (steps.Drop n) o us ts w r = at_step n _ hs ts o us (λ h t. calls_joined login n _ o us h t) w r
 step_joined login plans found named hs (steps.Ping n) o us ts w r = at_step n _ hs ts o us (λ h t. calls_joined login n _ o us h t) w r
 step_joined login plans found named hs (steps.Reset n) o us ts w r = at_step n _ hs ts o us (λ h t. calls_joined login n _ o us h t) w r
+step_joined login plans found named hs (steps.User n change) o us ts w r = at_step n _ hs ts o us (λ h t. calls_joined login n _ o us h t) w r
 step_joined login plans found named hs (steps.Begin n opts) o us ts w r = at_step n _ hs ts o us (λ h t. calls_joined login n _ o us h t) w r
 step_joined login plans found named hs (steps.Commit n) o us ts w r = at_step n _ hs ts o us (λ h t. where_joined found login n calls.Commit o us h t) w r
 step_joined login plans found named hs (steps.Rollback n) o us ts w r = at_step n _ hs ts o us (λ h t. where_joined found login n calls.Rollback o us h t) w r

@@ -8,7 +8,7 @@ use Rattle.my_grammar.specs.declared.login.Login.{Login}
 use Rattle.my_reading.specs.declared.answer.Answer.{Answer}
 use Rattle.my_reading.specs.declared.answer.Answer.TheVariants as answers
 use Rattle.my_reading.specs.declared.call.Call.{Call}
-use Rattle.my_reading.specs.declared.call.Call.TheVariants.{Query, Prepare, Execute, CloseStmt, NextRow, DropResult, TakeSet, SkipTaken, Ping, Reset, Begin, Commit, Rollback, ForgetTransaction, Quit}
+use Rattle.my_reading.specs.declared.call.Call.TheVariants.{Query, Prepare, Execute, CloseStmt, NextRow, DropResult, TakeSet, SkipTaken, Ping, Reset, ChangeUser, Begin, Commit, Rollback, ForgetTransaction, Quit}
 use Rattle.my_reading.specs.Calls.{kind_of, is_connect}
 use Rattle.my_reading.specs.Endings.{closes_cancelled}
 use Rattle.my_reading.specs.Errors.{connection_closed, io_error}
@@ -365,6 +365,7 @@ StepGrows login plans found named hs (steps.Collect n) o us ts = At n (CollectsA
 StepGrows login plans found named hs (steps.Drop n) o us ts = At n (Calls login n DropResult) hs o us ts
 StepGrows login plans found named hs (steps.Ping n) o us ts = At n (Calls login n Ping) hs o us ts
 StepGrows login plans found named hs (steps.Reset n) o us ts = At n (Calls login n Reset) hs o us ts
+StepGrows login plans found named hs (steps.User n change) o us ts = At n (Calls login n (ChangeUser change)) hs o us ts
 StepGrows login plans found named hs (steps.Begin n opts) o us ts = At n (Calls login n (Begin opts)) hs o us ts
 StepGrows login plans found named hs (steps.Commit n) o us ts = At n (CallsWhere found login n Commit) hs o us ts
 StepGrows login plans found named hs (steps.Rollback n) o us ts = At n (CallsWhere found login n Rollback) hs o us ts

@@ -107,6 +107,10 @@ fn order_for(
         Step::Drop(number) => Ok(visit(*number, Work::Begin(Call::DropResult))),
         Step::Ping(number) => Ok(visit(*number, Work::Begin(Call::Ping))),
         Step::Reset(number) => Ok(visit(*number, Work::Begin(Call::Reset))),
+        Step::User(number, change) => {
+            let change = change.copy(alloc)?;
+            Ok(visit(*number, Work::Begin(Call::ChangeUser(change))))
+        }
         Step::Begin(number, opts) => Ok(visit(*number, Work::Begin(Call::Begin(*opts)))),
         Step::Commit(number) => Ok(visit(*number, begin_where(found, Call::Commit))),
         Step::Rollback(number) => Ok(visit(*number, begin_where(found, Call::Rollback))),

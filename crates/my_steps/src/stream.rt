@@ -40,10 +40,13 @@ pub(crate) fn is_skipping<L>(conn: &TapedConn<L>) -> bool
             | Call::TakeSet
             | Call::Ping
             | Call::Reset
+            | Call::ChangeUser(_)
             | Call::Begin(_)
             | Call::Commit
             | Call::Rollback
             | Call::ForgetTransaction
+            | Call::CleanForPool
+            | Call::ResetForPool
             | Call::Quit => false,
         },
     }

@@ -279,6 +279,7 @@ module _ (login : Login) where
   step_once plans found named hs (steps.Drop n) o us ts w r = at_step n _ hs ts o us (λ h t. calls_once n calls.DropResult o us h t refl) w r
   step_once plans found named hs (steps.Ping n) o us ts w r = at_step n _ hs ts o us (λ h t. calls_once n calls.Ping o us h t refl) w r
   step_once plans found named hs (steps.Reset n) o us ts w r = at_step n _ hs ts o us (λ h t. calls_once n calls.Reset o us h t refl) w r
+  step_once plans found named hs (steps.User n change) o us ts w r = at_step n _ hs ts o us (λ h t. calls_once n (calls.ChangeUser change) o us h t refl) w r
   step_once plans found named hs (steps.Begin n opts) o us ts w r = at_step n _ hs ts o us (λ h t. calls_once n (calls.Begin opts) o us h t refl) w r
   step_once plans found named hs (steps.Commit n) o us ts w r = at_step n _ hs ts o us (λ h t. where_once found n calls.Commit o us h t refl) w r
   step_once plans found named hs (steps.Rollback n) o us ts w r = at_step n _ hs ts o us (λ h t. where_once found n calls.Rollback o us h t refl) w r

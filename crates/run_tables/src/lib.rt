@@ -34,4 +34,6 @@ mod texts;
 #[cfg(test)]
 mod transactions;
 #[cfg(test)]
+mod users;
+#[cfg(test)]
 mod words;

@@ -265,6 +265,7 @@ step_fits login plans found named hs (steps.Collect n) o us ts w r = at_fits pla
 step_fits login plans found named hs (steps.Drop n) o us ts w r = at_fits plans n _ hs ts o us (λ h t. calls_fits (plans.reads n) (plans.dials n) login n _ o us h t) w r
 step_fits login plans found named hs (steps.Ping n) o us ts w r = at_fits plans n _ hs ts o us (λ h t. calls_fits (plans.reads n) (plans.dials n) login n _ o us h t) w r
 step_fits login plans found named hs (steps.Reset n) o us ts w r = at_fits plans n _ hs ts o us (λ h t. calls_fits (plans.reads n) (plans.dials n) login n _ o us h t) w r
+step_fits login plans found named hs (steps.User n change) o us ts w r = at_fits plans n _ hs ts o us (λ h t. calls_fits (plans.reads n) (plans.dials n) login n _ o us h t) w r
 step_fits login plans found named hs (steps.Begin n opts) o us ts w r = at_fits plans n _ hs ts o us (λ h t. calls_fits (plans.reads n) (plans.dials n) login n _ o us h t) w r
 step_fits login plans found named hs (steps.Commit n) o us ts w r = at_fits plans n _ hs ts o us (λ h t. where_fits (plans.reads n) (plans.dials n) found login n Commit o us h t) w r
 step_fits login plans found named hs (steps.Rollback n) o us ts w r = at_fits plans n _ hs ts o us (λ h t. where_fits (plans.reads n) (plans.dials n) found login n Rollback o us h t) w r
