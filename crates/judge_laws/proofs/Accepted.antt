@@ -111,6 +111,7 @@ step_dials login plans there statement hs ts (steps.Collect m) o us r = let e = 
 step_dials login plans there statement hs ts (steps.Drop m) o us r = let e = ap length r.others ∙ put_length m r.made hs in omega arith
 step_dials login plans there statement hs ts (steps.Ping m) o us r = let e = ap length r.others ∙ put_length m r.made hs in omega arith
 step_dials login plans there statement hs ts (steps.Reset m) o us r = let e = ap length r.others ∙ put_length m r.made hs in omega arith
+step_dials login plans there statement hs ts (steps.User m change) o us r = let e = ap length r.others ∙ put_length m r.made hs in omega arith
 step_dials login plans there statement hs ts (steps.Begin m opts) o us r = let e = ap length r.others ∙ put_length m r.made hs in omega arith
 step_dials login plans there statement hs ts (steps.Commit m) o us r = let e = ap length r.others ∙ put_length m r.made hs in omega arith
 step_dials login plans there statement hs ts (steps.Rollback m) o us r = let e = ap length r.others ∙ put_length m r.made hs in omega arith

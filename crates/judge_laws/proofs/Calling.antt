@@ -2,6 +2,7 @@
 use Rattle.std.proofs.Common.{◌≡◌, ℕ, ◌==◌, List, [], ◌∷◌, length, slice_get, map, Bool, true, false, ◌&&◌, Option, Some, None, refl, sym, ap, ◌∙◌, subst, arith, if◌then◌else◌}
 use Rattle.std.proofs.lemmas.Bool.Decides.{nat_tests}
 use Rattle.my_value.specs.RowParts.{RowParts}
+use Rattle.my_opts.specs.ChangeUser.{ChangeView}
 use Rattle.my_opts_parts.specs.TransactionOptions.{TxView}
 use Rattle.my_params.specs.declared.params.Params.{Params}
 use Rattle.my_statements.specs.Prepared.{StatementView}
@@ -84,6 +85,9 @@ asks_ping n statement = record { named = refl; begun = λ taken. refl; plain = r
 
 pub asks_reset : (n : ℕ) (statement : Option StatementView) → Asks n statement (steps.Reset n) calls.Reset
 asks_reset n statement = record { named = refl; begun = λ taken. refl; plain = refl; dialing = refl; idle = λ closed next o uses. ap (λ b. asked b o uses) (closed_and closed); opens = λ next. refl; gathers = λ first next. refl }
+
+pub asks_user : (n : ℕ) (statement : Option StatementView) (change : ChangeView) → Asks n statement (steps.User n change) (calls.ChangeUser change)
+asks_user n statement change = record { named = refl; begun = λ taken. refl; plain = refl; dialing = refl; idle = λ closed next o uses. ap (λ b. asked b o uses) (closed_and closed); opens = λ next. refl; gathers = λ first next. refl }
 
 pub asks_begin : (n : ℕ) (statement : Option StatementView) (opts : TxView) → Asks n statement (steps.Begin n opts) (calls.Begin opts)
 asks_begin n statement opts = record { named = refl; begun = λ taken. refl; plain = refl; dialing = refl; idle = λ closed next o uses. ap (λ b. asked b o uses) (closed_and closed); opens = λ next. refl; gathers = λ first next. refl }

@@ -7,7 +7,7 @@ use Rattle.my_reading.specs.declared.answer.Answer.TheVariants as answers
 use Rattle.my_reading.specs.declared.call.Call.{Call}
 use Rattle.my_reading.specs.declared.error.Error.{Error}
 use Rattle.my_reading.specs.Tape.{Span, Tape, TapeCall, between, sent_to, taken_to, spans_from}
-use Rattle.my_reading.specs.Told.{Told, ToldReady, ToldRow, ToldEnd, ToldNone, ToldStatement, ToldFlag, ToldError, Dropped}
+use Rattle.my_reading.specs.Told.{Told, ToldReady, ToldRow, ToldEnd, ToldNone, ToldStatement, ToldFlag, ToldError, ToldPassed, Dropped}
 use Rattle.my_script.specs.declared.transcript.TapeCall.{TapeCall as ShownCall}
 use Rattle.my_client.specs.declared.tape.DoneCall.{DoneCall}
 use Rattle.my_client.specs.declared.tape.Said.{Said}
@@ -54,6 +54,7 @@ answer_of (Some ToldNone) = Some (Ok answers.NoSet)
 answer_of (Some (ToldStatement statement)) = Some (Ok (answers.Stmt statement))
 answer_of (Some (ToldFlag flag)) = Some (Ok (answers.Flag flag))
 answer_of (Some (ToldError e)) = Some (Err e)
+answer_of (Some (ToldPassed e)) = None
 answer_of (Some (Dropped closing)) = None
 
 abbrev pub shown_call : TapeCall → ShownCall

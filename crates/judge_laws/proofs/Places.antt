@@ -17,7 +17,7 @@ use Rattle.my_reading.specs.declared.call.Call.{Call}
 use Rattle.my_reading.specs.declared.call.Call.TheVariants as calls
 use Rattle.my_reading.specs.declared.facts.Facts.{Facts}
 use Rattle.my_reading.specs.Calls.{id_in, statement_in, text_in}
-use Rattle.my_reading.specs.Course.{Part, All, Head, Item, Set, Rest, Command, Find, Check, Run, Reply, Keep, Give, Learn, Forget, Offered, Clear, Text, Flag, Undo, Undone, Refuse, Settle, GiveUp, Try, Back, Step, Goes, Stops, checked, executed, closing_of, first_above, found, learned, offered, refused_at, returned, unless_cached, undone, unless_long, unless_owed, unless_refused, step_of, step, run, enough, parts_of, with_command, with_front, after_payload, after_kind, after_err, is_greeting, is_rows}
+use Rattle.my_reading.specs.Course.{Part, All, Head, Item, Set, Rest, Command, Find, Check, Run, Reply, Keep, Give, Learn, Forget, Offered, Clear, Text, Flag, Undo, Undone, Refuse, Settle, GiveUp, Adopt, Renew, Drain, Try, Back, Step, Goes, Stops, checked, dropped_at, is_drain, renewing, executed, closing_of, first_above, found, learned, offered, refused_at, returned, unless_cached, undone, unless_long, unless_owed, unless_refused, step_of, step, run, enough, parts_of, with_command, with_front, after_payload, after_kind, after_err, is_greeting, is_rows}
 use Rattle.my_handshake.specs.Version.{version_of}
 use Rattle.my_reading.specs.Commands.{queried}
 use Rattle.my_reading.specs.Executions.{Values, Fitting, Unfitting, values_for}
@@ -85,9 +85,15 @@ module _ (login : Login) (call : Call) where
   cached_keeps part parts p new None same = same
   cached_keeps part parts p new (Some ok) same = either_keeps p.sent (is_cached p.statements ok.id) _ _ refl same
 
+  dropped_keeps : (parts : List Part) (p new : Place) (e : Option ErrPacket) → new.sent ≡ p.sent → Keeps p.sent (dropped_at login parts p new e)
+  dropped_keeps parts p new None same = refl
+  dropped_keeps parts p new (Some e) same = same
+
   payload_keeps : (part : Part) (parts : List Part) (p new : Place) (payload : List ℕ) (k : Kind) → new.sent ≡ p.sent → Keeps p.sent (after_payload login part parts p new payload k)
   payload_keeps part parts p new payload kinds.Bad same = refl
-  payload_keeps part parts p new payload kinds.Failed same = err_keeps p new (err_at (is_greeting (context_of p.talk).spot) payload) same
+  payload_keeps part parts p new payload kinds.Failed same =
+      let e = err_at (is_greeting (context_of p.talk).spot) payload in
+      either_keeps p.sent (is_drain part) _ _ (dropped_keeps parts p new e same) (err_keeps p new e same)
   payload_keeps part parts p new payload (kinds.Greets capabilities) same = either_keeps p.sent (nat_lt (limit_of p.talk) (length (response login payload))) _ _ refl same
   payload_keeps part parts p new payload (kinds.Prepared params columns) same = cached_keeps part parts p new (prepare_ok_at payload) same
   payload_keeps part parts p new payload k same =
@@ -151,6 +157,9 @@ module _ (login : Login) (call : Call) where
   of_keeps (Refuse opts ∷ parts) p = refused_keeps parts p (begin_refusal opts (version_of (facts_at login p).version) p.status)
   of_keeps (Settle status ∷ parts) p = refl
   of_keeps (GiveUp ∷ parts) p = refl
+  of_keeps (Adopt change ∷ parts) p = refl
+  of_keeps (Renew ∷ parts) p = command_keeps call parts p (Some (renewing login call p (facts_at login p)))
+  of_keeps (Drain ∷ parts) p = either_keeps p.sent p.end_left _ _ refl (either_keeps p.sent (is_over p.talk) _ _ refl (front_keeps Drain parts p (front_of p.talk p.unread)))
   of_keeps (Try ∷ parts) p = refl
   of_keeps (Back ∷ parts) p = either_keeps p.sent (is_over p.talk) _ _ (returned_keeps p p.trial) (front_keeps Back parts p (front_of p.talk p.unread))
 

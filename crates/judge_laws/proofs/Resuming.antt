@@ -89,10 +89,13 @@ is_connecting calls.TakeSet e = cc
 is_connecting calls.SkipTaken e = cc
 is_connecting calls.Ping e = cc
 is_connecting calls.Reset e = cc
+is_connecting (calls.ChangeUser change) e = cc
 is_connecting (calls.Begin opts) e = cc
 is_connecting calls.Commit e = cc
 is_connecting calls.Rollback e = cc
 is_connecting calls.ForgetTransaction e = cc
+is_connecting calls.CleanForPool e = cc
+is_connecting calls.ResetForPool e = cc
 is_connecting calls.Quit e = cc
 
 made_ready : (answer : Answer) → may_be (kind_of calls.Connect) (told answer) ≡ true → answer ≡ answers.Ready
@@ -231,10 +234,13 @@ module _ (login : Login) (t : Tape) (all : AreCalls login (reading login t).call
           not_next calls.SkipTaken e f = cc
           not_next calls.Ping e f = cc
           not_next calls.Reset e f = cc
+          not_next (calls.ChangeUser change) e f = cc
           not_next (calls.Begin opts) e f = cc
           not_next calls.Commit e f = cc
           not_next calls.Rollback e f = cc
           not_next calls.ForgetTransaction e f = cc
+          not_next calls.CleanForPool e f = cc
+          not_next calls.ResetForPool e f = cc
           not_next calls.Quit e f = cc
   polls_on false k a x made o us kp once con None rs has r = by_skip (is_skip (kind_of a.call)) refl r
     where

@@ -32,7 +32,7 @@ use Rattle.judge_laws.proofs.Going.{shown_tape}
 use Rattle.judge_laws.proofs.Tying.{AtWalk}
 use Rattle.judge_laws.proofs.Gathering.{HasTape}
 use Rattle.judge_laws.proofs.Stepping.{LineSo, OpenAs, Spotted, StepSo, Tied, is_there, same_number}
-use Rattle.judge_laws.proofs.Calling.{Asks, asks_begin, asks_close, asks_commit, asks_drop, asks_execute, asks_forget, asks_item, asks_next, asks_ping, asks_prepare, asks_query, asks_quit, asks_reset, asks_rollback, calls_so, collects_so, tells_so}
+use Rattle.judge_laws.proofs.Calling.{Asks, asks_begin, asks_close, asks_commit, asks_drop, asks_execute, asks_forget, asks_item, asks_next, asks_ping, asks_prepare, asks_query, asks_quit, asks_reset, asks_user, asks_rollback, calls_so, collects_so, tells_so}
 use Rattle.judge_laws.proofs.Streaming.{lets_go_so, streams_so}
 use Rattle.judge_laws.proofs.Resuming.{cancels_so, dials_so, goes_on_so}
 
@@ -146,6 +146,7 @@ names_one (steps.Collect n) m e = refl
 names_one (steps.Drop n) m e = refl
 names_one (steps.Ping n) m e = refl
 names_one (steps.Reset n) m e = refl
+names_one (steps.User n change) m e = refl
 names_one (steps.Begin n opts) m e = refl
 names_one (steps.Commit n) m e = refl
 names_one (steps.Rollback n) m e = refl
@@ -408,6 +409,7 @@ module _ (login : Login) (t : Tape) (all : AreCalls login (reading login t).call
   line_so here found statement plans hs ts (steps.Drop m) o us same once r has = asked_line here statement m (steps.Drop m) calls.DropResult (asks_drop m statement) (always n here (is_some statement) (steps.Drop m) refl refl refl refl) hs ts o us r has
   line_so here found statement plans hs ts (steps.Ping m) o us same once r has = asked_line here statement m (steps.Ping m) calls.Ping (asks_ping m statement) (always n here (is_some statement) (steps.Ping m) refl refl refl refl) hs ts o us r has
   line_so here found statement plans hs ts (steps.Reset m) o us same once r has = asked_line here statement m (steps.Reset m) calls.Reset (asks_reset m statement) (always n here (is_some statement) (steps.Reset m) refl refl refl refl) hs ts o us r has
+  line_so here found statement plans hs ts (steps.User m change) o us same once r has = asked_line here statement m (steps.User m change) (calls.ChangeUser change) (asks_user m statement change) (always n here (is_some statement) (steps.User m change) refl refl refl refl) hs ts o us r has
   line_so here found statement plans hs ts (steps.Begin m opts) o us same once r has = asked_line here statement m (steps.Begin m opts) (calls.Begin opts) (asks_begin m statement opts) (always n here (is_some statement) (steps.Begin m opts) refl refl refl refl) hs ts o us r has
   line_so here found statement plans hs ts (steps.Commit m) o us same once r has = where_found here found statement m (steps.Commit m) calls.Commit (asks_commit m statement) refl refl (either (λ b. is_unprepared n b (steps.Commit m)) refl refl) same hs ts o us r has
   line_so here found statement plans hs ts (steps.Rollback m) o us same once r has = where_found here found statement m (steps.Rollback m) calls.Rollback (asks_rollback m statement) refl refl (either (λ b. is_unprepared n b (steps.Rollback m)) refl refl) same hs ts o us r has

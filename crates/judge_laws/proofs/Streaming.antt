@@ -63,10 +63,13 @@ skip_call calls.TakeSet e = cc
 skip_call calls.SkipTaken e = refl
 skip_call calls.Ping e = cc
 skip_call calls.Reset e = cc
+skip_call (calls.ChangeUser change) e = cc
 skip_call (calls.Begin opts) e = cc
 skip_call calls.Commit e = cc
 skip_call calls.Rollback e = cc
 skip_call calls.ForgetTransaction e = cc
+skip_call calls.CleanForPool e = cc
+skip_call calls.ResetForPool e = cc
 skip_call calls.Quit e = cc
 
 skip_ready : (answer : Answer) → may_be (kind_of calls.SkipTaken) (told answer) ≡ true → answer ≡ answers.Ready

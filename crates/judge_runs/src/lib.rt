@@ -18,3 +18,5 @@ mod statements;
 mod tables;
 #[cfg(test)]
 mod transactions;
+#[cfg(test)]
+mod users;

@@ -284,6 +284,20 @@ pub fn reset() -> [Script; 3] {
     ]
 }
 
+/// Changes of user: a statement that was cached is prepared again; one is held and polled, and another one cancelled.
+pub fn users() -> [Script; 2] {
+    [
+        plain(
+            [GREETING, PREPARED_AGAIN, ""],
+            "conn\nprep 0 DO 1\nuser 0 bob - -\nprep 0 DO 1\nping 0\n",
+        ),
+        plain(
+            [GREETING, HELD_OK, ""],
+            "conn\nuser 0 bob pw =\npoll 0\nuser 0 = = app\ncancel 0\nping 0\n",
+        ),
+    ]
+}
+
 /// Transactions: one that is given up, of which a ping tries twice to roll it back; one that is set up whole, another one in it,
 /// and its end; a server that is too old; one that is held and polled, and whose end is cancelled.
 pub fn transactions() -> [Script; 4] {

@@ -24,6 +24,7 @@ dialed_one (steps.Collect n) = omega arith
 dialed_one (steps.Drop n) = omega arith
 dialed_one (steps.Ping n) = omega arith
 dialed_one (steps.Reset n) = omega arith
+dialed_one (steps.User n change) = omega arith
 dialed_one (steps.Begin n opts) = omega arith
 dialed_one (steps.Commit n) = omega arith
 dialed_one (steps.Rollback n) = omega arith

@@ -22,6 +22,7 @@ use crate::answered::{
     is_statement,
 };
 use my_frame::Blob;
+use my_opts::ChangeUserOpts;
 use my_opts_parts::TxOpts;
 use my_params::Params;
 use my_reading::{Answer, Call, Error};
@@ -172,6 +173,15 @@ fn is_reset(call: &Call) -> bool
     }
 }
 
+fn is_change_of_user(change: &ChangeUserOpts, call: &Call) -> bool
+    ensures { Decides result (call.now ≡ Call.ChangeUser change.now) }
+{
+    match call {
+        Call::ChangeUser(other) => other == change,
+        _ => false,
+    }
+}
+
 fn is_begin(opts: TxOpts, call: &Call) -> bool
     ensures { Decides result (call.now ≡ Call.Begin opts) }
 {
@@ -232,6 +242,7 @@ fn begins(taken: bool, named: Option<&Statement>, step: &Step, call: &Call) -> b
         Step::Drop(_) => is_drop(call),
         Step::Ping(_) => is_ping(call),
         Step::Reset(_) => is_reset(call),
+        Step::User(_, change) => is_change_of_user(change, call),
         Step::Begin(_, opts) => is_begin(*opts, call),
         Step::Commit(_) => is_commit(call),
         Step::Rollback(_) => is_rollback(call),

@@ -226,6 +226,7 @@ module _ (login : Login) (plans : Plans) (reads_of : ℕ → List ReadItem) (wri
     line_so there statement hs ts (steps.Drop m) o us r = named m _ hs o us ts (λ h t. calls_go m (reads_of m) (writes_of m) login calls.DropResult o us h t) r
     line_so there statement hs ts (steps.Ping m) o us r = named m _ hs o us ts (λ h t. calls_go m (reads_of m) (writes_of m) login calls.Ping o us h t) r
     line_so there statement hs ts (steps.Reset m) o us r = named m _ hs o us ts (λ h t. calls_go m (reads_of m) (writes_of m) login calls.Reset o us h t) r
+    line_so there statement hs ts (steps.User m change) o us r = named m _ hs o us ts (λ h t. calls_go m (reads_of m) (writes_of m) login (calls.ChangeUser change) o us h t) r
     line_so there statement hs ts (steps.Begin m opts) o us r = named m _ hs o us ts (λ h t. calls_go m (reads_of m) (writes_of m) login (calls.Begin opts) o us h t) r
     line_so there statement hs ts (steps.Commit m) o us r = named m _ hs o us ts (λ h t. calls_where_go m (reads_of m) (writes_of m) there login calls.Commit o us h t) r
     line_so there statement hs ts (steps.Rollback m) o us r = named m _ hs o us ts (λ h t. calls_where_go m (reads_of m) (writes_of m) there login calls.Rollback o us h t) r

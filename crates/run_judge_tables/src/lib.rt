@@ -1,5 +1,5 @@
-//! Transcripts that `my_run_judge` finds right, and others that it refutes, each of a connection that received nothing; and
-//! dials that `my_plan_judge` finds planned, and others.
+//! Transcripts that `my_run_judge` finds right, and others that it refutes, of connections that received nothing and of one
+//! that gets another user; and dials that `my_plan_judge` finds planned, and others.
 //! This crate has tests alone.
 #![tactic(auto)]
 
@@ -9,3 +9,5 @@ mod lines;
 mod plans;
 #[cfg(test)]
 mod tables;
+#[cfg(test)]
+mod users;

@@ -16,7 +16,7 @@ use Rattle.my_reply.specs.declared.ok.OkPacket.{OkPacket}
 use Rattle.my_reading.specs.Errors.{connection_closed, io_error}
 use Rattle.my_reading.specs.Reading.{reading}
 use Rattle.my_reading.specs.Tape.{Span, TapeCall, Tape as ReadTape}
-use Rattle.my_reading.specs.Told.{Told, ToldReady, ToldRow, ToldEnd, ToldNone, ToldStatement, ToldFlag, ToldError, Dropped, told}
+use Rattle.my_reading.specs.Told.{Told, ToldReady, ToldRow, ToldEnd, ToldNone, ToldStatement, ToldFlag, ToldError, ToldPassed, Dropped, told}
 use Rattle.my_session.specs.Fits.{may_be}
 use Rattle.my_session.specs.History.{has_closed}
 use Rattle.my_session.specs.Steps.{is_refused}
@@ -73,11 +73,13 @@ ending_by NoSuchHandle = None
 abbrev pub is_told : Option Told → Bool
 is_told None = false
 is_told (Some (Dropped closing)) = false
+is_told (Some (ToldPassed e)) = false
 is_told (Some t) = true
 
 abbrev pub is_shown : Option Told → Bool
 is_shown None = true
 is_shown (Some (Dropped closing)) = false
+is_shown (Some (ToldPassed e)) = false
 is_shown (Some t) = true
 
 abbrev is_last : List Span → Bool
@@ -99,6 +101,7 @@ ending_back (Some (ToldStatement statement)) s = refl
 ending_back (Some (ToldFlag flag)) s = refl
 ending_back (Some (ToldError e)) s = refl
 ending_back (Some (Dropped closing)) s = cc
+ending_back (Some (ToldPassed e)) s = cc
 
 -- a call on a tape
 abbrev call_at : Call → ℕ → ℕ → Option Told → TapeCall
@@ -244,6 +247,7 @@ not_refused (Some (ToldStatement statement)) s same = cc
 not_refused (Some (ToldFlag flag)) s same = cc
 not_refused (Some (ToldError e)) s same = cc
 not_refused (Some (Dropped closing)) s same = cc
+not_refused (Some (ToldPassed e)) s same = cc
 
 module _ (login : Login) (plans : Plans) where
   at_went : (call : Call) (k : Kept) (x : Looks) (hs : List Handle) (o : Outcome) (us : List Use) (ms : List Handle) → hs ≡ Joined true k x ∷ [] → k.pending ≡ None → (made : Handle) → Calls login 0 call (at_number hs 0) o us made → ms ≡ put_at 0 made hs
@@ -269,12 +273,15 @@ module _ (login : Login) (plans : Plans) where
   step_went (calls.Execute prepared params) plain k x hs o us ms is rest found statement seen g = cc
   step_went (calls.Batch prepared lists) plain k x hs o us ms is rest found statement seen g = cc
   step_went (calls.CloseStmt id) plain k x hs o us ms is rest found statement seen g = cc
+  step_went calls.CleanForPool plain k x hs o us ms is rest found statement seen g = cc
+  step_went calls.ResetForPool plain k x hs o us ms is rest found statement seen g = cc
   step_went calls.NextRow plain k x hs o us ms is rest found statement seen g = at_went calls.NextRow k x hs o us ms is rest g.made g.does g.others
   step_went calls.DropResult plain k x hs o us ms is rest found statement seen g = at_went calls.DropResult k x hs o us ms is rest g.made g.does g.others
   step_went calls.TakeSet plain k x hs o us ms is rest found statement seen g = cc
   step_went calls.SkipTaken plain k x hs o us ms is rest found statement seen g = cc
   step_went calls.Ping plain k x hs o us ms is rest found statement seen g = at_went calls.Ping k x hs o us ms is rest g.made g.does g.others
   step_went calls.Reset plain k x hs o us ms is rest found statement seen g = at_went calls.Reset k x hs o us ms is rest g.made g.does g.others
+  step_went (calls.ChangeUser change) plain k x hs o us ms is rest found statement seen g = at_went (calls.ChangeUser change) k x hs o us ms is rest g.made g.does g.others
   step_went (calls.Begin opts) plain k x hs o us ms is rest found statement seen g = at_went (calls.Begin opts) k x hs o us ms is rest g.made g.does g.others
   step_went calls.Commit plain k x hs o us ms is rest found statement seen g = found_went found calls.Commit k x hs o us ms is rest g.made g.does g.others seen
   step_went calls.Rollback plain k x hs o us ms is rest found statement seen g = found_went found calls.Rollback k x hs o us ms is rest g.made g.does g.others seen

@@ -9,7 +9,7 @@ use Rattle.my_reading.specs.declared.call.CallKind.{CallKind}
 use Rattle.my_reading.specs.declared.call.CallKind.TheVariants as kinds
 use Rattle.my_reading.specs.Calls.{kind_of}
 use Rattle.my_reading.specs.Tape.{Span}
-use Rattle.my_reading.specs.Told.{Told, ToldReady, ToldRow, ToldEnd, ToldNone, ToldStatement, ToldFlag, ToldError, Dropped}
+use Rattle.my_reading.specs.Told.{Told, ToldReady, ToldRow, ToldEnd, ToldNone, ToldStatement, ToldFlag, ToldError, ToldPassed, Dropped}
 use Rattle.my_script.specs.declared.step.Step.{Step}
 use Rattle.my_script.specs.declared.step.Step.TheVariants as steps
 use Rattle.my_script.specs.declared.transcript.Outcome.{Outcome}
@@ -30,6 +30,8 @@ is_stepped kinds.SkipTaken = false
 is_stepped kinds.Execute = false
 is_stepped kinds.Batch = false
 is_stepped kinds.CloseStmt = false
+is_stepped kinds.CleanForPool = false
+is_stepped kinds.ResetForPool = false
 is_stepped c = true
 
 -- the step that makes a call on connection 0; those that no step makes are shown by none
@@ -46,10 +48,13 @@ step_of calls.TakeSet = steps.Conn
 step_of calls.SkipTaken = steps.Conn
 step_of calls.Ping = steps.Ping 0
 step_of calls.Reset = steps.Reset 0
+step_of (calls.ChangeUser change) = steps.User 0 change
 step_of (calls.Begin opts) = steps.Begin 0 opts
 step_of calls.Commit = steps.Commit 0
 step_of calls.Rollback = steps.Rollback 0
 step_of calls.ForgetTransaction = steps.ForgetTransaction 0
+step_of calls.CleanForPool = steps.Conn
+step_of calls.ResetForPool = steps.Conn
 step_of calls.Quit = steps.Quit 0
 
 -- the answer of a step whose call ended so, or is open
@@ -63,6 +68,7 @@ outcome_of (Some (ToldStatement statement)) = Prepared statement
 outcome_of (Some (ToldFlag flag)) = Flag flag
 outcome_of (Some (ToldError e)) = Failed e
 outcome_of (Some (Dropped closing)) = NoSuchHandle
+outcome_of (Some (ToldPassed e)) = NoSuchHandle
 
 -- how many bytes were received by the polls of a step
 abbrev pub taken_in : List Use → ℕ

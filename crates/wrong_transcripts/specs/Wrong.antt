@@ -8,7 +8,7 @@ use Rattle.my_reading.specs.declared.error.IoKind.TheVariants.{Link}
 use Rattle.my_reading.specs.Errors.{connection_closed, io_error, unexpected_eof, invalid_data}
 use Rattle.my_reading.specs.Told.{ToldReady, ToldRow, ToldEnd, ToldNone, ToldError}
 use Rattle.my_reading.specs.Tape.{Span}
-use Rattle.wrong_tapes.specs.Bytes.{root, connected, selected, asked, asks, returned, call_with, row, one, end, fine, refusal, head, packet, prepared, reset, begun, commits, forgotten, full_tx, other_refusal, pinged, reading_tx, rolls_back, sets_access, sets_level, starts, starts_fully}
+use Rattle.wrong_tapes.specs.Bytes.{root, connected, selected, asked, asks, returned, call_with, row, one, end, fine, refusal, head, packet, prepared, reset, changed, changes_to, found, begun, commits, forgotten, full_tx, other_refusal, pinged, reading_tx, rolls_back, sets_access, sets_level, starts, starts_fully}
 use Rattle.wrong_tapes.specs.Right.{error, other_error}
 use Rattle.wrong_transcripts.specs.Shown.{NoFields, NoTranscript}
 
@@ -38,6 +38,12 @@ pub record AreWrong : Type 0 where
   -- `reset`: the session was reset, though nothing was sent; and a server that has the command wasn't sent it
   pub silent_reset : NoneShow (reset [] [] true ∷ [])
   pub idle_reset : NoneShow (reset [] [] false ∷ [])
+  -- `user`: another user than the step's was sent; ok before the server's, or though it refused; `prep`, `user`, `prep`: the statement is in the cache
+  -- after it
+  pub old_user : NoneShow (changed (changes_to (codes "root")) (fine 1 2) ∷ [])
+  pub early_change : NoneShow (changed (changes_to (codes "bob")) [] ∷ [])
+  pub changed_by_error : NoneShow (changed (changes_to (codes "bob")) (refusal 1) ∷ [])
+  pub kept_over_change : NoneShow (prepared 1 ∷ changed (changes_to (codes "bob")) (fine 1 2) ∷ found ∷ [])
   -- `begin`, `forget`, `ping`: the transaction wasn't rolled back, or twice with a second `ping`; `begin`, `forget`: it was rolled back at once
   pub not_undone : NoneShow (begun ∷ forgotten ∷ pinged [] [] ∷ [])
   pub undone_twice : NoneShow (begun ∷ forgotten ∷ pinged rolls_back (fine 1 2) ∷ pinged rolls_back (fine 1 2) ∷ [])
