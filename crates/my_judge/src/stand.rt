@@ -58,7 +58,8 @@ pub struct Stand {
 
 // The queries that set the connection up, and the statements that are known before the first call.
 fn first_known(alloc: Global, login: &Login) -> Result<(Listed<Blob>, Statements), NoMemory>
-    ensures { IfOk result (λ known. (known.0 ≡ arranging_texts login.now) × (known.1 ≡ first_statements login.now)) }
+    ensures texts { IfOk result (λ known. known.0 ≡ arranging_texts login.now) }
+    ensures statements { IfOk result (λ known. known.1 ≡ first_statements login.now) }
 {
     let texts = arranging_texts(alloc, login)?;
     match Statements::new(alloc, login) {
