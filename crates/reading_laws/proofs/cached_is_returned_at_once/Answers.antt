@@ -1,5 +1,5 @@
-use Rattle.statement_laws.proofs.Finding as law
-use Rattle.statement_laws.proofs.cached_is_returned_at_once.Goals as goal
+use Rattle.reading_laws.proofs.Finding as law
+use Rattle.reading_laws.proofs.cached_is_returned_at_once.Goals as goal
 
 pub returns-clause-cached : goal.returns-clause-cached
 returns-clause-cached c = law.cached_is_returned

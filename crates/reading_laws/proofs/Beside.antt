@@ -33,8 +33,8 @@ use Rattle.my_reading.specs.Place.{Exchange, Place, client_side, exchanges, fact
 use Rattle.my_reading.specs.Statements.{Statements, is_cached, with_columns}
 use Rattle.my_reading.specs.Told.{Told, ToldReady, ToldError}
 use Rattle.my_reading.specs.Transactions.{is_given_up, rollback_text, rolled_back}
-use Rattle.statement_laws.specs.Batches.{AlikePlaces}
-use Rattle.statement_laws.proofs.Phases.{IsRefused}
+use Rattle.reading_laws.specs.Batches.{AlikePlaces}
+use Rattle.reading_laws.proofs.Phases.{IsRefused}
 
 -- a step that goes on leaves less of this
 abbrev pub weight : Bool → ℕ

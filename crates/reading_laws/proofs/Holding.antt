@@ -15,9 +15,9 @@ use Rattle.my_reading.specs.Commands.{closing}
 use Rattle.my_reading.specs.Course.{learned, is_rows}
 use Rattle.my_reading.specs.Place.{Exchange, Place, exchanges, with_exchange, with_statements, with_talk}
 use Rattle.my_reading.specs.Statements.{Statements, cleared, held_in, is_cached, leaving, with_columns, with_fetched, with_new, with_prepared, without_statement}
-use Rattle.statement_laws.specs.Kept.{EachIsKept, IsFreed, IsKept, Resets, prepared_in}
-use Rattle.statement_laws.proofs.Lists.{any_fronted, any_left, few_fronted, few_left, new_few, new_is_there, stays_or_leaves}
-use Rattle.statement_laws.proofs.Talks.{IsFresh, grown_done, grown_fresh, is_open, is_failed, ComesFresh, refused_done}
+use Rattle.reading_laws.specs.Kept.{EachIsKept, IsFreed, IsKept, Resets, prepared_in}
+use Rattle.reading_laws.proofs.Lists.{any_fronted, any_left, few_fronted, few_left, new_few, new_is_there, stays_or_leaves}
+use Rattle.reading_laws.proofs.Talks.{IsFresh, grown_done, grown_fresh, is_open, is_failed, ComesFresh, refused_done}
 
 -- each statement is kept, but those with P
 abbrev pub EachBut : (ℕ → Type 0) → Statements → List Exchange → List Exchange → Type 0

@@ -15,10 +15,10 @@ use Rattle.my_reading.specs.declared.transaction.Trial.{Trial}
 use Rattle.my_reading.specs.declared.transaction.Trial.TheVariants.{Refused}
 use Rattle.my_reading.specs.Statements.{held_in, query_of}
 use Rattle.my_reading.specs.Told.{ToldReady, ToldRow, ToldEnd, ToldNone, ToldStatement, ToldFlag, ToldError, ToldPassed, Dropped}
-use Rattle.statement_laws.specs.Kept.{Resets, is_answered, is_reset, is_settled, leaves_open}
-use Rattle.statement_laws.proofs.Cleaning.{Cleans}
-use Rattle.statement_laws.proofs.Having.{StopsHave}
-use Rattle.statement_laws.proofs.Holding.{Holds, HoldsBefore, HoldsBut}
+use Rattle.reading_laws.specs.Kept.{Resets, is_answered, is_reset, is_settled, leaves_open}
+use Rattle.reading_laws.proofs.Cleaning.{Cleans}
+use Rattle.reading_laws.proofs.Having.{StopsHave}
+use Rattle.reading_laws.proofs.Holding.{Holds, HoldsBefore, HoldsBut}
 
 -- the parts that touch no statement that is cached
 abbrev pub is_plain_part : Part → Bool

@@ -12,3 +12,6 @@ pub mod Ending
 pub mod Finding
 pub mod Beside
 pub mod Batching
+pub mod Knowing
+pub mod Settling
+pub mod Cleaned

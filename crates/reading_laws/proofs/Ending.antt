@@ -9,8 +9,8 @@ use Rattle.my_reading.specs.Endings.{AreCalls, Ends, IsCut, IsOpen, IsCancelled,
 use Rattle.my_reading.specs.Place.{Place, first_place}
 use Rattle.my_reading.specs.Reading.{ReadCall, halt_of, is_closing, read_calls, reading}
 use Rattle.my_reading.specs.Tape.{Span, spans}
-use Rattle.statement_laws.specs.Kept.{AllEnded, AllSettled, OpenAreKept, is_ended, is_settled}
-use Rattle.statement_laws.proofs.Running.{or_settled, settled_are_kept}
+use Rattle.reading_laws.specs.Kept.{AllEnded, AllSettled, OpenAreKept, is_ended, is_settled}
+use Rattle.reading_laws.proofs.Running.{or_settled, settled_are_kept}
 
 -- a call that was cut off is open, or closes the session
 module _ (login : Login) (c : ReadCall) (call : Call) (whole : c.span.call ≡ call) (closing : closes_cancelled (kind_of call) c.halt.place ≡ true)

@@ -15,9 +15,9 @@ use Rattle.my_reading.specs.Course.{Undo, Back, refused_at, returned, step_of, u
 use Rattle.my_reading.specs.Errors.{server_error}
 use Rattle.my_reading.specs.Place.{Place, exchanges, terms_of, with_exchange, with_status, with_talk, with_trial}
 use Rattle.my_reading.specs.Transactions.{is_given_up, rollback_text}
-use Rattle.statement_laws.proofs.Having.{begun_has, either, reads_have}
-use Rattle.statement_laws.proofs.Holding.{grown_holds, opened_holds}
-use Rattle.statement_laws.proofs.Phases.{IsFine, IsRefused, Unanswered, Reverting, Returning, stopped_fine}
+use Rattle.reading_laws.proofs.Having.{begun_has, either, reads_have}
+use Rattle.reading_laws.proofs.Holding.{grown_holds, opened_holds}
+use Rattle.reading_laws.proofs.Phases.{IsFine, IsRefused, Unanswered, Reverting, Returning, stopped_fine}
 
 -- after an ERR, where all is kept
 pub refused_fine : (call : Call) (trial : Trial) (new : Place) (e : ServerError) → Unanswered call new → IsFine call (refused_at trial new e)

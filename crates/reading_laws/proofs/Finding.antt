@@ -22,11 +22,11 @@ use Rattle.my_reading.specs.Statements.{held_in, is_mixed_text, leaving, names_o
 use Rattle.my_reading.specs.Told.{ToldStatement}
 use Rattle.my_reading.specs.Transactions.{is_given_up, rollback_text}
 use Rattle.my_reading.proofs.Leading.{leads_to_course}
-use Rattle.statement_laws.specs.Found.{CachedIsReturned, OthersAreAskedFor}
-use Rattle.statement_laws.specs.Kept.{is_answered}
-use Rattle.statement_laws.proofs.Phases.{IsRefused, answer_leaves_open}
-use Rattle.statement_laws.proofs.Cleaning.{Cleans, Reads, cleans_have}
-use Rattle.statement_laws.proofs.Having.{StopsHave, begun_has, either, reads_have}
+use Rattle.reading_laws.specs.Found.{CachedIsReturned, OthersAreAskedFor}
+use Rattle.reading_laws.specs.Kept.{is_answered}
+use Rattle.reading_laws.proofs.Phases.{IsRefused, answer_leaves_open}
+use Rattle.reading_laws.proofs.Cleaning.{Cleans, Reads, cleans_have}
+use Rattle.reading_laws.proofs.Having.{StopsHave, begun_has, either, reads_have}
 
 -- what follows the looking for it
 abbrev rest : List Part

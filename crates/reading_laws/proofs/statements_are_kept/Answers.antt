@@ -1,6 +1,6 @@
-use Rattle.statement_laws.proofs.Ending.{open_are_kept}
-use Rattle.statement_laws.proofs.Running as law
-use Rattle.statement_laws.proofs.statements_are_kept.Goals as goal
+use Rattle.reading_laws.proofs.Ending.{open_are_kept}
+use Rattle.reading_laws.proofs.Running as law
+use Rattle.reading_laws.proofs.statements_are_kept.Goals as goal
 
 pub returns-clause-returned : goal.returns-clause-returned
 returns-clause-returned c = law.statements_are_kept

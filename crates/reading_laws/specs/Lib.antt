@@ -1,3 +1,4 @@
 pub mod Kept
 pub mod Found
 pub mod Batches
+pub mod Cleaned

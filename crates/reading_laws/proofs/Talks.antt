@@ -16,7 +16,7 @@ use Rattle.my_grammar.specs.Sets.{at_most_one, each}
 use Rattle.my_grammar.specs.Talk.{Talk, Start, Unwelcome, Greeted, Settled, Asked, Replied, Queried, Preparing, Silent, packets_of}
 use Rattle.my_reading.specs.declared.facts.Facts.{Facts}
 use Rattle.my_reading.specs.Facts.{facts_by, with_field as learn_field, with_head as learn_head, with_parameter as learn_parameter}
-use Rattle.statement_laws.specs.Kept.{id_in_reply, prepared_in}
+use Rattle.reading_laws.specs.Kept.{id_in_reply, prepared_in}
 
 -- whether a reply to a statement to prepare is awaited
 abbrev pub is_open_reply : Reply → Bool

@@ -7,10 +7,10 @@ use Rattle.my_reading.specs.Course.{Stop, Awaits, Step, Goes, Stops, course, eno
 use Rattle.my_reading.specs.Place.{Place, exchanges, first_place, with_bytes}
 use Rattle.my_reading.specs.Reading.{ReadCall, halt_of, is_closing, read_calls, reading}
 use Rattle.my_reading.specs.Tape.{Span, spans}
-use Rattle.statement_laws.specs.Kept.{AllReturned, AllSettled, SettledAreKept, StatementsAreKept, is_answered, is_settled}
-use Rattle.statement_laws.proofs.Holding.{Holds, each_is_kept}
-use Rattle.statement_laws.proofs.Phases.{IsFine, answer_leaves_open, stopped_fine}
-use Rattle.statement_laws.proofs.Stepping.{begins_fine, step_fine}
+use Rattle.reading_laws.specs.Kept.{AllReturned, AllSettled, SettledAreKept, StatementsAreKept, is_answered, is_settled}
+use Rattle.reading_laws.proofs.Holding.{Holds, each_is_kept}
+use Rattle.reading_laws.proofs.Phases.{IsFine, answer_leaves_open, stopped_fine}
+use Rattle.reading_laws.proofs.Stepping.{begins_fine, step_fine}
 
 run_holds : (n : ℕ) (login : Login) (call : Call) (s : Step) → IsFine call s → is_settled call (run n login call s).stop ≡ true → Holds (run n login call s).place
 unfolding run

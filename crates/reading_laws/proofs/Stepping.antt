@@ -30,14 +30,14 @@ use Rattle.my_reading.specs.Errors.{server_error}
 use Rattle.my_reading.specs.Transactions.{begin_refusal, begin_texts, given_up, is_given_up, rollback_text, rolled_back}
 use Rattle.my_reading.specs.Versions.{can_reset}
 use Rattle.my_reading.specs.Told.{Told}
-use Rattle.statement_laws.specs.Kept.{prepared_in}
-use Rattle.statement_laws.proofs.Cleaning.{Cleans, Reads, cleans_have}
-use Rattle.statement_laws.proofs.Having.{Comes, begun_has, command_has, drains_have, either, reads_have}
-use Rattle.statement_laws.proofs.Holding.{Holds, HoldsBefore, HoldsBut, cleared_holds, closing_holds, fetched_holds, forgotten_holds, grown_before, grown_holds, learned_holds, opened_before, opened_holds, prepared_holds, refused_holds, weaker_holds}
-use Rattle.statement_laws.proofs.Talks.{is_open, over_is_done, whole_talk}
-use Rattle.statement_laws.proofs.Phases.{IsFine, Phase, Steady, Finding, Clearing, Asking, Replying, Keeping, Giving, Forgetting, Passing, Closing, Offering, Adopting, ByRenewal, Readying, Commanding, Awaiting, Reverting, Returning, Emptying, closing_stops, is_plain, prepares, preparing_stops, stopped_fine}
-use Rattle.statement_laws.proofs.Reverting.{refused_fine, returning, reverting}
-use Rattle.statement_laws.proofs.Resetting.{awaiting, commanding, offering, readying}
+use Rattle.reading_laws.specs.Kept.{prepared_in}
+use Rattle.reading_laws.proofs.Cleaning.{Cleans, Reads, cleans_have}
+use Rattle.reading_laws.proofs.Having.{Comes, begun_has, command_has, drains_have, either, reads_have}
+use Rattle.reading_laws.proofs.Holding.{Holds, HoldsBefore, HoldsBut, cleared_holds, closing_holds, fetched_holds, forgotten_holds, grown_before, grown_holds, learned_holds, opened_before, opened_holds, prepared_holds, refused_holds, weaker_holds}
+use Rattle.reading_laws.proofs.Talks.{is_open, over_is_done, whole_talk}
+use Rattle.reading_laws.proofs.Phases.{IsFine, Phase, Steady, Finding, Clearing, Asking, Replying, Keeping, Giving, Forgetting, Passing, Closing, Offering, Adopting, ByRenewal, Readying, Commanding, Awaiting, Reverting, Returning, Emptying, closing_stops, is_plain, prepares, preparing_stops, stopped_fine}
+use Rattle.reading_laws.proofs.Reverting.{refused_fine, returning, reverting}
+use Rattle.reading_laws.proofs.Resetting.{awaiting, commanding, offering, readying}
 
 -- what other calls begin prepares nothing
 PreparesNothing : Talk → Type 0

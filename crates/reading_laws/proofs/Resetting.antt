@@ -28,13 +28,13 @@ use Rattle.my_reading.specs.Course.{Part, All, Command, Clear, Goes, clean, step
 use Rattle.my_reading.specs.Errors.{server_error}
 use Rattle.my_reading.specs.Place.{Place, exchanges, facts_at, terms_of, with_exchange, with_talk, without_end}
 use Rattle.my_reading.specs.Transactions.{rollback_text}
-use Rattle.statement_laws.specs.Kept.{Resets, is_reset}
-use Rattle.statement_laws.proofs.Cleaning.{Cleans, Reads, cleans_have}
-use Rattle.statement_laws.proofs.Having.{Comes, begun_has, either, reads_have}
-use Rattle.statement_laws.proofs.Holding.{Holds, grown_holds, grown_resets, opened_holds}
-use Rattle.statement_laws.proofs.Talks.{is_failed}
-use Rattle.statement_laws.proofs.Reverting.{refused_fine}
-use Rattle.statement_laws.proofs.Phases.{ByCommand, ByRenewal, IsFine, IsResetting, Phase, Readying, Commanding, Awaiting, Emptying, Renewing, is_plain, prepares}
+use Rattle.reading_laws.specs.Kept.{Resets, is_reset}
+use Rattle.reading_laws.proofs.Cleaning.{Cleans, Reads, cleans_have}
+use Rattle.reading_laws.proofs.Having.{Comes, begun_has, either, reads_have}
+use Rattle.reading_laws.proofs.Holding.{Holds, grown_holds, grown_resets, opened_holds}
+use Rattle.reading_laws.proofs.Talks.{is_failed}
+use Rattle.reading_laws.proofs.Reverting.{refused_fine}
+use Rattle.reading_laws.proofs.Phases.{ByCommand, ByRenewal, IsFine, IsResetting, Phase, Readying, Commanding, Awaiting, Emptying, Renewing, is_plain, prepares}
 
 -- where one OK or ERR is awaited, what is neither bad nor an ERR is an OK
 good_alone : (q : List ℕ) (k : Kind) → single_kind q ≡ k → is_bad k ≡ false → is_failed k ≡ false → (status : StatusFlags) × (k ≡ kinds.Good status)

@@ -14,7 +14,7 @@ use Rattle.my_reading.specs.Course.{Part, All, Undo, Undone, Step, Goes, refused
 use Rattle.my_reading.specs.Errors.{server_error}
 use Rattle.my_reading.specs.Place.{Place, exchanges, terms_of, with_exchange, with_status, with_talk, without_end}
 use Rattle.my_reading.specs.Transactions.{is_given_up, rollback_text, rolled_back}
-use Rattle.statement_laws.proofs.Having.{StopsHave, begun_has, either, reads_have}
+use Rattle.reading_laws.proofs.Having.{StopsHave, begun_has, either, reads_have}
 
 -- What is left of a call's cleaning, before these parts.
 pub data Cleans (parts : List Part) : List Part → Type 0 where

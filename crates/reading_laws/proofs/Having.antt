@@ -19,8 +19,8 @@ use Rattle.my_reading.specs.Errors.{server_error}
 use Rattle.my_reading.specs.Place.{Place, with_exchange, with_talk}
 use Rattle.my_reading.specs.Statements.{is_cached}
 use Rattle.my_reading.specs.Told.{Told}
-use Rattle.statement_laws.specs.Kept.{leaves_open}
-use Rattle.statement_laws.proofs.Talks.{ComesFresh, is_failed}
+use Rattle.reading_laws.specs.Kept.{leaves_open}
+use Rattle.reading_laws.proofs.Talks.{ComesFresh, is_failed}
 
 -- a property of steps that each stop at a place has by which a call that prepares a statement closes the session, or is left open
 abbrev pub StopsHave : (Step → Type 0) → Place → Type 0

@@ -15,8 +15,8 @@ use Rattle.my_reading.specs.Place.{Place, owed, with_status, without_end}
 use Rattle.my_reading.specs.Told.{ToldReady, ToldRow, ToldEnd, ToldNone, ToldStatement, ToldFlag, ToldError, ToldPassed, Dropped}
 use Rattle.my_reading.specs.Transactions.{is_given_up, rolled_back}
 use Rattle.my_reading.proofs.Leading.{leads_to_course}
-use Rattle.statement_laws.specs.Batches.{Alike, AlikePlaces, BatchesAreExecutions, all_done, executions, then_go}
-use Rattle.statement_laws.proofs.Beside.{Beside, BothAll, BothHead, BothLearn, BothCheck, BothUndo, Sent, Pairs, End, More, Calms, Alone, Calm, Placed, Paired, Resting, Reverting, Returning, is_calm, is_placed, is_ready, returns_beside, reverts_beside, side_same, size, steps_beside}
+use Rattle.reading_laws.specs.Batches.{Alike, AlikePlaces, BatchesAreExecutions, all_done, executions, then_go}
+use Rattle.reading_laws.proofs.Beside.{Beside, BothAll, BothHead, BothLearn, BothCheck, BothUndo, Sent, Pairs, End, More, Calms, Alone, Calm, Placed, Paired, Resting, Reverting, Returning, is_calm, is_placed, is_ready, returns_beside, reverts_beside, side_same, size, steps_beside}
 
 -- where these parts of a call lead, and how it stops there
 record Comes (login : Login) (call : Call) (parts : List Part) (p : Place) (h : Halt) : Type 0 where

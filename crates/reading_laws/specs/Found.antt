@@ -7,7 +7,7 @@ use Rattle.my_reading.specs.Place.{Place, exchanges, owed, with_statements}
 use Rattle.my_reading.specs.Statements.{held_in, is_mixed_text, names_of, query_of, statement_with, with_fetched}
 use Rattle.my_reading.specs.Told.{ToldStatement}
 use Rattle.my_statements.specs.Cache.{Held}
-use Rattle.statement_laws.specs.Kept.{is_answered}
+use Rattle.reading_laws.specs.Kept.{is_answered}
 
 -- A statement that is cached is returned at once, with no exchange and as the one that was used last.
 abbrev pub CachedIsReturned : Type 0

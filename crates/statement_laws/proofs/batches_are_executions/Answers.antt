@@ -1,5 +1,0 @@
-use Rattle.statement_laws.proofs.Batching as law
-use Rattle.statement_laws.proofs.batches_are_executions.Goals as goal
-
-pub returns : goal.returns
-returns c = law.batches_are_executions
