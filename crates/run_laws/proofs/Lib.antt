@@ -1,2 +1,4 @@
+pub mod Growing
 pub mod Connecting
 pub mod Tapes
+pub mod Ordering

@@ -1,10 +1,13 @@
 //! What follows of the headline.
 #![tactic(auto)]
 
+ghost use Rattle.run_laws.specs.Order.{EachTapeIsInOrder};
 ghost use Rattle.run_laws.specs.Tapes.{EachTapeIsRead};
 
 /// At the end of a run each connection's tape is one of a client that logs in so, by the reading of my_reading: so the tapes
-/// that a transcript prints are beginnings of conversations that begin with one handshake.
+/// that a transcript prints are beginnings of conversations that begin with one handshake (`read`). Its calls stand in order:
+/// the first one begins with the first bytes, each other one after those before it, and only the newest may be open (`order`).
 pub fn each_tape_is_read()
-    ensures { EachTapeIsRead }
+    ensures read { EachTapeIsRead }
+    ensures order { EachTapeIsInOrder }
 {}

@@ -1,0 +1,250 @@
+-- A property of what connections keep that holds of a handshake that begins, and stays as calls begin, go on and end, holds at each number
+-- of a run.
+use Rattle.std.proofs.Common.{ℕ, ◌≡◌, zero, suc, List, [], ◌∷◌, ◌++◌, Bool, true, false, Option, Some, None, refl, sym, ap, ◌∙◌, subst}
+use Rattle.my_value.specs.RowParts.{RowParts}
+use Rattle.my_params.specs.declared.params.Params.{Params}
+use Rattle.my_statements.specs.Prepared.{StatementView}
+use Rattle.my_grammar.specs.declared.login.Login.{Login}
+use Rattle.my_link.specs.declared.dialer.DialItem.{DialItem}
+use Rattle.my_link.specs.declared.link.ReadItem.{ReadItem}
+use Rattle.my_link.specs.declared.link.WriteItem.{WriteItem}
+use Rattle.my_link.specs.declared.met.Met.{Met}
+use Rattle.my_link.specs.Looks.{Looks}
+use Rattle.my_link.specs.Moves.{Stop}
+use Rattle.my_reading.specs.declared.answer.Answer.TheVariants as answers
+use Rattle.my_reading.specs.declared.call.Call.{Call}
+use Rattle.my_reading.specs.declared.call.Call.TheVariants as calls
+use Rattle.my_reading.specs.Calls.{kind_of, is_connect}
+use Rattle.my_session.specs.History.{has_closed}
+use Rattle.my_session.specs.Steps.{is_refused}
+use Rattle.my_script.specs.declared.step.Step.{Step}
+use Rattle.my_script.specs.declared.step.Step.TheVariants as steps
+use Rattle.my_script.specs.declared.transcript.Outcome.{Outcome}
+use Rattle.my_script.specs.declared.transcript.Use.{Use}
+use Rattle.my_script.specs.Numbered.{named_statement, statement_named}
+use Rattle.my_script.specs.Streams.{is_skip, target}
+use Rattle.my_client.specs.declared.poll.After.{After}
+use Rattle.my_client.specs.declared.poll.After.TheVariants as after
+use Rattle.my_client.specs.declared.tape.Said.{Said}
+use Rattle.my_client.specs.Causes.{PollEnds, IsPolled}
+use Rattle.my_client.specs.Kept.{Asked, Kept, made_of, asking, asked_by, ended_by, first_asked, first_kept}
+use Rattle.my_world.specs.World.{Plans}
+use Rattle.my_steps.specs.Grows.{Line, IsRefused, OnConnection, PolledOnce, IsClosed, Begins, BeginsOn, Calls, ConnectShows, Connects, Dials, Holds, Fails, Links, Gathers, GathersOn, Collects, CollectsOn, CollectsAt, PollsOn, PollsCall, ThenTakes, Skips, Takes, TakesOn, StreamsAt, CallsWhere, LetsGoWith, UnstreamsAt, ExecutesAt, ClosesAt, GoesOnWith, GoesOn, CancelsWith, Cancels, TellsWith, TellsFields, At, StepGrows, AreGrown, gathered, next_asked, handles_after, is_done, is_found, statements_of, skips_first}
+use Rattle.my_steps.specs.Handle.{Handle, Absent, Dialing, Joined, at_number, put_at}
+
+-- what is at a number has the property
+abbrev pub HasAt : (Kept → Type 0) → Handle → Type 0
+HasAt P Absent = Unit {0}
+HasAt P (Dialing left) = Unit {0}
+HasAt P (Joined there k x) = P k
+
+abbrev pub AllHave : (Kept → Type 0) → List Handle → Type 0
+AllHave P [] = Unit {0}
+AllHave P (h ∷ hs) = HasAt P h × AllHave P hs
+
+module _ (P : Kept → Type 0)
+    (begun : (k : Kept) (call : Call) (rows : Option (List RowParts)) → k.pending ≡ None → is_connect (kind_of call) ≡ false → P k → P (asking k call rows))
+    (ended : (k : Kept) (a : Asked) (said : Said) → k.pending ≡ Some a → P k → P (ended_by k a said))
+    (followed : (k f : Kept) (sent taken : List ℕ) → f.sent ≡ k.sent ++ sent → f.taken ≡ k.taken ++ taken → f.calls ≡ k.calls → f.pending ≡ k.pending → P k → P f)
+    (first : P first_kept) where
+  module _ (login : Login) where
+    poll_keeps : (a : Asked) (b end : Kept) (u : Met) (st : Stop) (p : After) → b.pending ≡ Some a → P b → PollEnds login a b u st p end → P end
+    poll_keeps a b end u st after.Pending e w r = subst P (sym r.0) w
+    poll_keeps a b end u st (after.Answered answer) e w r = subst P (sym r.0) (ended b a _ e w)
+    poll_keeps a b end u st (after.Failed x) e w r = subst P (sym r.0) (ended b a _ e w)
+
+    polled_keeps : (a : Asked) (k end : Kept) (x y : Looks) (u : Met) (p : After) → k.pending ≡ Some a → P k → IsPolled login a k x u p end y → P end
+    polled_keeps a k end x y u p e w r =
+        poll_keeps a r.following end u r.stop p r.pending (followed k r.following r.sent r.taken r.sent_is r.taken_is r.calls (r.pending ∙ sym e) w) r.ends
+
+    -- what each step leaves at its number
+    refused_keeps : (h : Handle) (o : Outcome) (us : List Use) (t : Handle) → HasAt P h → IsRefused h o us t → HasAt P t
+    refused_keeps h o us t w r = subst (HasAt P) (sym r.same) w
+
+    closed_keeps : (k : Kept) (x : Looks) (call : Call) (o : Outcome) (us : List Use) (t : Handle) → k.pending ≡ None → is_connect (kind_of call) ≡ false → P k → IsClosed k x call o us t → HasAt P t
+    closed_keeps k x call o us t none other w r = subst (HasAt P) (sym r.left) (ended (asking k call None) (asked_by k call) _ refl (begun k call None none other w))
+
+    once_keeps : (n : ℕ) (a : Asked) (k : Kept) (x : Looks) (o : Outcome) (us : List Use) (t : Handle) → k.pending ≡ Some a → P k → PolledOnce login n a k x o us t → HasAt P t
+    once_keeps n a k x o us t e w r = subst (HasAt P) (sym r.left) (polled_keeps a k r.end x r.link r.used.met r.after e w r.polled)
+
+    begins_keeps : (b : Bool) (n : ℕ) (call : Call) (k : Kept) (x : Looks) (o : Outcome) (us : List Use) (t : Handle) → k.pending ≡ None → is_connect (kind_of call) ≡ false → P k → Begins b login n call k x o us t → HasAt P t
+    begins_keeps true n call k x o us t none other w r = closed_keeps k x call o us t none other w r
+    begins_keeps false n call k x o us t none other w r = once_keeps n (asked_by k call) (asking k call None) x o us t refl (begun k call None none other w) r
+
+    begins_on : (q : Option Asked) (n : ℕ) (call : Call) (k : Kept) (x : Looks) (o : Outcome) (us : List Use) (t : Handle) → k.pending ≡ q → is_connect (kind_of call) ≡ false → P k → BeginsOn q login n call k x o us t → HasAt P t
+    begins_on None n call k x o us t e other w r = begins_keeps (is_refused (has_closed (made_of k.calls)) (kind_of call)) n call k x o us t e other w r
+    begins_on (Some a) n call k x o us t e other w r = refused_keeps (Joined true k x) o us t w r
+
+    on_keeps : (R : Kept → Looks → Outcome → List Use → Handle → Type 0) (o : Outcome) (us : List Use) (h t : Handle) → ((k : Kept) (x : Looks) → P k → R k x o us t → HasAt P t) → HasAt P h → OnConnection R h o us t → HasAt P t
+    on_keeps R o us Absent t on w r = refused_keeps Absent o us t w r
+    on_keeps R o us (Dialing left) t on w r = refused_keeps (Dialing left) o us t w r
+    on_keeps R o us (Joined false k x) t on w r = refused_keeps (Joined false k x) o us t w r
+    on_keeps R o us (Joined true k x) t on w r = on k x w r
+
+    calls_keeps : (n : ℕ) (call : Call) (o : Outcome) (us : List Use) (h t : Handle) → is_connect (kind_of call) ≡ false → HasAt P h → Calls login n call h o us t → HasAt P t
+    calls_keeps n call o us h t other = on_keeps (λ k. BeginsOn k.pending login n call k) o us h t (λ k x. begins_on k.pending n call k x o us t refl other)
+
+    -- a gathering
+    gathers_on : (More : Asked → Kept → Looks → Outcome → Handle → Type 0) (us : List Use) (a : Asked) (b end : Kept) (u : Met) (st : Stop) (y : Looks) (o : Outcome) (t : Handle) (p : After) → ((c : Asked) (k : Kept) (z : Looks) → k.pending ≡ Some c → P k → More c k z o t → HasAt P t) → P end → PollEnds login a b u st p end → GathersOn More a p end y o us t → HasAt P t
+    gathers_on More us a b end u st y o t after.Pending f w e r = subst (HasAt P) (sym r.2) w
+    gathers_on More us a b end u st y o t (after.Answered answers.Ready) f w e r = subst (HasAt P) (sym r.2) w
+    gathers_on More us a b end u st y o t (after.Answered (answers.Row row)) f w e r = f (next_asked end (gathered a ++ row ∷ [])) (asking end calls.NextRow (Some (gathered a ++ row ∷ []))) y refl (begun end calls.NextRow (Some (gathered a ++ row ∷ [])) (ap (λ (k : Kept). k.pending) e.0) refl w) r
+    gathers_on More us a b end u st y o t (after.Answered answers.SetEnd) f w e r = subst (HasAt P) (sym r.2) w
+    gathers_on More us a b end u st y o t (after.Answered answers.NoSet) f w e r = subst (HasAt P) (sym r.2) w
+    gathers_on More us a b end u st y o t (after.Answered (answers.Stmt s)) f w e r = subst (HasAt P) (sym r.2) w
+    gathers_on More us a b end u st y o t (after.Answered (answers.Flag flag)) f w e r = subst (HasAt P) (sym r.2) w
+    gathers_on More us a b end u st y o t (after.Failed x) f w e r = subst (HasAt P) (sym r.2) w
+
+    gathers_keeps : (n : ℕ) (us : List Use) (a : Asked) (k : Kept) (x : Looks) (o : Outcome) (t : Handle) → k.pending ≡ Some a → P k → Gathers login n us a k x o t → HasAt P t
+    gathers_keeps n [] a k x o t e w r = absurd r
+    gathers_keeps n (u ∷ us) a k x o t e w r =
+        let polled = r.3 in
+        gathers_on (Gathers login n us) us a polled.following r.1 u.met polled.stop r.2 o t r.0 (λ c m z p v g. gathers_keeps n us c m z o t p v g) (polled_keeps a k r.1 x r.2 u.met r.0 e w polled) polled.ends r.4
+
+    collects_by : (b : Bool) (n : ℕ) (k : Kept) (x : Looks) (o : Outcome) (us : List Use) (t : Handle) → k.pending ≡ None → P k → Collects b login n k x o us t → HasAt P t
+    collects_by true n k x o us t none w r = closed_keeps k x calls.NextRow o us t none refl w r
+    collects_by false n k x o us t none w r = gathers_keeps n us (next_asked k []) (asking k calls.NextRow (Some [])) x o t refl (begun k calls.NextRow (Some []) none refl w) r
+
+    collects_on : (q : Option Asked) (n : ℕ) (k : Kept) (x : Looks) (o : Outcome) (us : List Use) (t : Handle) → k.pending ≡ q → P k → CollectsOn q login n k x o us t → HasAt P t
+    collects_on None n k x o us t e w r = collects_by (has_closed (made_of k.calls)) n k x o us t e w r
+    collects_on (Some a) n k x o us t e w r = refused_keeps (Joined true k x) o us t w r
+
+    collects_keeps : (n : ℕ) (o : Outcome) (us : List Use) (h t : Handle) → HasAt P h → CollectsAt login n h o us t → HasAt P t
+    collects_keeps n o us h t = on_keeps (λ k. CollectsOn k.pending login n k) o us h t (λ k x. collects_on k.pending n k x o us t refl)
+
+    -- the handshake
+    shown_keeps : (n : ℕ) (end : Kept) (y : Looks) (o : Outcome) (t : Handle) (p : After) → P end → ConnectShows login n p end y o t → HasAt P t
+    shown_keeps n end y o t after.Pending w s = subst (HasAt P) (sym s.1) w
+    shown_keeps n end y o t (after.Answered answer) w s = subst (HasAt P) (sym s.1) w
+    shown_keeps n end y o t (after.Failed x) w s = subst (HasAt P) (sym s.1) w
+
+    connect_keeps : (n : ℕ) (a : Asked) (k : Kept) (x : Looks) (o : Outcome) (u : Use) (t : Handle) → k.pending ≡ Some a → P k → Connects login n a k x o u t → HasAt P t
+    connect_keeps n a k x o u t e w r = shown_keeps n r.end r.link o t r.after (polled_keeps a k r.end x r.link u.met r.after e w r.polled) r.shows
+
+    dials_keeps : (plan : Option (List ReadItem)) (rules : Option (List WriteItem)) (items : Option (List DialItem)) (n : ℕ) (o : Outcome) (us : List Use) (t : Handle) → Dials login plan rules items n o us t → HasAt P t
+    dials_keeps plan rules items n o us t (Holds left e f g h) = subst (HasAt P) (sym g) tt
+    dials_keeps plan rules items n o us t (Fails left e f g h) = subst (HasAt P) (sym g) tt
+    dials_keeps plan rules items n o us t (Links u x left e new given r) = connect_keeps n first_asked first_kept x o u t refl first r
+
+    -- a stream takes a set, after the rest of an earlier one
+    then_keeps : (b : Bool) (n : ℕ) (first : Outcome) (mid : Handle) (o : Outcome) (us : List Use) (t : Handle) → HasAt P mid → ThenTakes b login n first mid o us t → HasAt P t
+    then_keeps true n first mid o us t w r = calls_keeps n calls.TakeSet o us mid t refl w r
+    then_keeps false n first mid o us t w r = subst (HasAt P) (sym r.2) w
+
+    skips_keeps : (R : Outcome → List Use → Handle → Type 0) (n : ℕ) (o : Outcome) (us : List Use) (t : Handle) → ((first : Outcome) (used : List Use) (mid : Handle) → R first used mid → HasAt P mid) → Skips R login n o us t → HasAt P t
+    skips_keeps R n o us t f r = then_keeps (is_done r.first) n r.first r.mid o r.later t (f r.first r.used r.mid r.skips) r.takes
+
+    takes_keeps : (b : Bool) (n : ℕ) (o : Outcome) (us : List Use) (h t : Handle) → HasAt P h → Takes b login n h o us t → HasAt P t
+    takes_keeps true n o us h t w r = skips_keeps (Calls login n calls.SkipTaken h) n o us t (λ first used mid s. calls_keeps n calls.SkipTaken first used h mid refl w s) r
+    takes_keeps false n o us h t w r = calls_keeps n calls.TakeSet o us h t refl w r
+
+    takes_on : (q : Option Asked) (n : ℕ) (k : Kept) (x : Looks) (o : Outcome) (us : List Use) (t : Handle) → P k → TakesOn q login n k x o us t → HasAt P t
+    takes_on None n k x o us t w r = takes_keeps (skips_first login k) n o us (Joined true k x) t w r
+    takes_on (Some a) n k x o us t w r = refused_keeps (Joined true k x) o us t w r
+
+    streams_keeps : (n : ℕ) (o : Outcome) (us : List Use) (h t : Handle) → HasAt P h → StreamsAt login n h o us t → HasAt P t
+    streams_keeps n o us h t = on_keeps (λ k. TakesOn k.pending login n k) o us h t (λ k x. takes_on k.pending n k x o us t)
+
+    where_keeps : (b : Bool) (n : ℕ) (call : Call) (o : Outcome) (us : List Use) (h t : Handle) → is_connect (kind_of call) ≡ false → HasAt P h → CallsWhere b login n call h o us t → HasAt P t
+    where_keeps true n call o us h t other w r = calls_keeps n call o us h t other w r
+    where_keeps false n call o us h t other w r = refused_keeps h o us t w r
+
+    lets_go_with : (q : Option Asked) (k : Kept) (x : Looks) (o : Outcome) (us : List Use) (t : Handle) → P k → LetsGoWith q k x o us t → HasAt P t
+    lets_go_with None k x o us t w r = subst (HasAt P) (sym r.left) w
+    lets_go_with (Some a) k x o us t w r = refused_keeps (Joined true k x) o us t w r
+
+    unstreams_keeps : (b : Bool) (o : Outcome) (us : List Use) (h t : Handle) → HasAt P h → UnstreamsAt b h o us t → HasAt P t
+    unstreams_keeps true o us h t w r = on_keeps (λ k. LetsGoWith k.pending k) o us h t (λ k x. lets_go_with k.pending k x o us t) w r
+    unstreams_keeps false o us h t w r = refused_keeps h o us t w r
+
+    executes_keeps : (named : Option StatementView) (n : ℕ) (params : Params) (o : Outcome) (us : List Use) (h t : Handle) → HasAt P h → ExecutesAt named login n params h o us t → HasAt P t
+    executes_keeps (Some s) n params o us h t w r = calls_keeps n (calls.Execute s params) o us h t refl w r
+    executes_keeps None n params o us h t w r = refused_keeps h o us t w r
+
+    closes_keeps : (named : Option StatementView) (n : ℕ) (o : Outcome) (us : List Use) (h t : Handle) → HasAt P h → ClosesAt named login n h o us t → HasAt P t
+    closes_keeps (Some s) n o us h t w r = calls_keeps n (calls.CloseStmt s.inner.id) o us h t refl w r
+    closes_keeps None n o us h t w r = refused_keeps h o us t w r
+
+    polls_call : (b : Bool) (n : ℕ) (a : Asked) (k : Kept) (x : Looks) (o : Outcome) (us : List Use) (t : Handle) → k.pending ≡ Some a → P k → PollsCall b login n a k x o us t → HasAt P t
+    polls_call true n a k x o us t e w r = skips_keeps (PolledOnce login n a k x) n o us t (λ first used mid s. once_keeps n a k x first used mid e w s) r
+    polls_call false n a k x o us t e w r = once_keeps n a k x o us t e w r
+
+    polls_on : (b : Bool) (rows : Option (List RowParts)) (n : ℕ) (a : Asked) (k : Kept) (x : Looks) (o : Outcome) (us : List Use) (t : Handle) → k.pending ≡ Some a → P k → PollsOn b rows login n a k x o us t → HasAt P t
+    polls_on true rows n a k x o us t e w r = connect_keeps n a k x o r.0 t e w r.2
+    polls_on false None n a k x o us t e w r = polls_call (is_skip (kind_of a.call)) n a k x o us t e w r
+    polls_on false (Some rows) n a k x o us t e w r = gathers_keeps n us a k x o t e w r
+
+    goes_on_with : (q : Option Asked) (n : ℕ) (k : Kept) (x : Looks) (o : Outcome) (us : List Use) (t : Handle) → k.pending ≡ q → P k → GoesOnWith q login n k x o us t → HasAt P t
+    goes_on_with None n k x o us t e w r = refused_keeps (Joined true k x) o us t w r
+    goes_on_with (Some a) n k x o us t e w r = polls_on (is_connect (kind_of a.call)) a.rows n a k x o us t e w r
+
+    goes_on_keeps : (plans : Plans) (n : ℕ) (o : Outcome) (us : List Use) (h t : Handle) → HasAt P h → GoesOn login plans n h o us t → HasAt P t
+    goes_on_keeps plans n o us Absent t w r = refused_keeps Absent o us t w r
+    goes_on_keeps plans n o us (Dialing left) t w r = dials_keeps (plans.reads n) (plans.writes n) left n o us t r
+    goes_on_keeps plans n o us (Joined false k x) t w r = refused_keeps (Joined false k x) o us t w r
+    goes_on_keeps plans n o us (Joined true k x) t w r = goes_on_with k.pending n k x o us t refl w r
+
+    cancels_with : (q : Option Asked) (k : Kept) (x : Looks) (o : Outcome) (us : List Use) (t : Handle) → k.pending ≡ q → P k → CancelsWith q login k x o us t → HasAt P t
+    cancels_with None k x o us t e w r = refused_keeps (Joined true k x) o us t w r
+    cancels_with (Some a) k x o us t e w r = subst (HasAt P) (sym r.left) (ended k a _ e w)
+
+    cancels_keeps : (o : Outcome) (us : List Use) (h t : Handle) → HasAt P h → Cancels login h o us t → HasAt P t
+    cancels_keeps o us Absent t w r = refused_keeps Absent o us t w r
+    cancels_keeps o us (Dialing left) t w r = subst (HasAt P) (sym r.left) tt
+    cancels_keeps o us (Joined false k x) t w r = refused_keeps (Joined false k x) o us t w r
+    cancels_keeps o us (Joined true k x) t w r = cancels_with k.pending k x o us t refl w r
+
+    tells_with : (q : Option Asked) (k : Kept) (x : Looks) (o : Outcome) (us : List Use) (t : Handle) → P k → TellsWith q login k x o us t → HasAt P t
+    tells_with None k x o us t w r = subst (HasAt P) (sym r.left) w
+    tells_with (Some a) k x o us t w r = refused_keeps (Joined true k x) o us t w r
+
+    tells_keeps : (o : Outcome) (us : List Use) (h t : Handle) → HasAt P h → TellsFields login h o us t → HasAt P t
+    tells_keeps o us h t = on_keeps (λ k. TellsWith k.pending login k) o us h t (λ k x. tells_with k.pending k x o us t)
+
+    -- at all numbers
+    pub at_has : (hs : List Handle) (n : ℕ) → AllHave P hs → HasAt P (at_number hs n)
+    at_has [] n w = tt
+    at_has (h ∷ hs) zero w = w.0
+    at_has (h ∷ hs) (suc n) w = at_has hs n w.1
+
+    put_keeps : (hs : List Handle) (n : ℕ) (t : Handle) → HasAt P t → AllHave P hs → AllHave P (put_at n t hs)
+    put_keeps [] n t j w = tt
+    put_keeps (h ∷ hs) zero t j w = (j, w.1)
+    put_keeps (h ∷ hs) (suc n) t j w = (w.0, put_keeps hs n t j w.1)
+
+    push_keeps : (hs : List Handle) (t : Handle) → HasAt P t → AllHave P hs → AllHave P (hs ++ t ∷ [])
+    push_keeps [] t j w = (j, tt)
+    push_keeps (h ∷ hs) t j w = (w.0, push_keeps hs t j w.1)
+
+    at_step : (n : ℕ) (R : Handle → Outcome → List Use → Handle → Type 0) (hs ts : List Handle) (o : Outcome) (us : List Use) → ((h t : Handle) → HasAt P h → R h o us t → HasAt P t) → AllHave P hs → At n R hs o us ts → AllHave P ts
+    at_step n R hs ts o us f w r = subst (AllHave P) (sym r.others) (put_keeps hs n r.made (f (at_number hs n) r.made (at_has hs n w) r.does) w)
+
+    step_keeps : (plans : Plans) (found : Bool) (named : Option StatementView) (hs : List Handle) (step : Step) (o : Outcome) (us : List Use) (ts : List Handle) → AllHave P hs → StepGrows login plans found named hs step o us ts → AllHave P ts
+    step_keeps plans found named hs steps.Conn o us ts w r = subst (AllHave P) (sym r.others) (push_keeps hs r.made (dials_keeps _ _ _ _ o us r.made r.dials) w)
+    step_keeps plans found named hs (steps.Query n text) o us ts w r = at_step n _ hs ts o us (λ h t. calls_keeps n (calls.Query text) o us h t refl) w r
+    step_keeps plans found named hs (steps.Prepare n text) o us ts w r = at_step n _ hs ts o us (λ h t. calls_keeps n (calls.Prepare text) o us h t refl) w r
+    step_keeps plans found named hs (steps.Execute n number params) o us ts w r = at_step n _ hs ts o us (λ h t. executes_keeps named n params o us h t) w r
+    step_keeps plans found named hs (steps.CloseStatement n number) o us ts w r = at_step n _ hs ts o us (λ h t. closes_keeps named n o us h t) w r
+    step_keeps plans found named hs (steps.Next n) o us ts w r = at_step n _ hs ts o us (λ h t. calls_keeps n calls.NextRow o us h t refl) w r
+    step_keeps plans found named hs (steps.Collect n) o us ts w r = at_step n _ hs ts o us (λ h t. collects_keeps n o us h t) w r
+    step_keeps plans found named hs (steps.Drop n) o us ts w r = at_step n _ hs ts o us (λ h t. calls_keeps n calls.DropResult o us h t refl) w r
+    step_keeps plans found named hs (steps.Ping n) o us ts w r = at_step n _ hs ts o us (λ h t. calls_keeps n calls.Ping o us h t refl) w r
+    step_keeps plans found named hs (steps.Reset n) o us ts w r = at_step n _ hs ts o us (λ h t. calls_keeps n calls.Reset o us h t refl) w r
+    step_keeps plans found named hs (steps.User n change) o us ts w r = at_step n _ hs ts o us (λ h t. calls_keeps n (calls.ChangeUser change) o us h t refl) w r
+    step_keeps plans found named hs (steps.Begin n opts) o us ts w r = at_step n _ hs ts o us (λ h t. calls_keeps n (calls.Begin opts) o us h t refl) w r
+    step_keeps plans found named hs (steps.Commit n) o us ts w r = at_step n _ hs ts o us (λ h t. where_keeps found n calls.Commit o us h t refl) w r
+    step_keeps plans found named hs (steps.Rollback n) o us ts w r = at_step n _ hs ts o us (λ h t. where_keeps found n calls.Rollback o us h t refl) w r
+    step_keeps plans found named hs (steps.ForgetTransaction n) o us ts w r = at_step n _ hs ts o us (λ h t. where_keeps found n calls.ForgetTransaction o us h t refl) w r
+    step_keeps plans found named hs (steps.Quit n) o us ts w r = at_step n _ hs ts o us (λ h t. calls_keeps n calls.Quit o us h t refl) w r
+    step_keeps plans found named hs (steps.Stream n) o us ts w r = at_step n _ hs ts o us (λ h t. streams_keeps n o us h t) w r
+    step_keeps plans found named hs (steps.Item n) o us ts w r = at_step n _ hs ts o us (λ h t. where_keeps found n calls.NextRow o us h t refl) w r
+    step_keeps plans found named hs (steps.Unstream n) o us ts w r = at_step n _ hs ts o us (λ h t. unstreams_keeps found o us h t) w r
+    step_keeps plans found named hs (steps.Fields n) o us ts w r = at_step n _ hs ts o us (λ h t. tells_keeps o us h t) w r
+    step_keeps plans found named hs (steps.Poll n) o us ts w r = at_step n _ hs ts o us (λ h t. goes_on_keeps plans n o us h t) w r
+    step_keeps plans found named hs (steps.Cancel n) o us ts w r = at_step n _ hs ts o us (λ h t. cancels_keeps o us h t) w r
+    step_keeps plans found named hs (steps.Advance by) o us ts w r = subst (AllHave P) (sym r.same) w
+    step_keeps plans found named hs (steps.Random word) o us ts w r = subst (AllHave P) (sym r.same) w
+
+    pub grown_keeps : (plans : Plans) (ls : List Line) → AreGrown login plans ls → AllHave P (handles_after ls)
+    grown_keeps plans [] w = tt
+    grown_keeps plans (l ∷ ls) w = step_keeps plans (is_found (target l.step) l.step ls) (statement_named (named_statement l.step) (statements_of ls)) (handles_after ls) l.step l.outcome l.uses l.handles (grown_keeps plans ls w.1) w.0.answer
