@@ -2,7 +2,7 @@
 use Rattle.std.specs.Prelude.{ℕ, pos, List, [], ◌∷◌, ◌++◌, codes, None, false, true}
 use Rattle.my_value.specs.declared.value.Value.TheVariants.{Int}
 use Rattle.my_params.specs.declared.params.Params.TheVariants.{Empty, Positional}
-use Rattle.my_reading.specs.declared.call.Call.TheVariants.{Connect, Query, Prepare, Execute, Batch, CloseStmt, NextRow, DropResult, TakeSet, SkipTaken, Ping, Begin, Commit, Rollback, ForgetTransaction, CleanForPool, Quit}
+use Rattle.my_reading.specs.declared.call.Call.TheVariants.{Connect, Query, Prepare, Execute, Batch, CloseStmt, NextRow, DropResult, TakeSet, SkipTaken, Ping, ChangeUser, Begin, Commit, Rollback, ForgetTransaction, CleanForPool, Quit}
 use Rattle.my_opts_parts.specs.TransactionOptions.{default_tx}
 use Rattle.my_reading.specs.declared.error.DriverError.TheVariants.{NestedTransaction}
 use Rattle.my_reading.specs.declared.error.Error.TheVariants.{Driver, Server}
@@ -11,7 +11,7 @@ use Rattle.my_reading.specs.Endings.{IsTape}
 use Rattle.my_reading.specs.Errors.{connection_closed, mixed_params, io_error, unexpected_eof, invalid_data}
 use Rattle.my_reading.specs.Told.{ToldReady, ToldRow, ToldEnd, ToldNone, ToldError, Dropped}
 use Rattle.my_reading.specs.Tape.{Span}
-use Rattle.wrong_tapes.specs.Bytes.{root, frugal, orderly, connected, connected_to, connected_with, arranged, selected, prepared, prepared_plain, reset, begun, forgotten, pinged, changed, changes_to, changes_with, cleaned, found, renewed, asking, ones, executes, closes, resets, starts, commits, rolls_back, sets_level, sets_access, starts_fully, reading_tx, full_tx, asked, asks, returned, call_with, row, one, end, fine, refusal, other_refusal, head, packet, response, greeting, tape_of}
+use Rattle.wrong_tapes.specs.Bytes.{root, frugal, orderly, connected, connected_to, connected_with, arranged, selected, prepared, prepared_plain, reset, begun, forgotten, pinged, changed, changes_to, to_bob, changes_with, cleaned, found, renewed, asking, ones, executes, closes, resets, starts, commits, rolls_back, sets_level, sets_access, starts_fully, reading_tx, full_tx, asked, asks, returned, call_with, row, one, end, fine, refusal, other_refusal, head, packet, response, greeting, tape_of}
 use Rattle.wrong_tapes.specs.Right.{curious, error, other_error, scramble, secretive}
 
 -- the calls are on no tape of a client that logs in as root
@@ -56,6 +56,8 @@ pub record AreWrong : Type 0 where
   pub lost_error : NoTape (connected ∷ selected ∷ returned NextRow [] (refusal 3) ToldNone ∷ [])
   -- a cancelled drop that awaits a further head and doesn't close
   pub open_cancel : NoTape (connected ∷ asked (codes "DO 1") (fine 1 10) ∷ returned DropResult [] [] (Dropped false) ∷ [])
+  -- a query that is cancelled before the answer to its rollback and doesn't close
+  pub cancelled_query : NoTape (connected ∷ begun ∷ forgotten ∷ returned (Query (codes "SELECT 1")) rolls_back [] (Dropped false) ∷ [])
   -- a set is taken, though nothing is left
   pub invented_set : NoTape (connected ∷ returned TakeSet [] [] ToldReady ∷ [])
   -- nothing left to be taken, where rows are
@@ -76,6 +78,8 @@ pub record AreWrong : Type 0 where
   pub prepared_again : NoTape (connected ∷ prepared 1 ∷ prepared 1 ∷ [])
   -- another statement than the one that has to go is closed
   pub other_closed : IsTape frugal (tape_of (connected ∷ prepared_plain (codes "DO 1") 1 [] ∷ prepared_plain (codes "DO 2") 2 (closes 2) ∷ [])) → ⊥
+  -- a statement gets the id of one that is cached
+  pub cached_id : NoTape (connected ∷ prepared_plain (codes "DO 1") 1 [] ∷ prepared_plain (codes "DO 2") 1 [] ∷ [])
   -- a statement with another number of parameters than the server said
   pub other_number : NoTape (connected ∷ prepared 2 ∷ [])
   -- a row of an execution is read as text
@@ -153,6 +157,9 @@ pub record AreWrong : Type 0 where
   pub changed_not_reset : NoTape (connected ∷ renewed (changes_to (codes "root")) (fine 1 2) ∷ [])
   -- a server of version 5.7.2 gets the user from before a change
   pub renewed_by_old : NoTape (connected_to (codes "5.7.2") ∷ changed (changes_to (codes "bob")) (fine 1 2) ∷ renewed (changes_to (codes "root")) (fine 1 2) ∷ [])
+  -- so does a change that wasn't sent, since the server refused to roll back before it
+  pub renewed_by_older : NoTape (connected_to (codes "5.7.2") ∷ begun ∷ forgotten ∷ returned (ChangeUser to_bob) rolls_back (refusal 1) (ToldError (Server error))
+      ∷ renewed (rolls_back ++ changes_to (codes "root")) (fine 1 2 ++ fine 1 2) ∷ [])
   -- it is ready before the server's OK
   pub early_renewal : NoTape (connected ∷ renewed resets [] ∷ [])
   -- a statement is found in the cache after it
