@@ -1,5 +1,5 @@
 -- A handshake that waits, from poll to poll.
-use Rattle.std.proofs.Common.{ℕ, ◌≡◌, ◌+◌, [], Option, None, Ok, Err, true, refl, subst}
+use Rattle.std.proofs.Common.{ℕ, ◌≡◌, ◌+◌, ◌<◌, [], Option, None, Ok, Err, true, refl, subst}
 use Rattle.my_frame.specs.declared.limits.TheConstants.{MOST_TAKEN}
 use Rattle.my_grammar.specs.declared.login.Login.{Login}
 use Rattle.my_link.specs.Looks.{Looks}
@@ -20,6 +20,7 @@ use Rattle.my_client.specs.Lives.{Lives}
 use Rattle.my_line.specs.Makes.{ConnectsFor}
 use Rattle.my_line.specs.Stands.{StandsFor}
 use Rattle.my_line.specs.Waits.{Goes, IsShaken, IsUnshaken}
+use Rattle.my_line.specs.declared.handshake.TheConstants.{TOO_LONG}
 use Rattle.my_line.proofs.Waiting.{all_taken, begun_carries, driven, goes_so}
 use Rattle.my_line.proofs.Joins.{Shook, connects_open, made, pends, shook, still}
 use Rattle.my_line.proofs.Using.{unused}
@@ -58,24 +59,26 @@ module _ (login : Login) (w x y : Looks) (s t : Seen) (p q : Option Tape) (m : M
   pub shake_full : after ≡ Pending → x.counts.holds ≡ 0 → y.counts.holds ≡ 0 → m.taken ≡ MOST_TAKEN
   shake_full e none quiet = all_taken x y m Pending (pends s t x y p q m (by_after Pending e) (login, so.following, first_asked, so.connects)) refl none quiet
 
-  pub shake_done : (now : ℕ) (a b : View) → t ≡ b.seen → Lives now (n + m.taken) a b → (answer : Answer) → after ≡ Answered answer → IsShaken login now w y a b q
-  shake_done now a b seen lives answer e =
+  pub shake_done : (now : ℕ) (a b : View) → t ≡ b.seen → Lives now (n + m.taken) a b → n + m.taken < TOO_LONG + MOST_TAKEN → (answer : Answer) → after ≡ Answered answer → IsShaken login now w y a b q
+  shake_done now a b seen lives bound answer e =
       let u = made s t x y p q m answer (by_after (Answered answer) e) login so.following first_asked so.connects in
       let g = so.goes in
       record {
         end = u.0;
         count = n + m.taken;
+        bound = bound;
         lives = lives;
         stands = subst (λ (v : Seen). StandsFor login v q None u.0) seen u.1;
         driven = driven login Connect nothing_kept so.following u.0 n w x y m (Answered Ready) first_asked g.sent g.came g.used g.carries g.count so.connects.asked.asked u.2 (Ok Ready) refl;
       }
 
-  pub shake_failed : (error : Error) → after ≡ Failed error → IsUnshaken login w y error
-  shake_failed error e =
+  pub shake_failed : n + m.taken < TOO_LONG + MOST_TAKEN → (error : Error) → after ≡ Failed error → IsUnshaken login w y error
+  shake_failed bound error e =
       let u : Shook login t x y q m (Failed error) so.following first_asked = shook s t x y p q m (Failed error) (by_after (Failed error) e) login so.following first_asked so.connects in
       let g = so.goes in
       record {
         end = u.end;
         count = n + m.taken;
+        bound = bound;
         driven = driven login Connect nothing_kept so.following u.end n w x y m (Failed error) first_asked g.sent g.came g.used g.carries g.count so.connects.asked.asked u.polled (Err error) refl;
       }

@@ -1,7 +1,8 @@
 -- What a call that waits does to a line, and a handshake that does.
-use Rattle.std.specs.Prelude.{ℕ, ◌≡◌, ◌≤◌, ◌⊎◌, List, ◌++◌, length, Option, Some, None, true, false}
+use Rattle.std.specs.Prelude.{ℕ, ◌≡◌, ◌+◌, ◌<◌, ◌≤◌, ◌⊎◌, List, ◌++◌, length, Option, Some, None, true, false}
 use Rattle.std.specs.declared.result.Result.{Result}
 use Rattle.std.specs.declared.result.Result.TheVariants.{Ok, Err}
+use Rattle.my_frame.specs.declared.limits.TheConstants.{MOST_TAKEN}
 use Rattle.my_grammar.specs.declared.login.Login.{Login}
 use Rattle.my_link.specs.Looks.{Looks}
 use Rattle.my_link.specs.Moves.{IsUsed, NoStop, Stop, ends_at, faults_at, holds_at}
@@ -76,6 +77,8 @@ pub record Goes (call : Call) (x y : Looks) (k f : Kept) (n : ℕ) : Type 0 wher
 pub record IsShaken (login : Login) (now : ℕ) (x y : Looks) (u v : View) (t : Option Tape) : Type 0 where
   pub end : Kept
   pub count : ℕ
+  -- a handshake that took 2^40 bytes is polled no more, and one poll takes at most MOST_TAKEN
+  pub bound : count < TOO_LONG + MOST_TAKEN
   pub stands : StandsFor login v.seen t None end
   pub driven : Driven login Connect x y nothing_kept count (Ok Ready) end
   pub lives : Lives now count u v
@@ -86,11 +89,15 @@ pub record IsTooLongFor (x y : Looks) : Type 0 where
   pub following : Kept
   pub goes : Goes Connect x y nothing_kept following count
   pub long : TOO_LONG ≤ count
+  -- it was given up no later
+  pub bound : count < TOO_LONG + MOST_TAKEN
 
 -- the handshake failed, with its cause
 pub record IsUnshaken (login : Login) (x y : Looks) (e : Error) : Type 0 where
   pub end : Kept
   pub count : ℕ
+  -- it was polled no more once 2^40 bytes were taken
+  pub bound : count < TOO_LONG + MOST_TAKEN
   pub driven : Driven login Connect x y nothing_kept count (Err e) end
 
 -- Why no connection was made. Out of memory, nothing is said of the link.
