@@ -1,5 +1,6 @@
 -- How a call that waits goes on from poll to poll.
-use Rattle.std.proofs.Common.{ℕ, ◌≡◌, ◌⊎◌, inl, inr, ◌+◌, ◌≤◌, [], true, false, Option, Some, None, is_some, Result, Err, refl, sym, ap, ◌∙◌, subst, arith}
+use Rattle.std.proofs.Common.{ℕ, ◌≡◌, ◌⊎◌, inl, inr, ◌+◌, ◌<◌, ◌≤◌, [], true, false, Option, Some, None, is_some, Result, Err, refl, sym, ap, ◌∙◌, subst, arith}
+use Rattle.my_frame.specs.declared.limits.TheConstants.{MOST_TAKEN}
 use Rattle.my_grammar.specs.declared.login.Login.{Login}
 use Rattle.my_link.specs.Looks.{Looks}
 use Rattle.my_link.specs.declared.met.Met.{Met}
@@ -189,12 +190,13 @@ module _ {L : Type 0} (look : L → Looks) (kind : CallKind) (call : Call) (old 
       by_after (Answered answer) e = refl
       by_after (Failed x) e = refl
 
-  pub drive_is : (next : Option Call) (cur : ConnSeen L) (n : ℕ) → DriveSoFar look call next old cur n → CallIs look old.fixed.now kind next cur new m after → (r : Result Answer Error) → Results after r → DriveIs look kind call old new r
-  drive_is next cur n so is r e =
+  pub drive_is : (next : Option Call) (cur : ConnSeen L) (n : ℕ) → DriveSoFar look call next old cur n → CallIs look old.fixed.now kind next cur new m after → n < TOO_LONG → (r : Result Answer Error) → Results after r → DriveIs look kind call old new r
+  drive_is next cur n so is early r e =
       let same = was_sound next cur n so in
       let none : new.pending ≡ None = is.pending ∙ none_after r e in
       record {
         count = n + m.taken;
+        bound = omega (arith, early, is.within);
         lives = lives_so next cur n so is;
         made = made_so next cur n so is;
         each = λ f g login k w.
@@ -214,21 +216,25 @@ module _ {L : Type 0} (look : L → Looks) (kind : CallKind) (call : Call) (old 
       by_after (Failed x) w e = subst (ResultFits kind) (sym e) tt
 
 -- it took too long
-pub drive_long : {L : Type 0} (look : L → Looks) (kind : CallKind) (call : Call) (old cur new : ConnSeen L) (next : Option Call) (n : ℕ) (r : Result Answer Error) → DriveSoFar look call next old cur n → TOO_LONG ≤ n → new.lost ≡ true → new.pending ≡ None → new.link ≡ cur.link → new.fixed ≡ cur.fixed → new.lifetime ≡ cur.lifetime → r ≡ Err (errors.Driver TooLong) → DriveIs look kind call old new r
-drive_long look kind call old cur new (Some c) n r so long lost none link fixed life e = absurd (no_bytes (omega (arith, so.2, long)))
+pub drive_long : {L : Type 0} (look : L → Looks) (kind : CallKind) (call : Call) (old cur new : ConnSeen L) (next : Option Call) (n : ℕ) (r : Result Answer Error) → DriveSoFar look call next old cur n → TOO_LONG ≤ n → n < TOO_LONG + MOST_TAKEN → new.lost ≡ true → new.pending ≡ None → new.link ≡ cur.link → new.fixed ≡ cur.fixed → new.lifetime ≡ cur.lifetime → r ≡ Err (errors.Driver TooLong) → DriveIs look kind call old new r
+drive_long look kind call old cur new (Some c) n r so long bound lost none link fixed life e = absurd (no_bytes (omega (arith, so.2, long)))
   where
     no_bytes : 1 ≤ 0 → ⊥
     no_bytes h = omega (arith, h)
-drive_long {L} look kind call old cur new None n r so long lost none link fixed life e = record {
+drive_long {L} look kind call old cur new None n r so long bound lost none link fixed life e = record {
   count = n;
+  bound = bound;
   lives = λ f g. absurd (not_both new.lost g lost);
   made = ap (λ (l : Lifetime). first_lifetime l.opts l.is_socket l.deadline) life ∙ made_lives old.fixed.now n (session_of old) (session_of cur) so.4;
   each = λ f g. absurd (not_both new.lost g lost);
   loses = λ f g. inr (
     e,
-    λ login k w.
-        let u = so.5 login k w in
-        (n, u.0, subst (λ (l : L). Goes call (look old.link) (look l) k u.0 n) (sym link) u.2, long),
+    (
+      long,
+      λ login k w.
+          let u = so.5 login k w in
+          (u.0, subst (λ (l : L). Goes call (look old.link) (look l) k u.0 n) (sym link) u.2),
+    ),
   );
   lost = λ f. absurd (not_both old.lost so.0 f);
   keeps = λ g. absurd (not_both new.lost g lost);

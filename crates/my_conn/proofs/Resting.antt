@@ -1,4 +1,4 @@
--- What a connection says by its tape.
+-- What a connection says by what it did, and by its tape.
 use Rattle.std.proofs.Common.{◌≡◌, ◌↔◌, Bool, false, Option, Some, None, sym, ap, ◌∙◌, subst}
 use Rattle.my_grammar.specs.declared.login.Login.{Login}
 use Rattle.my_opts.specs.Opts.{OptsView}
@@ -25,7 +25,7 @@ tape_is : (p : Option Tape) (tape : Tape) (k : Kept) → p ≡ Some tape → Agr
 tape_is p tape k e agrees = let same : kept_in tape ≡ k = subst (λ (p : Option Tape). Agrees p k) e agrees in sym same
 
 -- whether it is clean
-clean_by : (login : Login) (s : Seen) (p : Option Tape) (k : Kept) → StandsFor login s p None k
+pub clean_by : (login : Login) (s : Seen) (p : Option Tape) (k : Kept) → StandsFor login s p None k
     → IsClean login (tape_kept k) ↔ ((s.closed ≡ false) × (is_dirty s ≡ false))
 clean_by login s p k w =
     let none = no_asked k.pending w.pending_is in
@@ -42,10 +42,14 @@ each_clean b s p o w still none tape e =
     (subst (λ (k : Kept). IsClean stands.0 (tape_kept k) ↔ ((s.closed ≡ false) × (is_dirty s ≡ false))) (tape_is p tape stands.1 e rests.agrees) (clean_by stands.0 s p stands.1 rests))
 
 -- the account of its options
+pub account_by : (login : Login) (s : Seen) (p : Option Tape) (o : Option CallKind) (k : Kept) (opts : OptsView) → StandsFor login s p o k → s.closed ≡ false
+    → account_in (with_account s.account opts) ≡ (place_kept login k).account
+account_by login s p o k opts w alive = account_kept login s k w.rests w.stepped alive
+
 pub each_account : (b : Bool) (s : Seen) (opts : OptsView) (p : Option Tape) (o : Option CallKind) → Standing b s p o → b ≡ false → s.closed ≡ false → (tape : Tape) → p ≡ Some tape
     → account_in (with_account s.account opts) ≡ (place_kept s.login (kept_in tape)).account
 each_account b s opts p o w still alive tape e =
     let stands = sound b s p o still w in
-    account_kept stands.0 s stands.1 stands.2.rests stands.2.stepped alive
+    account_by stands.0 s p o stands.1 opts stands.2 alive
     ∙ ap (λ (k : Kept). (place_kept stands.0 k).account) (tape_is p tape stands.1 e stands.2.agrees)
     ∙ ap (λ (l : Login). (place_kept l (kept_in tape)).account) (sym stands.2.rests.heard.login_is)

@@ -1,7 +1,8 @@
 -- What a call that waits does.
-use Rattle.std.specs.Prelude.{ℕ, ◌≡◌, ◌≤◌, ◌⊎◌, List, Bool, None, true, false, is_some}
+use Rattle.std.specs.Prelude.{ℕ, ◌≡◌, ◌+◌, ◌<◌, ◌≤◌, ◌⊎◌, List, Bool, None, true, false, is_some}
 use Rattle.std.specs.declared.result.Result.{Result}
 use Rattle.std.specs.declared.result.Result.TheVariants.{Ok, Err}
+use Rattle.my_frame.specs.declared.limits.TheConstants.{MOST_TAKEN}
 use Rattle.my_grammar.specs.declared.login.Login.{Login}
 use Rattle.my_link.specs.Looks.{Looks}
 use Rattle.my_reading.specs.declared.answer.Answer.{Answer}
@@ -27,10 +28,10 @@ use Rattle.my_conn.specs.Answers.{done_of, next_of, taken_of}
 use Rattle.my_conn.specs.declared.drive.NextAnswer.{NextAnswer}
 use Rattle.my_conn.specs.Conn.{ConnSeen, session_of}
 
--- at least 2^40 bytes were taken in it without an answer
-abbrev pub IsTooLong : {L : Type 0} → (L → Looks) → Call → ConnSeen L → ConnSeen L → Type 0
-IsTooLong look call old new = (login : Login) (k : Kept) → StandsFor login old.seen old.tape old.pending k
-    → (n : ℕ) × (f : Kept) × Goes call (look old.link) (look new.link) k f n × (TOO_LONG ≤ n)
+-- at least 2^40 bytes were taken in it without an answer: this many
+abbrev pub IsTooLong : {L : Type 0} → (L → Looks) → Call → ConnSeen L → ConnSeen L → ℕ → Type 0
+IsTooLong look call old new n = (TOO_LONG ≤ n) × ((login : Login) (k : Kept)
+    → StandsFor login old.seen old.tape old.pending k → (f : Kept) × Goes call (look old.link) (look new.link) k f n)
 
 -- an answer is one of the call's kind
 abbrev pub ResultFits : CallKind → Result Answer Error → Type 0
@@ -47,6 +48,8 @@ lost_result _ = Err connection_closed
 pub record DriveIs {L : Type 0} (look : L → Looks) (c : CallKind) (call : Call) (old new : ConnSeen L) (r : Result Answer Error)
     : Type 0 where
   pub count : ℕ
+  -- a call that took 2^40 bytes is polled no more, and one poll takes at most MOST_TAKEN
+  pub bound : count < TOO_LONG + MOST_TAKEN
   pub each : old.lost ≡ false → new.lost ≡ false → (login : Login) (k : Kept)
       → StandsFor login old.seen old.tape old.pending k
       → (end : Kept) × StandsFor login new.seen new.tape None end
@@ -56,7 +59,7 @@ pub record DriveIs {L : Type 0} (look : L → Looks) (c : CallKind) (call : Call
   -- what the session was made with, also where the connection is lost
   pub made : made_in (session_of new) ≡ made_in (session_of old)
   pub loses : old.lost ≡ false → new.lost ≡ true
-      → (r ≡ Err errors.NoMemory) ⊎ ((r ≡ Err (errors.Driver TooLong)) × IsTooLong look call old new)
+      → (r ≡ Err errors.NoMemory) ⊎ ((r ≡ Err (errors.Driver TooLong)) × IsTooLong look call old new count)
   pub lost : old.lost ≡ true → (new ≡ old) × (r ≡ lost_result c)
   -- where a tape was kept it is kept
   pub keeps : new.lost ≡ false → is_some new.tape ≡ is_some old.tape

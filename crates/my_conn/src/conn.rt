@@ -7,7 +7,7 @@ ghost use Rattle.my_session.specs.Rest.{is_dirty};
 ghost use Rattle.my_statements.specs.Known.{known_of};
 ghost use Rattle.my_line.specs.Calls.{pending_after};
 ghost use Rattle.my_conn.specs.Calls.{lost_answer};
-ghost use Rattle.my_conn.specs.Clean.{EachAccount, EachClean};
+ghost use Rattle.my_conn.specs.Clean.{DidAccount, DidClean, EachAccount, EachClean};
 ghost use Rattle.my_conn.specs.News.{first_fixed};
 
 use my_client::{After, Tape};
@@ -154,6 +154,7 @@ impl<L> Conn<L> {
     pub fn opts(&self) -> &Opts
         ensures value { result.now ≡ with_account self.now.seen.account self.now.lifetime.opts }
         ensures account { EachAccount self.now result.now }
+        ensures did { DidAccount self.now result.now }
     {
         self.session.opts()
     }
@@ -185,6 +186,7 @@ impl<L> Conn<L> {
     pub fn is_dirty(&self) -> bool
         ensures value { result ≡ is_dirty self.now.seen }
         ensures clean { EachClean self.now result }
+        ensures did { DidClean self.now result }
     {
         self.session.is_dirty()
     }
