@@ -147,10 +147,12 @@ fn line_of(alloc: Global, letter: u8) -> Result<WorldLine, NoMemory> {
         b'w' => WorldLine::Wait(0),
         b'f' => WorldLine::Fail(0),
         b'z' => WorldLine::End(0),
-        // The login is taken, a statement to prepare, the first part of a query, no write once; a write fails.
+        // The login is taken, a statement to prepare, the first part of a query, the start of a transaction, no write once; a
+        // write fails.
         b'L' => WorldLine::Accept(0, 64),
         b'D' => WorldLine::Accept(0, 13),
         b'A' => WorldLine::Accept(0, 6),
+        b'B' => WorldLine::Accept(0, 22),
         b'W' => WorldLine::WriteWait(0),
         b'F' => WorldLine::WriteFail(0),
         bytes => WorldLine::Bytes(0, Blob::from_slice(alloc, piece(bytes))?),

@@ -108,6 +108,7 @@ gtktotetetoto aOJyp 11111 kkSyk lBMUUp gkoeeoo kkek
 gtktotetz aOJp 1111 kkUC lBMU gkoe kkee
 gtktotetw aOJp 1111 kk.C lBMU gkoe kkXe
 gtktotw aOJp 1111 kk.C lBM gko kkXe
+gtktotLBW aOJp 1111 kk.C lB gko kkXe
 gtktot12379toto aOqJp 11111 kkkSk lBqUp gko12379oo kkkek
 gtktot1234to aOqK 1111 kkkk lBqU gko1234o kkkk
 gtktototo aORyOp 111111 kkkyTk lBRp gkooo kkkek

@@ -27,21 +27,22 @@ const ROWS: &str = "\
 5.6.4 ot; begin 0 level=2; 2 ok; SET TRANSACTION ISOLATION LEVEL REPEATABLE READ,START TRANSACTION
 5.6.4 t; begin 0,begin 0 ro; 2 ok,3 error Driver NestedTransaction; START TRANSACTION
 5.6.5 ot; begin 0 ro; 2 ok; SET TRANSACTION READ ONLY,START TRANSACTION
-8.0.36 eo; begin 0 level=1 ro,rollback 0,ping 0; 2 error Server 1064 42000 b:42,3 refused NoSuchHandle,4 ok; SET TRANSACTION ISOLATION LEVEL READ COMMITTED,ping
-8.0.36 oeo; begin 0 level=1 ro,forget 0,ping 0; 2 error Server 1064 42000 b:42,3 refused NoSuchHandle,4 ok; SET TRANSACTION ISOLATION LEVEL READ COMMITTED,SET TRANSACTION READ ONLY,ping
-8.0.36 ooet; begin 0 level=1 ro,begin 0; 2 error Server 1064 42000 b:42,3 ok; SET TRANSACTION ISOLATION LEVEL READ COMMITTED,SET TRANSACTION READ ONLY,START TRANSACTION,START TRANSACTION
-8.0.36 teoo; begin 0,forget 0,ping 0,ping 0; 2 ok,3 ok,4 error Server 1064 42000 b:42,5 ok; START TRANSACTION,ROLLBACK,ROLLBACK,ping
-8.0.36 teot; begin 0,forget 0,begin 0,begin 0; 2 ok,3 ok,4 error Server 1064 42000 b:42,5 ok; START TRANSACTION,ROLLBACK,ROLLBACK,START TRANSACTION
+8.0.36 eo; begin 0 level=1 ro,rollback 0,ping 0; 2 error Server 1064 42000 b:58,3 refused NoSuchHandle,4 ok; SET TRANSACTION ISOLATION LEVEL READ COMMITTED,ping
+8.0.36 oeo; begin 0 level=1 ro,forget 0,ping 0; 2 error Server 1064 42000 b:58,3 refused NoSuchHandle,4 ok; SET TRANSACTION ISOLATION LEVEL READ COMMITTED,SET TRANSACTION READ ONLY,ping
+8.0.36 ooet; begin 0 level=1 ro,begin 0; 2 error Server 1064 42000 b:58,3 ok; SET TRANSACTION ISOLATION LEVEL READ COMMITTED,SET TRANSACTION READ ONLY,START TRANSACTION,START TRANSACTION
+8.0.36 teoo; begin 0,forget 0,ping 0,ping 0; 2 ok,3 ok,4 error Server 1064 42000 b:58,5 ok; START TRANSACTION,ROLLBACK,ROLLBACK,ping
+8.0.36 teot; begin 0,forget 0,begin 0,begin 0; 2 ok,3 ok,4 error Server 1064 42000 b:58,5 ok; START TRANSACTION,ROLLBACK,ROLLBACK,START TRANSACTION
 8.0.36 tot; begin 0,forget 0,begin 0,forget 0; 2 ok,3 ok,4 ok,5 ok; START TRANSACTION,ROLLBACK,START TRANSACTION
 8.0.36 too; begin 0,rollback 0,rollback 0,ping 0; 2 ok,3 ok,4 refused NoSuchHandle,5 ok; START TRANSACTION,ROLLBACK,ping
-8.0.36 teoo; begin 0,rollback 0,rollback 0,ping 0; 2 ok,3 error Server 1064 42000 b:42,4 refused NoSuchHandle,5 ok; START TRANSACTION,ROLLBACK,ROLLBACK,ping
+8.0.36 teoo; begin 0,rollback 0,rollback 0,ping 0; 2 ok,3 error Server 1064 42000 b:58,4 refused NoSuchHandle,5 ok; START TRANSACTION,ROLLBACK,ROLLBACK,ping
 8.0.36 tso; begin 0,query 0 SELECT 1,rollback 0,next 0; 2 ok,3 ok,4 ok,5 none; START TRANSACTION,SELECT 1,ROLLBACK
 8.0.36 tso; begin 0,query 0 SELECT 1,stream 0,rollback 0,item 0; 2 ok,3 ok,4 ok,5 ok,6 refused NoSuchHandle; START TRANSACTION,SELECT 1,ROLLBACK
 8.0.36 tsoo; begin 0,query 0 SELECT 1,forget 0,next 0,next 0,ping 0; 2 ok,3 ok,4 ok,5 row b:31,6 end,7 ok; START TRANSACTION,SELECT 1,ROLLBACK,ping
-8.0.36 te; begin 0,query 0 DO,forget 0; 2 ok,3 error Server 1064 42000 b:42,4 ok; START TRANSACTION,DO
+8.0.36 te; begin 0,query 0 DO,forget 0; 2 ok,3 error Server 1064 42000 b:58,4 ok; START TRANSACTION,DO
 8.0.36 w; begin 0 ro,cancel 0,ping 0; 2 pending,3 ok,4 error Driver ConnectionClosed; SET TRANSACTION READ ONLY
 8.0.36 ow; begin 0 ro,cancel 0,forget 0; 2 pending,3 ok,4 refused NoSuchHandle; SET TRANSACTION READ ONLY,START TRANSACTION
 8.0.36 tow; begin 0,forget 0,begin 0,cancel 0,begin 0; 2 ok,3 ok,4 pending,5 ok,6 error Driver ConnectionClosed; START TRANSACTION,ROLLBACK,START TRANSACTION
+8.0.36 tw; begin 0,forget 0,begin 0,cancel 0,ping 0; 2 ok,3 ok,4 pending,5 ok,6 error Driver ConnectionClosed; START TRANSACTION,ROLLBACK
 8.0.36 h; query 0 SELECT 1,begin 0,cancel 0,ping 0; 2 ok,3 pending,4 ok,5 error Driver ConnectionClosed; SELECT 1
 8.0.36 wto; begin 0,rollback 0,poll 0,rollback 0; 2 pending,3 refused NoSuchHandle,4 ok,5 ok; START TRANSACTION,ROLLBACK
 8.0.36 tho; begin 0,query 0 SELECT 1,begin 0,poll 0,rollback 0; 2 ok,3 ok,4 pending,5 error Driver NestedTransaction,6 ok; START TRANSACTION,SELECT 1,ROLLBACK
@@ -55,15 +56,16 @@ const ROWS: &str = "\
 8.0.36 to; begin 0,forget 0,quit 0; 2 ok,3 ok,4 ok; START TRANSACTION,ROLLBACK,quit
 8.0.36 too; begin 0,reset 0,begin 0,rollback 0; 2 ok,3 flag 1,4 error Driver NestedTransaction,5 ok; START TRANSACTION,reset,ROLLBACK
 8.0.36 too; begin 0,commit 0,commit 0,ping 0; 2 ok,3 ok,4 refused NoSuchHandle,5 ok; START TRANSACTION,COMMIT,ping
-8.0.36 teoo; begin 0,commit 0,rollback 0,ping 0; 2 ok,3 error Server 1064 42000 b:42,4 refused NoSuchHandle,5 ok; START TRANSACTION,COMMIT,ROLLBACK,ping
-8.0.36 tefoo; begin 0,commit 0,commit 0,ping 0; 2 ok,3 error Server 1064 42000 b:42,4 refused NoSuchHandle,5 ok; START TRANSACTION,COMMIT,ROLLBACK,ROLLBACK,ping
-8.0.36 tefot; begin 0,commit 0,begin 0; 2 ok,3 error Server 1064 42000 b:42,4 ok; START TRANSACTION,COMMIT,ROLLBACK,ROLLBACK,START TRANSACTION
+8.0.36 teoo; begin 0,commit 0,rollback 0,ping 0; 2 ok,3 error Server 1064 42000 b:58,4 refused NoSuchHandle,5 ok; START TRANSACTION,COMMIT,ROLLBACK,ping
+8.0.36 tefoo; begin 0,commit 0,commit 0,ping 0; 2 ok,3 error Server 1064 42000 b:58,4 refused NoSuchHandle,5 ok; START TRANSACTION,COMMIT,ROLLBACK,ROLLBACK,ping
+8.0.36 tefot; begin 0,commit 0,begin 0; 2 ok,3 error Server 1064 42000 b:58,4 ok; START TRANSACTION,COMMIT,ROLLBACK,ROLLBACK,START TRANSACTION
 8.0.36 tex; begin 0,commit 0,ping 0; 2 ok,3 error Io Link,4 error Driver ConnectionClosed; START TRANSACTION,COMMIT,ROLLBACK
 8.0.36 tx; begin 0,commit 0,ping 0; 2 ok,3 error Io Link,4 error Driver ConnectionClosed; START TRANSACTION,COMMIT
-8.0.36 tmoo; begin 0,query 0 DO 1;DO 2,commit 0,ping 0; 2 ok,3 ok,4 error Server 1064 42000 b:42,5 ok; START TRANSACTION,DO 1;DO 2,ROLLBACK,ping
+8.0.36 tmoo; begin 0,query 0 DO 1;DO 2,commit 0,ping 0; 2 ok,3 ok,4 error Server 1064 42000 b:58,5 ok; START TRANSACTION,DO 1;DO 2,ROLLBACK,ping
+8.0.36 tmw; begin 0,query 0 DO 1;DO 2,commit 0,cancel 0,forget 0; 2 ok,3 ok,4 pending,5 ok,6 ok; START TRANSACTION,DO 1;DO 2,ROLLBACK
 8.0.36 tso; begin 0,query 0 SELECT 1,commit 0,next 0; 2 ok,3 ok,4 ok,5 none; START TRANSACTION,SELECT 1,COMMIT
 8.0.36 two; begin 0,commit 0,rollback 0,poll 0,commit 0; 2 ok,3 pending,4 refused NoSuchHandle,5 ok,6 refused NoSuchHandle; START TRANSACTION,COMMIT
-8.0.36 tewoo; begin 0,commit 0,poll 0,ping 0; 2 ok,3 pending,4 error Server 1064 42000 b:42,5 ok; START TRANSACTION,COMMIT,ROLLBACK,ping
+8.0.36 tewoo; begin 0,commit 0,poll 0,ping 0; 2 ok,3 pending,4 error Server 1064 42000 b:58,5 ok; START TRANSACTION,COMMIT,ROLLBACK,ping
 8.0.36 tw; begin 0,commit 0,cancel 0,commit 0,forget 0; 2 ok,3 pending,4 ok,5 error Driver ConnectionClosed,6 refused NoSuchHandle; START TRANSACTION,COMMIT
 8.0.36 tew; begin 0,commit 0,cancel 0,forget 0; 2 ok,3 pending,4 ok,5 ok; START TRANSACTION,COMMIT,ROLLBACK
 8.0.36 th; begin 0,query 0 SELECT 1,commit 0,cancel 0,commit 0,commit 0; 2 ok,3 ok,4 pending,5 ok,6 error Driver ConnectionClosed,7 refused NoSuchHandle; START TRANSACTION,SELECT 1
@@ -85,9 +87,9 @@ fn answer_of(letter: u8) -> &'static str {
     match letter {
         b'o' => "packet 0 1 00000002000000\nturn 0\n",
         b't' => "packet 0 1 00000003000000\nturn 0\n",
-        b'e' => "packet 0 1 ff280423343230303042\nturn 0\n",
+        b'e' => "packet 0 1 ff280423343230303058\nturn 0\n",
         b'f' => "packet 0 1 ff280423343230303043\nturn 0\n",
-        b'm' => "packet 0 1 0000000a000000\npacket 0 2 ff280423343230303042\nturn 0\n",
+        b'm' => "packet 0 1 0000000a000000\npacket 0 2 ff280423343230303058\nturn 0\n",
         b'x' => "fail 0\n",
         b's' => {
             "packet 0 1 01\npacket 0 2 036465660000000131000c3f0001000000088100000000\npacket 0 3 0131\npacket 0 4 fe000002000000\nturn 0\n"

@@ -22,7 +22,7 @@ const PREPARED: &str = "packet 0 1 000100000000000000000000\nturn 0\n";
 
 const RUNS: &[Run] = &[
     Run {
-        script: &[GREETING, DONE, "conn\nuser 0 bob - -\n"],
+        script: &[GREETING, DONE, "conn\nuser 0 bob - =\n"],
         shows: &[
             CONNECTED,
             "2 ok\nsent 0 ",
