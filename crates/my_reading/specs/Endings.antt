@@ -10,6 +10,7 @@ use Rattle.my_reading.specs.declared.error.IoKind.TheVariants.{Link}
 use Rattle.my_reading.specs.Calls.{kind_of, is_connect}
 use Rattle.my_reading.specs.Course.{Stop, Owes, Awaits, Returns}
 use Rattle.my_reading.specs.Errors.{io_error, unexpected_eof}
+use Rattle.my_reading.specs.Order.{IsInOrder}
 use Rattle.my_reading.specs.Place.{Place, exchanges, facts_at, client_side, begins_with}
 use Rattle.my_reading.specs.Reading.{ReadCall, reading}
 use Rattle.my_reading.specs.Tape.{Tape}
@@ -83,3 +84,4 @@ connects_first (c ∷ cs) = is_connect (kind_of c.span.call) && connects_none cs
 pub record IsTape (login : Login) (t : Tape) : Type 0 where
   pub first : connects_first (reading login t).calls ≡ true
   pub calls : AreCalls login (reading login t).calls
+  pub order : IsInOrder t

@@ -12,6 +12,7 @@ pub mod Settings
 pub mod Facts
 pub mod Quiet
 pub mod Tape
+pub mod Order
 pub mod Place
 pub mod Course
 pub mod Reading
