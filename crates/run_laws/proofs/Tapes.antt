@@ -15,6 +15,8 @@ use Rattle.my_steps.specs.Handle.{Handle, Absent, Dialing, Joined, at_number}
 use Rattle.my_run.specs.Headline.{EachExplained, IsExplained}
 use Rattle.run_laws.specs.Tapes.{HasTape, EachTapeIsRead}
 use Rattle.run_laws.proofs.Connecting.{IsOnce, at_once, both, connects_once, grown_once, left_of, none_connects, right_of}
+use Rattle.run_laws.proofs.Growing.{HasAt}
+use Rattle.run_laws.proofs.Ordering.{IsOrdered, grown_ordered}
 
 -- the reading has the tape's calls
 none_read : (login : Login) (t : Tape) (cs : List TapeCall) (closed : Bool) (p : Place) → none_connects (map (λ c. c.call) cs) ≡ true → connects_none (read_calls login (spans_from t cs) closed p).calls ≡ true
@@ -31,12 +33,17 @@ explained_now : (login : Login) (plans : Plans) (lines : List Line) → EachExpl
 explained_now login plans [] w n = tt
 explained_now login plans (l ∷ ls) w n = w.0 n
 
-tape_at : (login : Login) (plan : Option (List ReadItem)) (items : Option (List DialItem)) (h : Handle) → IsOnce h → IsExplained login plan items h → HasTape login h
+tape_at : (login : Login) (plan : Option (List ReadItem)) (items : Option (List DialItem)) (h : Handle) → IsOnce h → HasAt IsOrdered h → IsExplained login plan items h → HasTape login h
 unfolding reading
-tape_at login plan items Absent w e = tt
-tape_at login plan items (Dialing left) w e = tt
-tape_at login plan items (Joined there k x) w e = record { first = first_read login (tape_kept k) (calls_kept k.calls k.pending) false (first_place login) w; calls = e.0.read }
+tape_at login plan items Absent w o e = tt
+tape_at login plan items (Dialing left) w o e = tt
+tape_at login plan items (Joined there k x) w o e = record {
+  first = first_read login (tape_kept k) (calls_kept k.calls k.pending) false (first_place login) w;
+  calls = e.0.read;
+  order = record { first = o.first (tape_kept k); order = o.order };
+}
 
 pub each_tape_is_read : EachTapeIsRead
 each_tape_is_read login plans before later steps answers tapes h n =
-    tape_at login (plans.reads n) (plans.dials n) (at_number (handles_after h.lines) n) (at_once login (handles_after h.lines) n (grown_once login plans h.lines h.grown)) (explained_now login plans h.lines h.explained n)
+    tape_at login (plans.reads n) (plans.dials n) (at_number (handles_after h.lines) n) (at_once login (handles_after h.lines) n (grown_once login plans h.lines h.grown))
+    (grown_ordered login plans h.lines n h.grown) (explained_now login plans h.lines h.explained n)

@@ -1,2 +1,1 @@
 pub mod Tapes
-pub mod Order

@@ -18,8 +18,9 @@ HasTape login Absent = Unit {0}
 HasTape login (Dialing left) = Unit {0}
 HasTape login (Joined there k x) = IsTape login (tape_kept k)
 
--- At the end of a run each connection's tape is one that the reading accepts: its first call connects and no other does, each call
--- ended as it comes to, or is open there, and what was sent is a beginning of what the calls say.
+-- At the end of a run each connection's tape is one that the reading accepts: its first call connects and no other does,
+-- each call ended as it comes to, or is open there, what was sent is a beginning of what the calls say, and the calls
+-- stand in order.
 abbrev pub EachTapeIsRead : Type 0
 EachTapeIsRead = (login : Login) (plans : Plans) (before later : Course) (steps : List Step) (answers : List StepAnswer) (tapes : List Tape)
     → (h : Headline login plans before later steps answers tapes) → (n : ℕ) → HasTape login (at_number (handles_after h.lines) n)
