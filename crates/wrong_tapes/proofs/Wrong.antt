@@ -1,5 +1,5 @@
 -- The wrong tapes: each differs from its reading.
-use Rattle.std.proofs.Common.{◌≡◌, ℕ, ◌+◌, List, [], ◌∷◌, Option, Some, None, true, false, ap, arith}
+use Rattle.std.proofs.Common.{◌≡◌, ℕ, ◌+◌, List, [], ◌∷◌, Option, Some, None, true, false, refl, ap, arith}
 use Rattle.std.proofs.lemmas.Bool.{false≢true}
 use Rattle.my_value.specs.declared.value.Value.{Value}
 use Rattle.my_value.specs.declared.value.Value.TheVariants.{Bytes}
@@ -160,4 +160,9 @@ are_wrong = record {
   renewed_by_older = λ w. false≢true w.calls.1.1.1.1.0.sent;
   early_renewal = λ w. not_cut _ _ (λ e. absurd (omega arith)) (λ e. absurd (omega arith)) (λ e. absurd (omega arith)) (λ e. absurd (omega arith)) w.calls.1.0.ends;
   kept_over_renewal = λ w. not_cut _ _ (λ e. absurd (omega arith)) (λ e. absurd (omega arith)) (λ e. absurd (omega arith)) (λ e. absurd (omega arith)) w.calls.1.1.1.0.ends;
+  byte_before = record { first = refl; calls = (record { ends = refl; sent = refl; quiet = refl }, tt); wrong = λ w. false≢true w.order.first };
+  answer_twice = record { first = refl; calls = (record { ends = refl; sent = refl; quiet = refl }, (record { ends = refl; sent = refl; quiet = refl }, (record { ends = refl; sent = refl; quiet = refl }, (record { ends = refl; sent = refl; quiet = refl }, tt)))); wrong = λ w. false≢true w.order.order };
+  open_before = record { first = refl; calls = (record { ends = refl; sent = refl; quiet = refl }, (record { ends = refl; sent = refl; quiet = refl }, (record { ends = IsOpen refl; sent = refl; quiet = refl }, (record { ends = refl; sent = refl; quiet = refl }, tt)))); wrong = λ w. false≢true w.order.order };
+  beyond_end = record { first = refl; calls = (record { ends = refl; sent = refl; quiet = refl }, (record { ends = refl; sent = refl; quiet = refl }, tt)); wrong = λ w. false≢true w.order.order };
+  bytes_alone = record { first = refl; calls = tt; wrong = λ w. false≢true w.order.first };
 }

@@ -1,5 +1,5 @@
 -- Tapes that no client has.
-use Rattle.std.specs.Prelude.{ℕ, pos, List, [], ◌∷◌, ◌++◌, codes, None, false, true}
+use Rattle.std.specs.Prelude.{◌≡◌, ℕ, suc, pos, List, [], ◌∷◌, ◌++◌, length, codes, None, false, true}
 use Rattle.my_value.specs.declared.value.Value.TheVariants.{Int}
 use Rattle.my_params.specs.declared.params.Params.TheVariants.{Empty, Positional}
 use Rattle.my_reading.specs.declared.call.Call.TheVariants.{Connect, Query, Prepare, Execute, Batch, CloseStmt, NextRow, DropResult, TakeSet, SkipTaken, Ping, ChangeUser, Begin, Commit, Rollback, ForgetTransaction, CleanForPool, Quit}
@@ -7,16 +7,23 @@ use Rattle.my_opts_parts.specs.TransactionOptions.{default_tx}
 use Rattle.my_reading.specs.declared.error.DriverError.TheVariants.{NestedTransaction}
 use Rattle.my_reading.specs.declared.error.Error.TheVariants.{Driver, Server}
 use Rattle.my_reading.specs.declared.error.IoKind.TheVariants.{Link}
-use Rattle.my_reading.specs.Endings.{IsTape}
+use Rattle.my_reading.specs.Endings.{AreCalls, IsTape, connects_first}
 use Rattle.my_reading.specs.Errors.{connection_closed, mixed_params, io_error, unexpected_eof, invalid_data}
 use Rattle.my_reading.specs.Told.{ToldReady, ToldRow, ToldEnd, ToldNone, ToldError, Dropped}
-use Rattle.my_reading.specs.Tape.{Span}
-use Rattle.wrong_tapes.specs.Bytes.{root, frugal, orderly, connected, connected_to, connected_with, arranged, selected, prepared, prepared_plain, reset, begun, forgotten, pinged, changed, changes_to, to_bob, changes_with, cleaned, found, renewed, asking, ones, executes, closes, resets, starts, commits, rolls_back, sets_level, sets_access, starts_fully, reading_tx, full_tx, asked, asks, returned, call_with, row, one, end, fine, refusal, other_refusal, head, packet, response, greeting, tape_of}
+use Rattle.my_reading.specs.Reading.{reading}
+use Rattle.my_reading.specs.Tape.{Span, Tape}
+use Rattle.wrong_tapes.specs.Bytes.{root, frugal, orderly, connected, connected_to, connected_with, arranged, selected, prepared, prepared_plain, reset, begun, forgotten, pinged, changed, changes_to, to_bob, changes_with, cleaned, found, renewed, asking, ones, executes, closes, resets, starts, commits, rolls_back, sets_level, sets_access, starts_fully, reading_tx, full_tx, asked, asks, returned, call_with, row, one, end, fine, refusal, other_refusal, head, packet, response, greeting, all_sent, all_taken, calls_from, tape_with, tape_of}
 use Rattle.wrong_tapes.specs.Right.{curious, error, other_error, scramble, secretive}
 
 -- the calls are on no tape of a client that logs in as root
 abbrev pub NoTape : List Span → Type 0
 NoTape ss = IsTape root (tape_of ss) → ⊥
+
+-- The calls are read right, and the tape is none of a client that logs in as root: they don't stand in order.
+pub record IsDisordered (t : Tape) : Type 0 where
+  pub first : connects_first (reading root t).calls ≡ true
+  pub calls : AreCalls root (reading root t).calls
+  pub wrong : IsTape root t → ⊥
 
 -- the same password for the nonce `tsrqponmlkjihgfedcba`
 abbrev pub other_scramble : List ℕ
@@ -164,3 +171,15 @@ pub record AreWrong : Type 0 where
   pub early_renewal : NoTape (connected ∷ renewed resets [] ∷ [])
   -- a statement is found in the cache after it
   pub kept_over_renewal : NoTape (connected ∷ prepared 1 ∷ renewed resets (fine 1 2) ∷ found ∷ [])
+  -- a byte was received before the first call began
+  pub byte_before : IsDisordered (record { sent = all_sent (connected ∷ []); taken = 0 ∷ all_taken (connected ∷ []); calls = calls_from 0 1 (connected ∷ []) })
+  -- the OK of a ping answers a second one, too, which begins where the first one began
+  pub answer_twice : IsDisordered (tape_with (connected ∷ pinged [] [] ∷ [])
+      (calls_from 0 0 (connected ∷ pinged [] [] ∷ returned NextRow [] [] ToldNone ∷ []) ++ calls_from (length connected.sent) (length connected.taken) (pinged [] [] ∷ [])))
+  -- a read is open, and the next one gets the row
+  pub open_before : IsDisordered (tape_of (connected ∷ selected ∷ call_with NextRow [] [] None ∷ returned NextRow [] (one 3) (ToldRow (row (codes "1"))) ∷ []))
+  -- a call begins after the tape's end
+  pub beyond_end : IsDisordered (tape_with (connected ∷ [])
+      (calls_from 0 0 (connected ∷ []) ++ calls_from (suc (length connected.sent)) (length connected.taken) (returned NextRow [] [] ToldNone ∷ [])))
+  -- bytes of no call
+  pub bytes_alone : IsDisordered (tape_with (connected ∷ []) [])

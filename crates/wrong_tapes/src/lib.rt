@@ -25,7 +25,8 @@ pub fn right_tapes_are_accepted()
 /// none, queries of one in another order, one that has begun before its last OK, a rollback that sends nothing, and one
 /// that is committed though the server refused, or isn't rolled back then; a change to another user, for another nonce, before
 /// the OK or without the queries that follow, and a statement that is found after one; a pool that gets the error of what is left,
-/// rolls nothing back, or has a session renewed as the server can't, with an older user, or otherwise than by a reset.
+/// rolls nothing back, or has a session renewed as the server can't, with an older user, or otherwise than by a reset; bytes
+/// before the first call or of none, an answer that two calls read, a call after an open one or after the tape's end.
 pub fn wrong_tapes_are_refuted()
     ensures { AreWrong }
 {}
