@@ -55,8 +55,8 @@ fn is_among(told: Told, all: &[Told]) -> bool {
     false
 }
 
-// What is found of a tape.
-fn judged(alloc: Global, set_up: SetUp, tape: &Tape) -> Result<Verdict, NoMemory> {
+/// What is found of a tape.
+pub fn judged(alloc: Global, set_up: SetUp, tape: &Tape) -> Result<Verdict, NoMemory> {
     let login = login(alloc, set_up)?;
     judge(alloc, &login, tape)
 }

@@ -11,6 +11,8 @@ mod commits;
 #[cfg(test)]
 mod logins;
 #[cfg(test)]
+mod order;
+#[cfg(test)]
 mod renewals;
 #[cfg(test)]
 mod resets;

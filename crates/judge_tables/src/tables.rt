@@ -184,10 +184,11 @@ const TABLES: &[Table] = &[
         checks: &[
             (4, Change::Missing, None),
             (2, Change::TakenEarlier, None),
-            (2, Change::Ending(Told::Open), None),
+            // An open call is the newest one.
+            (2, Change::Ending(Told::Open), Some(3)),
         ],
         from: 1,
-        refuted: 120,
+        refuted: 121,
     },
     // A payload that fits no case closes the connection.
     Table {
