@@ -1,5 +1,6 @@
 -- Each step of a session is steps of the reading.
 pub mod Fields
+pub mod Kinds
 pub mod Payloads
 pub mod Commands
 pub mod Opened
