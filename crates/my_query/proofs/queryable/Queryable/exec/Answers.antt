@@ -1,0 +1,20 @@
+use Rattle.std.proofs.Common.{Ok, Err, refl}
+use Rattle.my_query.proofs.queryable.Queryable.exec.Goals as goal
+
+pub returns-in-Ok-clause-collects : goal.returns-in-Ok-clause-collects
+returns-in-Ok-clause-collects g c = (
+  record { items = c.new.result },
+  c.new.ensures.items,
+  Ok c.in-Ok.collected,
+  refl,
+  (c.send_execution-begun.result, g.Self.Calls.conn_of c.send_execution-begun.new.self, c.send_execution-begun.ensures.done, c.in-Ok.ensures.reads),
+)
+
+pub returns-in-Err-clause-collects : goal.returns-in-Err-clause-collects
+returns-in-Err-clause-collects g c = (
+  record { items = c.new.result },
+  c.new.ensures.items,
+  Err c.in-Err.error,
+  refl,
+  (c.send_execution-begun.result, g.Self.Calls.conn_of c.send_execution-begun.new.self, c.send_execution-begun.ensures.done, c.in-Err.ensures.reads),
+)

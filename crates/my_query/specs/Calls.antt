@@ -1,0 +1,48 @@
+-- What the calls that give rows do: each begins an answer by this call, reads its first set, and drops the rest.
+use Rattle.std.specs.Prelude.{◌≡◌, List, [], Vec}
+use Rattle.std.specs.declared.result.Result.{Result}
+use Rattle.std.specs.declared.result.Result.TheVariants.{Ok, Err}
+use Rattle.my_link.specs.Looks.{Looks}
+use Rattle.my_value.specs.RowParts.{RowParts}
+use Rattle.my_reading.specs.declared.call.Call.{Call}
+use Rattle.my_reading.specs.declared.call.CallKind.{CallKind}
+use Rattle.my_conn.specs.Conn.{ConnSeen}
+use Rattle.my_query.specs.Answers.{AnswerIs}
+use Rattle.my_query.specs.Gathers.{Collects, Folds, Maps, SetIs}
+use Rattle.my_query.specs.declared.error.QueryError.{QueryError}
+use Rattle.my_query.specs.declared.gather.Collected.{Collected}
+use Rattle.my_query.specs.declared.gather.Folded.{Folded}
+use Rattle.my_query.specs.declared.gather.Mapped.{Mapped}
+
+-- a part of the value
+abbrev pub part_in : {A B : Type 0} → (A → B) → Result A QueryError → Result B QueryError
+part_in part (Ok value) = Ok (part value)
+part_in part (Err error) = Err error
+
+-- The list that was gathered, or the same error.
+abbrev pub IsListIn : {G T A : Type 0} → (G → List T) → Result G QueryError → Result (Vec T A) QueryError → Type 0
+IsListIn list (Ok gathered) (Ok items) = items.items ≡ list gathered
+IsListIn list (Ok gathered) (Err error) = ⊥
+IsListIn list (Err error) (Ok items) = ⊥
+IsListIn list (Err error) (Err same) = same ≡ error
+
+-- The value is the fold of the function over what the rows of the first set became, in order, from this value.
+abbrev pub FoldsFirst : {L T U F : Type 0} → (L → Looks) → CallKind → Call → (RowParts → Type 0) → (RowParts → T → Type 0)
+    → (F → U → T → U → F → Type 0) → U → F → ConnSeen L → ConnSeen L → Result U QueryError → Type 0
+FoldsFirst {L} {T} {U} {F} look c call converts becomes step init f old new result = (r : Result (Folded U F) QueryError)
+    × (result ≡ part_in (λ (folded : Folded U F). folded.value) r)
+    × AnswerIs look c call (SetIs look converts becomes (Folds step) (record { value = init; f = f })) old new r
+
+-- The values are what the rows of the first set became: all of them, in order.
+abbrev pub CollectsFirst : {L T A : Type 0} → (L → Looks) → CallKind → Call → (RowParts → Type 0) → (RowParts → T → Type 0)
+    → ConnSeen L → ConnSeen L → Result (Vec T A) QueryError → Type 0
+CollectsFirst {L} {T} look c call converts becomes old new result = (none : Collected T) × (none.items.items ≡ [])
+    × (r : Result (Collected T) QueryError) × IsListIn (λ (collected : Collected T). collected.items.items) r result
+    × AnswerIs look c call (SetIs look converts becomes Collects none) old new r
+
+-- The values are what the function returned of what the rows of the first set became: of all of them, in order.
+abbrev pub MapsFirst : {L T U F A : Type 0} → (L → Looks) → CallKind → Call → (RowParts → Type 0) → (RowParts → T → Type 0)
+    → (F → T → U → F → Type 0) → F → ConnSeen L → ConnSeen L → Result (Vec U A) QueryError → Type 0
+MapsFirst {L} {T} {U} {F} look c call converts becomes step f old new result = (none : Mapped U F) × (none.items.items ≡ [])
+    × (none.f ≡ f) × (r : Result (Mapped U F) QueryError) × IsListIn (λ (mapped : Mapped U F). mapped.items.items) r result
+    × AnswerIs look c call (SetIs look converts becomes (Maps step) none) old new r

@@ -1,0 +1,4 @@
+pub mod Reads
+pub mod Gathers
+pub mod Answers
+pub mod Calls

@@ -1,0 +1,82 @@
+//! A connection that is lent.
+ghost use Rattle.std.specs.Prelude.{◌≡◌};
+
+use crate::calls::Calls;
+use crate::queryable::Queryable;
+use my_conn::{Conn, NextAnswer};
+use my_frame::Blob;
+use my_link::BlockingLink;
+use my_params::Params;
+use my_reading::Error;
+use my_statements::Statement;
+use std::alloc::Global;
+
+/// A connection that is lent: its calls are that connection's.
+#[derive(Drop)]
+pub struct Lent<'a, L> {
+    pub conn: &'a mut Conn<L>,
+}
+
+impl<'a, L> Lent<'a, L> {
+    /// Lends the connection until this is let go.
+    pub fn new(conn: &'a mut Conn<L>) -> Lent<'a, L>
+        ensures same { result.conn.ghost_name ≡ conn.entry.ghost_name }
+        ensures value { result.conn.now ≡ conn.old }
+    {
+        Lent { conn }
+    }
+}
+
+impl<'a, L: BlockingLink> Calls for Lent<'a, L> {
+    ghost use Rattle.std.specs.Prelude.{Some};
+
+    type L = L;
+
+    ghost conn_of = { λ l. l.conn.now };
+
+    ghost loan_of = { λ l. Some l.conn.ghost_name };
+
+    fn ping(&mut self, alloc: Global) -> Result<(), Error> {
+        Conn::ping(&mut *self.conn, alloc)
+    }
+
+    fn prep(&mut self, alloc: Global, query: Blob) -> Result<Statement, Error> {
+        self.conn.prepare(alloc, query)
+    }
+
+    fn close(&mut self, alloc: Global, statement: Statement) -> Result<(), Error> {
+        self.conn.close_statement(alloc, statement)
+    }
+
+    fn send_query(&mut self, alloc: Global, query: Blob) -> Result<(), Error> {
+        self.conn.query(alloc, query)
+    }
+
+    fn send_execution(
+        &mut self,
+        alloc: Global,
+        statement: Statement,
+        params: Params,
+    ) -> Result<(), Error> {
+        self.conn.execute(alloc, statement, params)
+    }
+
+    fn exec_batch(
+        &mut self,
+        alloc: Global,
+        statement: Statement,
+        lists: Vec<Params>,
+    ) -> Result<(), Error> {
+        self.conn.execute_batch(alloc, statement, lists)
+    }
+
+    fn next_row(&mut self, alloc: Global) -> Result<NextAnswer, Error> {
+        self.conn.next(alloc)
+    }
+
+    fn drop_rest(&mut self, alloc: Global) -> Result<(), Error> {
+        self.conn.drop_result(alloc)
+    }
+}
+
+impl<'a, L: BlockingLink> Queryable for Lent<'a, L> {}

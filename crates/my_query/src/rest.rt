@@ -1,0 +1,94 @@
+//! Answers that a call began: what is read of them, and how the rest is dropped.
+ghost use Rattle.std.specs.Prelude.{◌≡◌, None};
+ghost use Rattle.my_query.specs.Answers.{NothingIs, ReadIs, RestIs};
+ghost use Rattle.my_query.specs.Gathers.{SetIs};
+ghost use Rattle.my_query.specs.Reads.{ItemIs};
+
+use crate::calls::Calls;
+use crate::error::QueryError;
+use crate::gather::Gather;
+use crate::read::{next_item, read_set};
+use my_reading::Error;
+use my_value::FromRow;
+use std::alloc::Global;
+
+// Drops the rest of an answer of which this was read.
+pub(crate) fn drop_after<A: Drop, C: Calls>(
+    conn: &mut C,
+    alloc: Global,
+    read: Result<A, QueryError>,
+) -> Result<A, QueryError>
+    requires { (C.conn_of conn.old).pending ≡ None }
+    ensures idle { (C.conn_of conn.new).pending ≡ None }
+    ensures loan { C.loan_of conn.new ≡ C.loan_of conn.old }
+    ensures rest { RestIs C.L.looks read (C.conn_of conn.old) (C.conn_of conn.new) result }
+{
+    match read {
+        Ok(value) => match conn.drop_rest(alloc) {
+            Ok(()) => return Ok(value),
+            Err(error) => return Err(QueryError::Client(error)),
+        },
+        Err(error) => return Err(error),
+    }
+}
+
+// Gathers the first set of an answer that this call began, and drops the rest.
+pub(crate) fn gather_answer<T: FromRow, G: Gather<T> + Drop, C: Calls>(
+    conn: &mut C,
+    alloc: Global,
+    begun: Result<(), Error>,
+    start: G,
+) -> Result<G, QueryError>
+    requires idle { (C.conn_of conn.old).pending ≡ None }
+    requires ready { G.ready start }
+    ensures idle { (C.conn_of conn.new).pending ≡ None }
+    ensures loan { C.loan_of conn.new ≡ C.loan_of conn.old }
+    ensures reads { ReadIs C.L.looks (SetIs C.L.looks T.row_converts T.row_becomes G.takes start) begun
+        (C.conn_of conn.old) (C.conn_of conn.new) result }
+{
+    match begun {
+        Ok(()) => {
+            let read = read_set::<T, G, C>(conn, alloc, start);
+            return drop_after(conn, alloc, read);
+        }
+        Err(error) => return Err(QueryError::Client(error)),
+    }
+}
+
+// The first row of an answer that this call began; the rest is dropped.
+pub(crate) fn first_of_answer<T: FromRow + Drop, C: Calls>(
+    conn: &mut C,
+    alloc: Global,
+    begun: Result<(), Error>,
+) -> Result<Option<T>, QueryError>
+    requires { (C.conn_of conn.old).pending ≡ None }
+    ensures idle { (C.conn_of conn.new).pending ≡ None }
+    ensures loan { C.loan_of conn.new ≡ C.loan_of conn.old }
+    ensures reads { ReadIs C.L.looks (ItemIs C.L.looks T.row_converts T.row_becomes) begun
+        (C.conn_of conn.old) (C.conn_of conn.new) result }
+{
+    match begun {
+        Ok(()) => {
+            let read = next_item::<T, C>(conn, alloc);
+            return drop_after(conn, alloc, read);
+        }
+        Err(error) => return Err(QueryError::Client(error)),
+    }
+}
+
+// Drops all of an answer that this call began.
+pub(crate) fn drop_answer<C: Calls>(
+    conn: &mut C,
+    alloc: Global,
+    begun: Result<(), Error>,
+) -> Result<(), QueryError>
+    requires { (C.conn_of conn.old).pending ≡ None }
+    ensures idle { (C.conn_of conn.new).pending ≡ None }
+    ensures loan { C.loan_of conn.new ≡ C.loan_of conn.old }
+    ensures reads { ReadIs C.L.looks NothingIs begun (C.conn_of conn.old) (C.conn_of conn.new) result }
+{
+    match begun {
+        Ok(()) => return drop_after(conn, alloc, Ok(())),
+        Err(error) => return Err(QueryError::Client(error)),
+    }
+}
