@@ -93,15 +93,10 @@ fn is_written(alloc: Global, packet: &ClientPacket, want: &[u8]) -> Result<bool,
     Ok(payload.as_slice() == want)
 }
 
-fn equals_its_copy(alloc: Global, packet: &ClientPacket) -> Result<bool, NoMemory> {
-    let copy = packet.copy(alloc)?;
-    Ok(copy == *packet)
-}
-
 fn is_well(alloc: Global, packet: &ClientPacket, want: &[u8]) -> Result<bool, NoMemory>
     requires { PartsFit packet.now }
 {
-    Ok(is_written(alloc, packet, want)? && equals_its_copy(alloc, packet)?)
+    is_written(alloc, packet, want)
 }
 
 // Whether the packet of a case is written so and equals its copy.
@@ -110,30 +105,12 @@ fn case_is_well(alloc: Global, case: Case, want: &[u8]) -> Result<bool, NoMemory
     is_well(alloc, &packet, want)
 }
 
-fn differs(alloc: Global, packet: &ClientPacket, case: Case) -> Result<bool, NoMemory> {
-    let other = packet_of(alloc, case)?;
-    Ok(other != *packet)
-}
-
-// Whether the packet is neither another query nor the preparation of the same text.
-fn is_alone(alloc: Global, packet: &ClientPacket) -> Result<bool, NoMemory> {
-    Ok(
-        differs(alloc, packet, Case::Query(b"SELECT 2"))?
-            && differs(alloc, packet, Case::Prepare(b"SELECT 1"))?,
-    )
-}
-
-fn query_is_alone(alloc: Global) -> Result<bool, NoMemory> {
-    let packet = packet_of(alloc, Case::Query(b"SELECT 1"))?;
-    is_alone(alloc, &packet)
-}
-
 #[test]
-fn ample_packets_are_written_and_copied(rt: HostRuntime) -> Result<(), Fail> {
+fn ample_packets_are_written(rt: HostRuntime) -> Result<(), Fail> {
     let alloc = rt.alloc();
     for (case, want) in SENT {
         assert!(rt; case_is_well(alloc, *case, want)?);
     }
-    assert!(rt; query_is_alone(alloc)? && attributes_are_copied(alloc)?);
+    assert!(rt; attributes_are_copied(alloc)?);
     Ok(())
 }

@@ -5,7 +5,7 @@ use my_script::{Outcome, StepAnswer, Tape, TapeCall, Transcript};
 use std::mem;
 
 /// One change of a transcript: of a line, of a tape, or of a call on it.
-#[derive(Clone, Copy, Debug, PartialEq, Eq)]
+#[derive(Clone, Copy, PartialEq, Eq)]
 pub enum Change {
     /// The line has another number.
     Number(usize),

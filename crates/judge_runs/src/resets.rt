@@ -14,7 +14,7 @@ use std::test::Fail;
 #[test]
 fn connections_that_are_reset(rt: HostRuntime) -> Result<(), Fail> {
     let found = count_all(&rt, rt.alloc(), &reset())?;
-    assert_eq!(rt; found, refuted(267, counted(45, 0)));
+    assert!(rt; found == refuted(267, counted(45, 0)));
     Ok(())
 }
 

@@ -15,7 +15,7 @@ use std::process::Abort;
 use std::test::Fail;
 
 /// How many changes were refuted, and how many allowed.
-#[derive(Clone, Copy, Debug, PartialEq, Eq)]
+#[derive(Clone, Copy, PartialEq, Eq)]
 pub struct Counts {
     pub refuted: usize,
     pub allowed: usize,
@@ -23,7 +23,7 @@ pub struct Counts {
 
 /// Of transcripts, and of plans, of which lines that no read or write came to may be others, and one that is missing where
 /// the next one begins with the bytes that were read.
-#[derive(Clone, Copy, Debug, PartialEq, Eq)]
+#[derive(Clone, Copy, PartialEq, Eq)]
 pub struct Sums {
     transcripts: Counts,
     plans: Counts,
@@ -305,56 +305,56 @@ pub fn refuted(refuted: usize, plans: Counts) -> Sums {
 #[test]
 fn connections_that_are_not_made(rt: HostRuntime) -> Result<(), Fail> {
     let found = count_all(&rt, rt.alloc(), &connecting())?;
-    assert_eq!(rt; found, refuted(117, counted(18, 10)));
+    assert!(rt; found == refuted(117, counted(18, 10)));
     Ok(())
 }
 
 #[test]
 fn calls_that_are_answered(rt: HostRuntime) -> Result<(), Fail> {
     let found = count_all(&rt, rt.alloc(), &answered())?;
-    assert_eq!(rt; found, refuted(401, counted(90, 0)));
+    assert!(rt; found == refuted(401, counted(90, 0)));
     Ok(())
 }
 
 #[test]
 fn calls_that_are_held(rt: HostRuntime) -> Result<(), Fail> {
     let found = count_all(&rt, rt.alloc(), &held())?;
-    assert_eq!(rt; found, refuted(327, counted(88, 3)));
+    assert!(rt; found == refuted(327, counted(88, 3)));
     Ok(())
 }
 
 #[test]
 fn reads_that_close(rt: HostRuntime) -> Result<(), Fail> {
     let found = count_all(&rt, rt.alloc(), &closing())?;
-    assert_eq!(rt; found, refuted(267, counted(51, 3)));
+    assert!(rt; found == refuted(267, counted(51, 3)));
     Ok(())
 }
 
 #[test]
 fn writes_that_close(rt: HostRuntime) -> Result<(), Fail> {
     let found = count_all(&rt, rt.alloc(), &writing())?;
-    assert_eq!(rt; found, refuted(147, counted(37, 0)));
+    assert!(rt; found == refuted(147, counted(37, 0)));
     Ok(())
 }
 
 #[test]
 fn calls_that_are_polled(rt: HostRuntime) -> Result<(), Fail> {
     let found = count_all(&rt, rt.alloc(), &polled())?;
-    assert_eq!(rt; found, refuted(298, counted(31, 7)));
+    assert!(rt; found == refuted(298, counted(31, 7)));
     Ok(())
 }
 
 #[test]
 fn sets_that_are_taken(rt: HostRuntime) -> Result<(), Fail> {
     let found = count_all(&rt, rt.alloc(), &streamed())?;
-    assert_eq!(rt; found, refuted(575, counted(105, 15)));
+    assert!(rt; found == refuted(575, counted(105, 15)));
     Ok(())
 }
 
 #[test]
 fn statements_that_are_prepared(rt: HostRuntime) -> Result<(), Fail> {
     let found = count_all(&rt, rt.alloc(), &prepared())?;
-    assert_eq!(rt; found, refuted(481, counted(99, 0)));
+    assert!(rt; found == refuted(481, counted(99, 0)));
     Ok(())
 }
 

@@ -15,14 +15,14 @@ use std::test::Fail;
 #[test]
 fn transactions_that_begin_and_end(rt: HostRuntime) -> Result<(), Fail> {
     let found = count_all(&rt, rt.alloc(), &transactions())?;
-    assert_eq!(rt; found, refuted(366, counted(60, 0)));
+    assert!(rt; found == refuted(366, counted(60, 0)));
     Ok(())
 }
 
 #[test]
 fn transactions_that_are_committed(rt: HostRuntime) -> Result<(), Fail> {
     let found = count_all(&rt, rt.alloc(), &commits())?;
-    assert_eq!(rt; found, refuted(283, counted(63, 0)));
+    assert!(rt; found == refuted(283, counted(63, 0)));
     Ok(())
 }
 

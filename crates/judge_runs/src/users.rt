@@ -14,7 +14,7 @@ use std::test::Fail;
 #[test]
 fn users_that_are_changed(rt: HostRuntime) -> Result<(), Fail> {
     let found = count_all(&rt, rt.alloc(), &users())?;
-    assert_eq!(rt; found, refuted(172, counted(27, 0)));
+    assert!(rt; found == refuted(172, counted(27, 0)));
     Ok(())
 }
 

@@ -25,7 +25,7 @@ use crate::outcome::{
 use my_script::{Outcome, Step, target};
 
 /// What the lines so far made of a connection.
-#[derive(Clone, Copy, Debug, PartialEq, Eq)]
+#[derive(Clone, Copy, PartialEq, Eq)]
 pub enum Status {
     /// It isn't dialed yet, and this many others are dialed first.
     Ahead(u64),
@@ -42,7 +42,7 @@ pub enum Status {
 }
 
 /// What a line does.
-#[derive(Clone, Copy, Debug, PartialEq, Eq)]
+#[derive(Clone, Copy, PartialEq, Eq)]
 pub enum Act {
     /// No run has such a line.
     Wrong,

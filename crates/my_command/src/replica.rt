@@ -10,7 +10,7 @@ use std::alloc::Global;
 use std::marker::Model;
 
 /// Transactions of one server.
-#[derive(Debug, Drop)]
+#[derive(Drop)]
 pub struct Sid {
     /// The server's UUID.
     pub uuid: [u8; 16],
@@ -57,7 +57,7 @@ impl Copied for Sid {
 }
 
 /// Makes the client known as a replica.
-#[derive(Debug, Drop, PartialEq, Eq)]
+#[derive(Drop)]
 pub struct RegisterSlave {
     /// The client's server id.
     pub server: u32,
@@ -69,7 +69,7 @@ pub struct RegisterSlave {
 }
 
 /// Asks for a binary log from a position in a file on.
-#[derive(Debug, Drop, PartialEq, Eq)]
+#[derive(Drop)]
 pub struct Dump {
     /// The position in the file, of which the low 32 bits are sent.
     pub position: u64,
@@ -81,7 +81,7 @@ pub struct Dump {
 }
 
 /// Asks for a binary log without the transactions that the client has.
-#[derive(Debug, Drop, PartialEq, Eq)]
+#[derive(Drop)]
 pub struct DumpGtid {
     pub position: u64,
     /// The stream ends where the log does.

@@ -12,7 +12,7 @@ use my_frame::{Blob, Copied, Listed, NoMemory};
 use std::alloc::Global;
 
 /// The type of a parameter.
-#[derive(Clone, Copy, Debug, PartialEq, Eq)]
+#[derive(Clone, Copy, PartialEq, Eq)]
 pub struct ParameterType {
     /// The number of the type.
     pub kind: u8,
@@ -21,7 +21,7 @@ pub struct ParameterType {
 }
 
 /// A parameter of a statement.
-#[derive(Debug, Drop, PartialEq, Eq)]
+#[derive(Drop)]
 pub struct Parameter {
     pub form: ParameterType,
     /// The value as it is written, empty where it was sent before; `None` is NULL.
@@ -29,21 +29,21 @@ pub struct Parameter {
 }
 
 /// What is sent of a parameter before all values: its type, and whether it is NULL.
-#[derive(Clone, Copy, Debug, PartialEq, Eq)]
+#[derive(Clone, Copy, PartialEq, Eq)]
 pub struct ParameterHead {
     pub form: ParameterType,
     pub is_null: bool,
 }
 
 /// Executes a statement.
-#[derive(Debug, Drop, PartialEq, Eq)]
+#[derive(Drop)]
 pub struct Execute {
     pub statement: u32,
     pub parameters: Listed<Parameter>,
 }
 
 /// Executes a statement of a MariaDB once for each row.
-#[derive(Debug, Drop, PartialEq, Eq)]
+#[derive(Drop)]
 pub struct BulkExecute {
     pub statement: u32,
     pub types: Listed<ParameterType>,

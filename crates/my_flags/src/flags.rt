@@ -6,7 +6,7 @@ use bitflags::{Flag, Flags, bitflag_items};
 
 /// What a client or a server can do. Both sides send theirs while a connection is made, and what
 /// both have holds from then on.
-#[derive(Clone, Copy, PartialEq, Eq, Debug)]
+#[derive(Clone, Copy, PartialEq, Eq)]
 pub struct CapabilityFlags(pub u32);
 
 bitflag_items! {
@@ -59,7 +59,7 @@ impl Flags for CapabilityFlags {
 }
 
 /// The state of a server's session, as its replies give it.
-#[derive(Clone, Copy, PartialEq, Eq, Debug)]
+#[derive(Clone, Copy, PartialEq, Eq)]
 pub struct StatusFlags(pub u16);
 
 bitflag_items! {
@@ -112,7 +112,7 @@ impl Flags for StatusFlags {
 
 /// What a MariaDB server can do beyond `CapabilityFlags`. It sends them in the last four of the
 /// greeting's reserved bytes, and a client returns those that it has too.
-#[derive(Clone, Copy, PartialEq, Eq, Debug)]
+#[derive(Clone, Copy, PartialEq, Eq)]
 pub struct MariadbCapabilities(pub u32);
 
 bitflag_items! {

@@ -15,7 +15,7 @@ use std::alloc::Global;
 use std::marker::Model;
 
 /// Reads and writes payloads as numbered chunks. The sequence id counts over both directions.
-#[derive(Debug, Drop)]
+#[derive(Drop)]
 pub struct PacketCodec {
     number: u8,
     limit: u64,

@@ -13,7 +13,7 @@ use crate::scan::{Span, scan_front};
 use std::alloc::{AllocError, Global};
 
 /// A payload and the span of its chunks.
-#[derive(Debug, Drop, PartialEq, Eq)]
+#[derive(Drop)]
 pub struct FramedPayload {
     pub payload: Blob,
     pub span: Span,

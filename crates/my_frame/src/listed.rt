@@ -10,7 +10,7 @@ use std::marker::Model;
 /// Items in order, which contracts see as their list.
 ///
 /// It is made from a `Vec` and turned back into one without taking memory.
-#[derive(Debug, Drop)]
+#[derive(Drop)]
 pub struct Listed<T> {
     items: Vec<T>,
 }

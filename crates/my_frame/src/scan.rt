@@ -8,7 +8,7 @@ use crate::header::read_header;
 use crate::limits::FULL_LENGTH;
 
 /// The chunks of one payload: their length with their headers, in bytes, and the next sequence id.
-#[derive(Clone, Copy, Debug, PartialEq, Eq)]
+#[derive(Clone, Copy, PartialEq, Eq)]
 pub struct Span {
     pub len: usize,
     pub next: u8,

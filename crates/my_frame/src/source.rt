@@ -6,7 +6,7 @@ ghost use Rattle.my_frame.specs.Sources.{Gave, KeepsRest, SourceCounts, SourceSe
 use std::marker::Model;
 
 /// What a read did.
-#[derive(Clone, Copy, Debug, PartialEq, Eq)]
+#[derive(Clone, Copy, PartialEq, Eq)]
 pub enum SourceStep {
     /// This number of bytes came, to the buffer's front: at least one, and at most as many as it has.
     Got(usize),
@@ -29,7 +29,7 @@ pub trait Source {
 }
 
 /// A source in memory, which contracts see as the bytes that it has left and the count of its ends. It never fails.
-#[derive(Debug, Drop)]
+#[derive(Drop)]
 pub struct MemSource {
     bytes: Vec<u8>,
     from: usize,

@@ -13,7 +13,7 @@ use my_handshake::{ChangeUser, server_version};
 use std::alloc::Global;
 
 /// Who logs in, and the database that is used.
-#[derive(Debug, Drop, PartialEq, Eq)]
+#[derive(Drop)]
 pub struct Account {
     pub user: Option<Blob>,
     pub password: Option<Blob>,

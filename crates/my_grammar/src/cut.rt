@@ -12,7 +12,7 @@ use my_frame::{CodecFault, NoMemory, scan_front};
 use std::alloc::Global;
 
 /// What follows the last payload that was read.
-#[derive(Clone, Copy, Debug, PartialEq, Eq)]
+#[derive(Clone, Copy, PartialEq, Eq)]
 pub enum CutRest {
     /// Bytes, perhaps none, after an exchange that is over.
     Trailing,

@@ -14,7 +14,7 @@ use my_handshake::{
 use std::alloc::Global;
 
 /// What of the options a client needs to log in and to set its connection up.
-#[derive(Debug, Drop, PartialEq, Eq)]
+#[derive(Drop)]
 pub struct Login {
     pub user: Option<Blob>,
     pub password: Option<Blob>,

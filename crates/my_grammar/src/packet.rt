@@ -7,7 +7,7 @@ use my_frame::{Blob, NoMemory};
 use std::alloc::Global;
 
 /// A payload of the server, and what it was in its context.
-#[derive(Debug, Drop, PartialEq, Eq)]
+#[derive(Drop)]
 pub struct Packet {
     pub kind: Kind,
     pub payload: Blob,

@@ -21,7 +21,7 @@ use my_reply::{Column, read_column};
 use std::alloc::Global;
 
 /// How an exchange begins: with the server's greeting, or with a command.
-#[derive(Debug, Drop, PartialEq, Eq)]
+#[derive(Drop)]
 pub enum Opening {
     Connect,
     /// A command that one OK or ERR answers.

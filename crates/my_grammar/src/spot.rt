@@ -8,7 +8,7 @@ use my_flags::{CapabilityFlags, StatusFlags};
 use my_frame::limits::DEFAULT_MAX_ALLOWED_PACKET;
 
 /// What the reading awaits.
-#[derive(Clone, Copy, Debug, PartialEq, Eq)]
+#[derive(Clone, Copy, PartialEq, Eq)]
 pub enum Spot {
     /// Nothing: the exchange is over, or has no reply.
     Idle,
@@ -41,7 +41,7 @@ pub enum Spot {
 }
 
 /// How the rows of an exchange's sets are written.
-#[derive(Clone, Copy, Debug, PartialEq, Eq)]
+#[derive(Clone, Copy, PartialEq, Eq)]
 pub enum RowFormat {
     /// Each cell is `NULL` or bytes.
     Text,
@@ -50,7 +50,7 @@ pub enum RowFormat {
 }
 
 /// What a payload is in its context.
-#[derive(Clone, Copy, Debug, PartialEq, Eq)]
+#[derive(Clone, Copy, PartialEq, Eq)]
 pub enum Kind {
     /// A greeting, of a server with these capabilities.
     Greets(CapabilityFlags),
@@ -79,7 +79,7 @@ pub enum Kind {
 }
 
 /// What client and server keep to in an exchange.
-#[derive(Clone, Copy, Debug, PartialEq, Eq)]
+#[derive(Clone, Copy, PartialEq, Eq)]
 pub struct Terms {
     /// The capabilities of both, as far as both have sent them.
     pub kept: CapabilityFlags,
@@ -88,7 +88,7 @@ pub struct Terms {
 }
 
 /// All that the reading of the next payload needs to know of those before, but for the columns of its set.
-#[derive(Clone, Copy, Debug, PartialEq, Eq)]
+#[derive(Clone, Copy, PartialEq, Eq)]
 pub struct Context {
     pub spot: Spot,
     pub rows: RowFormat,

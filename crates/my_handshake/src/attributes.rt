@@ -10,7 +10,7 @@ use std::cmp::Ordering;
 use std::marker::Model;
 
 /// A name and its value.
-#[derive(Debug, Drop, PartialEq, Eq)]
+#[derive(Drop)]
 pub struct Attribute {
     pub key: Blob,
     pub value: Blob,
@@ -26,7 +26,7 @@ impl Copied for Attribute {
 }
 
 /// Attributes in the byte order of their keys, which contracts see as their list.
-#[derive(Debug, Drop, PartialEq, Eq)]
+#[derive(Drop)]
 pub struct Attributes {
     pairs: Listed<Attribute>,
 }

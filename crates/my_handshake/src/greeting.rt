@@ -20,7 +20,7 @@ pub const NEEDED_CAPABILITIES: CapabilityFlags = CapabilityFlags(
 );
 
 /// The first packet of a server.
-#[derive(Debug, Drop, PartialEq, Eq)]
+#[derive(Drop)]
 pub struct Greeting {
     /// The server's version as text.
     pub version: Blob,

@@ -12,7 +12,7 @@ use my_frame::{Blob, Copied, NoMemory};
 use std::alloc::Global;
 
 /// The client's response to the server's greeting.
-#[derive(Debug, Drop, PartialEq, Eq)]
+#[derive(Drop)]
 pub struct HandshakeResponse {
     /// The capabilities that both sides have.
     pub capabilities: CapabilityFlags,
@@ -35,7 +35,7 @@ pub struct HandshakeResponse {
 }
 
 /// A new login on an open connection.
-#[derive(Debug, Drop, PartialEq, Eq)]
+#[derive(Drop)]
 pub struct ChangeUser {
     /// Cut before its first zero byte, as the other names are.
     pub user: Blob,

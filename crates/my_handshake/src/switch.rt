@@ -10,7 +10,7 @@ use my_frame::{Blob, NoMemory, ReadError};
 use std::alloc::Global;
 
 /// The server asks for another authentication plugin.
-#[derive(Debug, Drop, PartialEq, Eq)]
+#[derive(Drop)]
 pub struct SwitchRequest {
     /// The plugin's name.
     pub plugin: Blob,
@@ -31,7 +31,7 @@ impl SwitchRequest {
 }
 
 /// Data of the authentication plugin.
-#[derive(Clone, Copy, Debug, PartialEq, Eq)]
+#[derive(Clone, Copy, PartialEq, Eq)]
 pub struct MoreData {
     /// Its first byte.
     pub kind: u8,

@@ -7,7 +7,7 @@ ghost use Rattle.my_handshake.specs.Version.{digit_at, dotted_at, further_digit,
 use my_frame::numbers::take_head;
 
 /// The server's make and the three numbers of its version, all 0 where its text is none.
-#[derive(Clone, Copy, Debug, PartialEq, Eq)]
+#[derive(Clone, Copy, PartialEq, Eq)]
 pub struct ServerVersion {
     pub mariadb: bool,
     pub major: u16,

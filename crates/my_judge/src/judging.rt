@@ -13,7 +13,7 @@ use my_grammar::Login;
 use std::alloc::Global;
 
 /// What is found of a tape.
-#[derive(Clone, Copy, Debug, PartialEq, Eq)]
+#[derive(Clone, Copy, PartialEq, Eq)]
 pub enum Verdict {
     Accepted,
     /// The first call that isn't read right or doesn't stand in order, with its index from 0; 0 where a tape without

@@ -14,7 +14,7 @@ use my_reading::{Call, TxStatus, begin_text};
 use std::alloc::Global;
 
 /// A part of a call.
-#[derive(Clone, Copy, Debug, PartialEq, Eq)]
+#[derive(Clone, Copy, PartialEq, Eq)]
 pub enum Part<'a> {
     /// The rest of the newest exchange is read.
     All,

@@ -3,7 +3,7 @@
 use crate::tape::Ending;
 
 /// Where a call stops.
-#[derive(Debug, Drop, PartialEq, Eq)]
+#[derive(Drop)]
 pub enum Stop {
     /// Bytes are to be sent.
     Owes,
@@ -14,7 +14,7 @@ pub enum Stop {
 }
 
 /// One step of a call.
-#[derive(Debug, Drop, PartialEq, Eq)]
+#[derive(Drop)]
 pub enum Step {
     /// It goes on with the same part.
     Stays,

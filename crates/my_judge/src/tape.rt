@@ -4,7 +4,7 @@ use my_frame::{Blob, Listed};
 use my_reading::{Answer, Call, Error};
 
 /// How a call ended.
-#[derive(Debug, Drop, PartialEq, Eq)]
+#[derive(Drop)]
 pub enum Ending {
     Answered(Answer),
     Failed(Error),
@@ -13,7 +13,7 @@ pub enum Ending {
 }
 
 /// A call, how many bytes were sent and received when it began, and how it ended, unless it is open.
-#[derive(Debug, Drop, PartialEq, Eq)]
+#[derive(Drop)]
 pub struct TapeCall {
     pub call: Call,
     pub sent_from: usize,
@@ -22,7 +22,7 @@ pub struct TapeCall {
 }
 
 /// The bytes that a connection sent and received, and its calls, the oldest first.
-#[derive(Debug, Drop, PartialEq, Eq)]
+#[derive(Drop)]
 pub struct Tape {
     pub sent: Blob,
     pub taken: Blob,

@@ -7,7 +7,7 @@ use my_frame::{Blob, NoMemory, SourceStep, Text};
 use std::alloc::Global;
 
 /// What the opening of a file returns.
-#[derive(Clone, Copy, Debug, PartialEq, Eq)]
+#[derive(Clone, Copy, PartialEq, Eq)]
 pub enum Opening {
     Opened,
     /// It isn't among the files that may be read.
@@ -48,7 +48,7 @@ pub trait InfileSource: Drop {
 }
 
 /// What follows a login.
-#[derive(Debug, Drop, PartialEq, Eq)]
+#[derive(Drop)]
 pub enum AfterStep {
     /// This text is sent.
     Query(Blob),
@@ -72,7 +72,7 @@ pub trait AfterConnect {
 pub trait Aid: GlobalHandler + AfterConnect {}
 
 /// No file, and no text.
-#[derive(Clone, Copy, Debug, Drop)]
+#[derive(Clone, Copy, Drop)]
 pub struct NoAid;
 
 impl GlobalHandler for NoAid {

@@ -7,7 +7,7 @@ use crate::link::Link;
 use my_opts_parts::Target;
 
 /// What the dials of a link do before one gives it, one item after another. With no item left a dial gives the link.
-#[derive(Clone, Copy, Debug, PartialEq, Eq)]
+#[derive(Clone, Copy, PartialEq, Eq)]
 pub enum DialItem {
     /// The next dial isn't ready, once.
     Wait,

@@ -22,7 +22,7 @@ pub enum ReadItem {
 }
 
 /// What a link does with writes, one item after another. With no item left it takes all bytes of a write.
-#[derive(Clone, Copy, Debug, PartialEq, Eq)]
+#[derive(Clone, Copy, PartialEq, Eq)]
 pub enum WriteItem {
     /// The next bytes are taken, this many in all.
     Accept(u64),
@@ -33,7 +33,7 @@ pub enum WriteItem {
 }
 
 /// What a read returns. `Got` has the number of bytes that are in the buffer now, at least one.
-#[derive(Clone, Copy, Debug, PartialEq, Eq)]
+#[derive(Clone, Copy, PartialEq, Eq)]
 pub enum ReadStep {
     Got(usize),
     NotYet,
@@ -42,7 +42,7 @@ pub enum ReadStep {
 }
 
 /// What a write returns. `Took` has the number of bytes that were taken, at least one.
-#[derive(Clone, Copy, Debug, PartialEq, Eq)]
+#[derive(Clone, Copy, PartialEq, Eq)]
 pub enum WriteStep {
     Took(usize),
     NotYet,
@@ -51,7 +51,7 @@ pub enum WriteStep {
 }
 
 /// What a check returns. A link is dead where bytes or the end can be read: nothing may come before the next command.
-#[derive(Clone, Copy, Debug, PartialEq, Eq)]
+#[derive(Clone, Copy, PartialEq, Eq)]
 pub enum CheckStep {
     Alive,
     Dead,

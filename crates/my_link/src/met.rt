@@ -1,7 +1,7 @@
 //! What a connection met outside.
 
 /// How often the outside gave each counted answer, and how many bytes came.
-#[derive(Clone, Copy, Debug, PartialEq, Eq)]
+#[derive(Clone, Copy, PartialEq, Eq)]
 pub struct Met {
     /// Faults of the link, or of the dialer.
     pub faults: u64,

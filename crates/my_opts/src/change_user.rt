@@ -10,7 +10,7 @@ use std::alloc::Global;
 use std::marker::Model;
 
 /// What a change of user changes: each part is left as it is, or gets a value or none.
-#[derive(Debug, Drop, PartialEq, Eq)]
+#[derive(Drop, PartialEq, Eq)]
 pub struct ChangeUserOpts {
     user: Option<Option<Text>>,
     pass: Option<Option<Text>>,

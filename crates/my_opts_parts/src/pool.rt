@@ -16,7 +16,7 @@ pub const DEFAULT_INACTIVE_CONNECTION_TTL: Millis = Millis { millis: 0 };
 pub const DEFAULT_TTL_CHECK_INTERVAL: Millis = Millis { millis: 30_000 };
 
 /// How many connections a pool keeps and has: `min <= max` and `0 < max`.
-#[derive(Debug, Clone, Copy, PartialEq, Eq, Hash)]
+#[derive(Clone, Copy, PartialEq, Eq, Hash)]
 pub struct PoolConstraints {
     min: u64,
     max: u64,
@@ -78,7 +78,7 @@ impl Default for PoolConstraints {
 }
 
 /// The options of a pool.
-#[derive(Debug, Clone, PartialEq, Eq, Hash, Drop)]
+#[derive(Clone, PartialEq, Eq, Hash, Drop)]
 pub struct PoolOpts {
     constraints: PoolConstraints,
     inactive_connection_ttl: Millis,

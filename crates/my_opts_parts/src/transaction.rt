@@ -6,7 +6,7 @@ ghost use Rattle.my_opts_parts.specs.Transaction.{level_text, level_number};
 use std::fmt;
 
 /// How far a transaction is kept from others, from the weakest level, 0, to the strongest, 3.
-#[derive(Debug, Clone, Copy, PartialEq, Eq, Hash)]
+#[derive(Clone, Copy, PartialEq, Eq, Hash)]
 pub enum IsolationLevel {
     ReadUncommitted = 0,
     ReadCommitted = 1,

@@ -7,7 +7,7 @@ use crate::transaction::IsolationLevel;
 use std::marker::Model;
 
 /// How a transaction begins.
-#[derive(Debug, Clone, Copy, PartialEq, Eq, Hash)]
+#[derive(Clone, Copy, PartialEq, Eq, Hash)]
 pub struct TxOpts {
     consistent_snapshot: bool,
     isolation_level: Option<IsolationLevel>,

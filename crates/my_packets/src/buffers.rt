@@ -8,7 +8,7 @@ use std::alloc::Global;
 use std::marker::Model;
 
 /// A buffer of bytes that came from a pool of buffers.
-#[derive(Debug, Drop)]
+#[derive(Drop)]
 pub struct PooledBuf {
     bytes: Vec<u8>,
 }
@@ -60,7 +60,7 @@ fn new_buffer(alloc: Global, capacity: usize) -> Result<PooledBuf, NoMemory>
 /// Empty buffers that are kept to be used again.
 ///
 /// At most `pool_cap` of them are kept, each with room for at most `size_cap` bytes; a new one has room for `init_cap` bytes.
-#[derive(Debug, Drop)]
+#[derive(Drop)]
 pub struct BufferPool {
     alloc: Global,
     buffers: Vec<PooledBuf>,

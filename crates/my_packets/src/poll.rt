@@ -6,7 +6,7 @@ ghost use Rattle.my_reading.specs.Errors.{io_error};
 use my_reading::{Error, IoError, IoFault, IoKind};
 
 /// What a poll comes to: a result, or nothing yet.
-#[derive(Debug, Drop)]
+#[derive(Drop)]
 pub enum Poll<T> {
     Ready(T),
     Pending,

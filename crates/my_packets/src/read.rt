@@ -60,7 +60,7 @@ fn receive<L: Link>(link: &mut L, src: &mut BytesMut, room: u64) -> Received
 }
 
 /// Reads one payload from a bare link, with a codec that counts its packets.
-#[derive(Clone, Copy, Debug, PartialEq, Eq)]
+#[derive(Clone, Copy, PartialEq, Eq)]
 pub struct ReadPacket;
 
 impl ReadPacket {

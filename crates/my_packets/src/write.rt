@@ -27,7 +27,7 @@ enum Sent {
 }
 
 /// Writes one payload to a bare link, with a codec that counts its packets.
-#[derive(Debug, Drop)]
+#[derive(Drop)]
 pub struct WritePacket {
     payload: Vec<u8>,
     begun: bool,

@@ -26,7 +26,7 @@ pub enum ParseFault {
 /// `'..'`, `".."` and backtick quotes and of comments (`#` and `-- ` to the line's end, `/* .. */`). A
 /// backslash inside `'` and `"` skips one byte; what isn't closed runs to the end. `/*!` and `/*+` begin no
 /// comment. Each name is replaced by `?`.
-#[derive(Debug, Drop)]
+#[derive(Drop)]
 pub struct ParsedNamedParams {
     query: Blob,
     params: Vec<Blob>,

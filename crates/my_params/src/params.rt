@@ -15,7 +15,7 @@ use std::fmt;
 /// The parameters that a caller gives with a statement.
 ///
 /// `Listed::from` makes a list of a `Vec` without taking memory, as `Blob::from` makes one of bytes.
-#[derive(Debug, Drop, PartialEq, Eq)]
+#[derive(Drop, PartialEq, Eq)]
 pub enum Params {
     Empty,
     /// One value for each `?`.

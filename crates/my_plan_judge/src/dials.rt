@@ -23,7 +23,7 @@ use my_world::WorldLine;
 use std::alloc::Global;
 
 /// Where the lines so far are in the dials of a number.
-#[derive(Clone, Copy, Debug, PartialEq, Eq)]
+#[derive(Clone, Copy, PartialEq, Eq)]
 pub enum DialSpot {
     /// It isn't dialed yet, and this number of others are dialed first.
     Ahead(u64),

@@ -34,7 +34,7 @@ pub struct Counts {
 }
 
 /// How many connections and requests are where, and how often each thing happened.
-#[derive(Clone, Copy, Debug, PartialEq, Eq)]
+#[derive(Clone, Copy, PartialEq, Eq)]
 pub struct Metrics {
     /// Counted connections.
     pub connection_count: u64,

@@ -8,7 +8,7 @@ use my_value::Row;
 use std::alloc::Global;
 
 /// The answer of a call.
-#[derive(Debug, Drop, PartialEq, Eq)]
+#[derive(Drop, PartialEq, Eq)]
 pub enum Answer {
     /// The command was accepted, or the connection made.
     Ready,

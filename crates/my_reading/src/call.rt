@@ -10,7 +10,7 @@ use my_statements::Statement;
 use std::alloc::Global;
 
 /// A call, with what it carries.
-#[derive(Debug, Drop, PartialEq, Eq)]
+#[derive(Drop, PartialEq, Eq)]
 pub enum Call {
     /// The handshake, with which a connection begins, and the queries that set the connection up.
     Connect,
@@ -54,7 +54,7 @@ pub enum Call {
 }
 
 /// Which call it is, without what it carries.
-#[derive(Clone, Copy, Debug, PartialEq, Eq)]
+#[derive(Clone, Copy, PartialEq, Eq)]
 pub enum CallKind {
     Connect,
     Query,

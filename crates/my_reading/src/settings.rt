@@ -15,7 +15,7 @@ use my_value::{Row, Value};
 const DEFAULT_WAIT: u64 = 28_800;
 
 /// How far the settings are known.
-#[derive(Clone, Copy, Debug, PartialEq, Eq)]
+#[derive(Clone, Copy, PartialEq, Eq)]
 pub enum Stage {
     /// The login isn't settled yet.
     Unasked,
@@ -25,7 +25,7 @@ pub enum Stage {
 }
 
 /// The settings of a connection.
-#[derive(Clone, Copy, Debug, PartialEq, Eq)]
+#[derive(Clone, Copy, PartialEq, Eq)]
 pub struct Settings {
     pub stage: Stage,
     /// The longest payload, where the options set it.

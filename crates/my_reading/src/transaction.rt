@@ -20,7 +20,7 @@ use my_handshake::ServerVersion;
 use my_opts_parts::{IsolationLevel, TxOpts};
 
 /// Whether the server has a transaction of this client.
-#[derive(Clone, Copy, Debug, PartialEq, Eq)]
+#[derive(Clone, Copy, PartialEq, Eq)]
 pub enum TxStatus {
     /// A transaction was begun, and neither committed nor rolled back.
     InTransaction,
@@ -63,7 +63,7 @@ impl TxStatus {
 }
 
 /// Whether a transaction is being committed: an ERR then has it rolled back first, and is the answer.
-#[derive(Debug, Drop, PartialEq, Eq)]
+#[derive(Drop)]
 pub enum Trial {
     /// None is.
     Off,

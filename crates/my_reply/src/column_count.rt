@@ -9,7 +9,7 @@ use my_frame::ReadError;
 use my_frame::numbers::take_len;
 
 /// The number of columns that the rows have.
-#[derive(Clone, Copy, Debug, PartialEq, Eq)]
+#[derive(Clone, Copy, PartialEq, Eq)]
 pub struct ColumnCount {
     /// At least 1.
     pub count: u16,

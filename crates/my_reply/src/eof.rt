@@ -10,7 +10,7 @@ use my_frame::ReadError;
 use my_frame::numbers::{take_head, take_u16};
 
 /// The end of columns or rows.
-#[derive(Clone, Copy, Debug, PartialEq, Eq)]
+#[derive(Clone, Copy, PartialEq, Eq)]
 pub struct EofPacket {
     pub warnings: u16,
     pub status: StatusFlags,

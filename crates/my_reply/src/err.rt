@@ -9,7 +9,7 @@ use my_frame::{NoMemory, ReadError, Text};
 use std::alloc::Global;
 
 /// The ERR packet: a command failed.
-#[derive(Debug, Drop, PartialEq, Eq)]
+#[derive(Drop)]
 pub struct ErrPacket {
     pub code: u16,
     /// The SQL state, `HY000` where the server sent none.

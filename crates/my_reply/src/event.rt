@@ -10,7 +10,7 @@ use my_frame::{Blob, NoMemory, ReadError};
 use std::alloc::Global;
 
 /// An event of a binary log.
-#[derive(Debug, Drop, PartialEq, Eq)]
+#[derive(Drop)]
 pub struct Event {
     /// Seconds since 1970.
     pub timestamp: u32,

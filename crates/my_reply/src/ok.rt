@@ -10,7 +10,7 @@ use my_frame::{Blob, FULL_LENGTH, NoMemory, ReadError};
 use std::alloc::Global;
 
 /// The OK packet: a command succeeded, or a set of rows ended.
-#[derive(Debug, Drop, PartialEq, Eq)]
+#[derive(Drop, PartialEq, Eq)]
 pub struct OkPacket {
     /// The number of rows that were changed.
     pub affected: u64,

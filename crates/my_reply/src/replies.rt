@@ -10,7 +10,7 @@ use my_frame::{Blob, NoMemory, ReadError};
 use std::alloc::Global;
 
 /// A statement was prepared.
-#[derive(Clone, Copy, Debug, PartialEq, Eq)]
+#[derive(Clone, Copy, PartialEq, Eq)]
 pub struct PrepareOk {
     /// The statement's id.
     pub id: u32,
@@ -22,7 +22,7 @@ pub struct PrepareOk {
 }
 
 /// The server asks for a file of the client.
-#[derive(Debug, Drop, PartialEq, Eq)]
+#[derive(Drop)]
 pub struct InfileRequest {
     pub name: Blob,
 }

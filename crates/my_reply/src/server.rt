@@ -8,12 +8,12 @@ use crate::column::Column;
 use crate::err::ErrPacket;
 use crate::ok::OkPacket;
 use my_frame::writing::{put_len, put_text, put_text0, put_u8, put_u16, put_u32};
-use my_frame::{Blob, Copied, Listed, NoMemory};
+use my_frame::{Blob, Listed, NoMemory};
 use my_handshake::Greeting;
 use std::alloc::Global;
 
 /// A packet of the server.
-#[derive(Debug, Drop, PartialEq, Eq)]
+#[derive(Drop)]
 pub enum ServerPacket {
     /// Sent first.
     Greeting(Greeting),
@@ -28,23 +28,6 @@ pub enum ServerPacket {
     Column(Column),
     /// The cells of a row as text; `None` is NULL.
     TextRow(Listed<Option<Blob>>),
-}
-
-impl ServerPacket {
-    /// A second value of the same packet.
-    pub fn copy(&self, alloc: Global) -> Result<ServerPacket, NoMemory>
-        ensures { IfOk result (λ copy. copy ≡ self.now) }
-    {
-        match self {
-            ServerPacket::Greeting(greeting) => Ok(ServerPacket::Greeting(greeting.copy(alloc)?)),
-            ServerPacket::Fine(ok) => Ok(ServerPacket::Fine(ok.copy(alloc)?)),
-            ServerPacket::End(ok) => Ok(ServerPacket::End(ok.copy(alloc)?)),
-            ServerPacket::Refuse(err) => Ok(ServerPacket::Refuse(err.copy(alloc)?)),
-            ServerPacket::Count(count) => Ok(ServerPacket::Count(*count)),
-            ServerPacket::Column(column) => Ok(ServerPacket::Column(column.copy(alloc)?)),
-            ServerPacket::TextRow(cells) => Ok(ServerPacket::TextRow(cells.copy(alloc)?)),
-        }
-    }
 }
 
 // A nonce of 20 bytes: cut, or filled with zeros.

@@ -24,7 +24,7 @@ use my_world::{World, WorldLine};
 use std::alloc::Global;
 
 /// How a run ended, with its cause.
-#[derive(Debug, Drop, PartialEq, Eq)]
+#[derive(Drop)]
 pub enum Status {
     /// All steps were run, and their text was written.
     Done,

@@ -22,7 +22,7 @@ use my_statements::Statement;
 use std::alloc::Global;
 
 /// What is found of a connection in a transcript.
-#[derive(Clone, Copy, Debug, PartialEq, Eq)]
+#[derive(Clone, Copy, PartialEq, Eq)]
 pub enum Found {
     Right,
     /// The first line that isn't right there, with its index from 0; the number of lines means the end.

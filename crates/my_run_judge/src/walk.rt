@@ -19,7 +19,7 @@ use my_statements::Statement;
 use std::alloc::Global;
 
 /// Where the lines so far are at a connection.
-#[derive(Clone, Copy, Debug, PartialEq, Eq)]
+#[derive(Clone, Copy, PartialEq, Eq)]
 pub struct Spot {
     pub status: Status,
     /// The index of the call that is open, or of the next one.

@@ -7,7 +7,7 @@ use crate::transaction::{Transaction, is_begun, transaction_after};
 use crate::{Outcome, Step};
 
 /// What the lines so far made at a connection beside its calls.
-#[derive(Clone, Copy, Debug, PartialEq, Eq)]
+#[derive(Clone, Copy, PartialEq, Eq)]
 pub struct Beside {
     pub stream: Stream,
     pub transaction: Transaction,

@@ -5,7 +5,7 @@ ghost use Rattle.my_script.specs.Streams.{after_cancel, after_item, after_poll, 
 use crate::{Outcome, Step};
 
 /// What the lines so far made of a stream at a connection.
-#[derive(Clone, Copy, Debug, PartialEq, Eq)]
+#[derive(Clone, Copy, PartialEq, Eq)]
 pub enum Stream {
     /// None is there.
     Without,

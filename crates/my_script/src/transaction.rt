@@ -14,7 +14,7 @@ ghost use Rattle.my_script.specs.Transactions.{
 use crate::{Outcome, Step};
 
 /// What the lines so far made of a transaction at a connection.
-#[derive(Clone, Copy, Debug, PartialEq, Eq)]
+#[derive(Clone, Copy, PartialEq, Eq)]
 pub enum Transaction {
     /// None is there.
     Without,

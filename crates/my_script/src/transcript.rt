@@ -8,7 +8,7 @@ use my_statements::Statement;
 use my_value::Row;
 
 /// What one poll of a call, or one dial, met outside.
-#[derive(Clone, Copy, Debug, PartialEq, Eq)]
+#[derive(Clone, Copy, PartialEq, Eq)]
 pub struct Use {
     /// The connection's number.
     pub number: u64,

@@ -8,7 +8,7 @@ use my_grammar::Kind;
 use my_reading::CallKind;
 
 /// What is made of a payload.
-#[derive(Clone, Copy, Debug, PartialEq, Eq)]
+#[derive(Clone, Copy, PartialEq, Eq)]
 pub enum Reaction {
     /// The call goes on with this task.
     Goes(Task),

@@ -22,7 +22,7 @@ pub trait Routine: Sized {
 }
 
 /// Sends a query, and reads the head of its first result.
-#[derive(Debug, Drop)]
+#[derive(Drop)]
 pub struct QueryRoutine {
     pub(crate) text: Blob,
 }
@@ -44,7 +44,7 @@ impl Routine for QueryRoutine {
 }
 
 /// Prepares a statement, or finds it in the cache. The text may have named parameters.
-#[derive(Debug, Drop)]
+#[derive(Drop)]
 pub struct PrepareRoutine {
     pub(crate) text: Blob,
 }
@@ -66,7 +66,7 @@ impl Routine for PrepareRoutine {
 }
 
 /// Executes a statement, and reads the head of its first result.
-#[derive(Debug, Drop)]
+#[derive(Drop)]
 pub struct ExecRoutine {
     pub(crate) statement: Statement,
     pub(crate) params: Params,
@@ -90,7 +90,7 @@ impl Routine for ExecRoutine {
 }
 
 /// Executes a statement once with each of these parameters, and reads each result whole.
-#[derive(Debug, Drop)]
+#[derive(Drop)]
 pub struct ExecBulkRoutine {
     pub(crate) statement: Statement,
     pub(crate) lists: Listed<Params>,
@@ -114,7 +114,7 @@ impl Routine for ExecBulkRoutine {
 }
 
 /// Reads on: the next row of the set that is read, its end, or that nothing is left.
-#[derive(Clone, Copy, Debug, Drop)]
+#[derive(Clone, Copy, Drop)]
 pub struct NextSetRoutine;
 
 impl NextSetRoutine {
@@ -132,7 +132,7 @@ impl Routine for NextSetRoutine {
 }
 
 /// Pings the server.
-#[derive(Clone, Copy, Debug, Drop)]
+#[derive(Clone, Copy, Drop)]
 pub struct PingRoutine;
 
 impl PingRoutine {
@@ -150,7 +150,7 @@ impl Routine for PingRoutine {
 }
 
 /// Resets the server's session, where the server can.
-#[derive(Clone, Copy, Debug, Drop)]
+#[derive(Clone, Copy, Drop)]
 pub struct ResetRoutine;
 
 impl ResetRoutine {
@@ -168,7 +168,7 @@ impl Routine for ResetRoutine {
 }
 
 /// Gives the session of the server anew to its user: no part of the account changes.
-#[derive(Clone, Copy, Debug, Drop)]
+#[derive(Clone, Copy, Drop)]
 pub struct ChangeUser;
 
 impl ChangeUser {

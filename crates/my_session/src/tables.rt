@@ -8,7 +8,7 @@ use my_grammar::Spot;
 use my_reading::CallKind;
 
 /// What is done where no bytes are owed.
-#[derive(Clone, Copy, Debug, PartialEq, Eq)]
+#[derive(Clone, Copy, PartialEq, Eq)]
 pub enum Plan {
     /// The payload in front is read.
     Reads,

@@ -13,7 +13,7 @@ pub enum LinkFault {
 }
 
 /// What the open call is at.
-#[derive(Clone, Copy, Debug, PartialEq, Eq)]
+#[derive(Clone, Copy, PartialEq, Eq)]
 pub enum Task {
     /// No call is open.
     Nothing,

@@ -12,7 +12,7 @@ use std::mem;
 use std::sync::Arc;
 
 /// The columns of a whole head, which contracts see as their list.
-#[derive(Debug, Drop)]
+#[derive(Drop)]
 pub struct SetColumns {
     columns: Columns,
 }

@@ -9,7 +9,7 @@ use std::marker::Model;
 use std::sync::Arc;
 
 /// A prepared statement and the text that it was prepared from, with `?` for each parameter.
-#[derive(Debug, Drop)]
+#[derive(Drop)]
 pub struct Entry {
     stmt: Arc<StmtInner>,
     query: QueryString,

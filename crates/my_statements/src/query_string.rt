@@ -12,7 +12,7 @@ use std::sync::Arc;
 /// The text of a query, which a statement's entry and the index of the cache share.
 ///
 /// Contracts see it as the list of its bytes.
-#[derive(Debug, Drop)]
+#[derive(Drop)]
 pub struct QueryString {
     text: Arc<Vec<u8>>,
 }

@@ -12,7 +12,7 @@ use std::marker::Model;
 use std::sync::Arc;
 
 /// A prepared statement, as the server told it.
-#[derive(Debug, Drop, PartialEq, Eq)]
+#[derive(Drop, PartialEq, Eq)]
 pub struct StmtInner {
     /// The server's number of the statement.
     pub id: u32,
@@ -27,7 +27,7 @@ pub struct StmtInner {
 /// A prepared statement as its caller holds it, with the names of its parameters.
 ///
 /// Contracts see it as what the server told of it and the list of its names.
-#[derive(Debug, Drop)]
+#[derive(Drop)]
 pub struct Statement {
     inner: Arc<StmtInner>,
     names: Listed<Blob>,

@@ -4,7 +4,7 @@ ghost use Rattle.std.specs.Prelude.{◌≡◌};
 ghost use Rattle.my_value.specs.CellForm.{form_of_type, is_unsigned};
 
 /// The spellings of a cell in a binary row.
-#[derive(Clone, Copy, Debug, PartialEq, Eq)]
+#[derive(Clone, Copy, PartialEq, Eq)]
 pub enum CellForm {
     /// A number of one byte.
     Tiny,

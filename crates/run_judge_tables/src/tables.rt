@@ -13,10 +13,10 @@ fn a_dial_that_failed_leaves_no_connection(rt: HostRuntime) -> Result<(), Fail> 
     let mut lines = Lines::new(alloc);
     lines.line(alloc, Step::Conn, dial_fault(), &[Meets::Fault])?;
     lines.line(alloc, Step::Ping(0), Outcome::NoSuchHandle, &[])?;
-    assert_eq!(rt; lines.found(alloc, false)?, Found::Right);
-    assert_eq!(rt; lines.found(alloc, true)?, Found::Wrong(2));
+    assert!(rt; lines.found(alloc, false)? == Found::Right);
+    assert!(rt; lines.found(alloc, true)? == Found::Wrong(2));
     lines.line(alloc, Step::Fields(0), Outcome::Done, &[])?;
-    assert_eq!(rt; lines.found(alloc, false)?, Found::Wrong(2));
+    assert!(rt; lines.found(alloc, false)? == Found::Wrong(2));
     Ok(())
 }
 
@@ -26,9 +26,9 @@ fn no_connection_is_reset(rt: HostRuntime) -> Result<(), Fail> {
     let mut lines = Lines::new(alloc);
     lines.line(alloc, Step::Conn, dial_fault(), &[Meets::Fault])?;
     lines.line(alloc, Step::Reset(0), Outcome::NoSuchHandle, &[])?;
-    assert_eq!(rt; lines.found(alloc, false)?, Found::Right);
+    assert!(rt; lines.found(alloc, false)? == Found::Right);
     lines.line(alloc, Step::Reset(0), Outcome::Flag(false), &[])?;
-    assert_eq!(rt; lines.found(alloc, false)?, Found::Wrong(2));
+    assert!(rt; lines.found(alloc, false)? == Found::Wrong(2));
     Ok(())
 }
 
@@ -38,12 +38,12 @@ fn a_dial_that_was_not_ready_is_tried_again(rt: HostRuntime) -> Result<(), Fail>
     let mut lines = Lines::new(alloc);
     lines.line(alloc, Step::Conn, Outcome::Pending, &[Meets::Hold])?;
     lines.line(alloc, Step::Poll(0), Outcome::Pending, &[Meets::Hold])?;
-    assert_eq!(rt; lines.found(alloc, false)?, Found::Right);
+    assert!(rt; lines.found(alloc, false)? == Found::Right);
     lines.line(alloc, Step::Cancel(0), Outcome::Done, &[])?;
     lines.line(alloc, Step::Cancel(0), Outcome::NoSuchHandle, &[])?;
-    assert_eq!(rt; lines.found(alloc, false)?, Found::Right);
+    assert!(rt; lines.found(alloc, false)? == Found::Right);
     lines.line(alloc, Step::Poll(0), Outcome::Pending, &[Meets::Hold])?;
-    assert_eq!(rt; lines.found(alloc, false)?, Found::Wrong(4));
+    assert!(rt; lines.found(alloc, false)? == Found::Wrong(4));
     Ok(())
 }
 
@@ -59,10 +59,10 @@ fn a_handshake_awaits_the_greeting(rt: HostRuntime) -> Result<(), Fail> {
     )?;
     lines.line(alloc, Step::Fields(0), Outcome::NoSuchHandle, &[])?;
     lines.line(alloc, Step::Poll(0), Outcome::Pending, &[Meets::Hold])?;
-    assert_eq!(rt; lines.found(alloc, true)?, Found::Right);
-    assert_eq!(rt; lines.found(alloc, false)?, Found::Wrong(0));
+    assert!(rt; lines.found(alloc, true)? == Found::Right);
+    assert!(rt; lines.found(alloc, false)? == Found::Wrong(0));
     lines.line(alloc, Step::Poll(0), Outcome::Done, &[Meets::Nothing])?;
-    assert_eq!(rt; lines.found(alloc, true)?, Found::Wrong(3));
+    assert!(rt; lines.found(alloc, true)? == Found::Wrong(3));
     Ok(())
 }
 
@@ -71,9 +71,9 @@ fn a_number_is_not_dialed(rt: HostRuntime) -> Result<(), Fail> {
     let alloc = rt.alloc();
     let mut lines = Lines::new(alloc);
     lines.line(alloc, Step::Next(3), Outcome::NoSuchHandle, &[])?;
-    assert_eq!(rt; lines.found(alloc, false)?, Found::Right);
+    assert!(rt; lines.found(alloc, false)? == Found::Right);
     lines.line(alloc, Step::Next(3), Outcome::NoSet, &[Meets::Nothing])?;
-    assert_eq!(rt; lines.found(alloc, false)?, Found::Wrong(1));
+    assert!(rt; lines.found(alloc, false)? == Found::Wrong(1));
     Ok(())
 }
 
@@ -85,9 +85,9 @@ fn the_world_moves(rt: HostRuntime) -> Result<(), Fail> {
     lines.line(alloc, Step::Conn, Outcome::Pending, &[Meets::Hold])?;
     lines.line(alloc, Step::Random(7), Outcome::Done, &[])?;
     lines.line(alloc, Step::Poll(0), Outcome::Pending, &[Meets::Hold])?;
-    assert_eq!(rt; lines.found(alloc, false)?, Found::Right);
+    assert!(rt; lines.found(alloc, false)? == Found::Right);
     lines.line(alloc, Step::Advance(5), Outcome::Pending, &[])?;
-    assert_eq!(rt; lines.found(alloc, false)?, Found::Wrong(4));
+    assert!(rt; lines.found(alloc, false)? == Found::Wrong(4));
     Ok(())
 }
 
@@ -96,7 +96,7 @@ fn a_moved_world_uses_no_link(rt: HostRuntime) -> Result<(), Fail> {
     let alloc = rt.alloc();
     let mut lines = Lines::new(alloc);
     lines.line(alloc, Step::Random(7), Outcome::Done, &[Meets::Nothing])?;
-    assert_eq!(rt; lines.found(alloc, false)?, Found::Wrong(0));
+    assert!(rt; lines.found(alloc, false)? == Found::Wrong(0));
     Ok(())
 }
 
@@ -118,9 +118,9 @@ fn a_statement_is_not_there(rt: HostRuntime) -> Result<(), Fail> {
         Outcome::NoSuchHandle,
         &[],
     )?;
-    assert_eq!(rt; lines.found(alloc, true)?, Found::Right);
+    assert!(rt; lines.found(alloc, true)? == Found::Right);
     lines.line(alloc, Step::CloseStatement(0, 0), Outcome::Done, &[])?;
-    assert_eq!(rt; lines.found(alloc, true)?, Found::Wrong(3));
+    assert!(rt; lines.found(alloc, true)? == Found::Wrong(3));
     Ok(())
 }
 
@@ -140,8 +140,8 @@ fn a_transaction_is_not_there(rt: HostRuntime) -> Result<(), Fail> {
         Outcome::NoSuchHandle,
         &[],
     )?;
-    assert_eq!(rt; lines.found(alloc, true)?, Found::Right);
+    assert!(rt; lines.found(alloc, true)? == Found::Right);
     lines.line(alloc, Step::ForgetTransaction(0), Outcome::Done, &[])?;
-    assert_eq!(rt; lines.found(alloc, true)?, Found::Wrong(5));
+    assert!(rt; lines.found(alloc, true)? == Found::Wrong(5));
     Ok(())
 }

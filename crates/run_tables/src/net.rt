@@ -212,7 +212,7 @@ fn lends_nothing<A: Aid>(alloc: Global, aid: &mut A) -> Result<bool, NoMemory> {
     Ok(
         aid.open_file(b"a") == Opening::Absent
             && aid.read(&mut [0u8; 1]) == SourceStep::End
-            && aid.next(alloc, 0)? == AfterStep::Done,
+            && matches!(&aid.next(alloc, 0)?, AfterStep::Done),
     )
 }
 

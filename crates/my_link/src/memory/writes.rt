@@ -17,7 +17,7 @@ pub struct Writes {
 }
 
 /// What the next write does: it takes this many bytes, isn't ready, or fails.
-#[derive(Clone, Copy, Debug, PartialEq, Eq)]
+#[derive(Clone, Copy, PartialEq, Eq)]
 pub enum Room {
     Take(usize),
     Hold,

@@ -24,7 +24,7 @@ pub struct Script {
 }
 
 /// A line that doesn't read.
-#[derive(Debug, Drop, PartialEq, Eq)]
+#[derive(Drop)]
 pub struct BadLine {
     /// Its number, from 1.
     pub number: u64,

@@ -5,7 +5,7 @@ ghost use Rattle.my_world.specs.MemDials.{dials_at, dial_place, TakesDial};
 use my_link::DialItem;
 
 /// An item for the dials of the link of a number.
-#[derive(Clone, Copy, Debug)]
+#[derive(Clone, Copy)]
 pub(crate) struct PlannedDial {
     pub number: u64,
     pub item: DialItem,
