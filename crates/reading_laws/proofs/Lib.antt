@@ -15,3 +15,4 @@ pub mod Batching
 pub mod Knowing
 pub mod Settling
 pub mod Cleaned
+pub mod Tapes

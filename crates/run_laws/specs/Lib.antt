@@ -1,1 +1,9 @@
 pub mod Tapes
+pub mod Accepts
+pub mod Planned
+pub mod Texts
+pub mod Written
+pub mod Shown
+pub mod WrongStatements
+pub mod WrongStreams
+pub mod WrongTranscripts

@@ -1,0 +1,32 @@
+-- Tapes after which a connection is clean, and others.
+use Rattle.std.specs.Prelude.{List, [], ◌∷◌, ◌++◌, codes, None}
+use Rattle.my_reading.specs.declared.call.Call.TheVariants.{CleanForPool, Quit}
+use Rattle.my_reading.specs.Clean.{IsClean}
+use Rattle.my_reading.specs.Tape.{Span}
+use Rattle.my_reading.specs.Told.{ToldReady}
+use Rattle.reading_laws.specs.Bytes.{root, connected, selected, begun, forgotten, rolled_back, cleaned, asked, returned, call_with, rolls_back, one, end, fine, refusal, packet, tape_of}
+
+-- after these calls the connection of a client that logs in as root is clean
+abbrev pub IsCleanAfter : List Span → Type 0
+IsCleanAfter ss = IsClean root (tape_of ss)
+
+pub record AreClean : Type 0 where
+  -- a connection that was made, and one whose pool has cleaned it: from a row, from an ERR, from a transaction
+  pub made : IsCleanAfter (connected ∷ [])
+  pub read : IsCleanAfter (connected ∷ selected ∷ cleaned [] (one 3 ++ end 4) ∷ [])
+  pub error_dropped : IsCleanAfter (connected ∷ selected ∷ cleaned [] (refusal 3) ∷ [])
+  pub undone : IsCleanAfter (connected ∷ begun ∷ selected ∷ cleaned rolls_back (one 3 ++ end 4 ++ fine 1 2) ∷ [])
+  -- one whose transaction was rolled back by a call
+  pub back : IsCleanAfter (connected ∷ begun ∷ rolled_back ∷ [])
+
+pub record AreUnclean : Type 0 where
+  -- a call is open, though all was read
+  pub call_open : IsCleanAfter (connected ∷ selected ∷ call_with CleanForPool [] (one 3 ++ end 4) None ∷ []) → ⊥
+  -- rows aren't read, nor is the end of a lone OK returned
+  pub unread : IsCleanAfter (connected ∷ selected ∷ []) → ⊥
+  pub end_left : IsCleanAfter (connected ∷ asked (codes "DO 1") (fine 1 2) ∷ []) → ⊥
+  -- a transaction is open; or it was given up, and isn't rolled back
+  pub in_transaction : IsCleanAfter (connected ∷ begun ∷ []) → ⊥
+  pub given_up : IsCleanAfter (connected ∷ begun ∷ forgotten ∷ []) → ⊥
+  -- the connection is closed
+  pub closed : IsCleanAfter (connected ∷ returned Quit (packet 0 (1 ∷ [])) [] ToldReady ∷ []) → ⊥

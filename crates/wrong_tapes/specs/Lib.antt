@@ -1,4 +1,0 @@
-pub mod Bytes
-pub mod Clean
-pub mod Right
-pub mod Wrong

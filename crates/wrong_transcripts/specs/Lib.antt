@@ -1,4 +1,0 @@
-pub mod Shown
-pub mod Wrong
-pub mod Streams
-pub mod Statements
