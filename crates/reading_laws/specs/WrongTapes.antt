@@ -181,5 +181,13 @@ pub record AreWrong : Type 0 where
   -- a call begins after the tape's end
   pub beyond_end : IsDisordered (tape_with (connected ∷ [])
       (calls_from 0 0 (connected ∷ []) ++ calls_from (suc (length connected.sent)) (length connected.taken) (returned NextRow [] [] ToldNone ∷ [])))
+  -- a ping finds the connection closed after an OK
+  pub closing_ping : NoTape (connected ∷ pinged [] [] ∷ returned Ping [] [] (ToldError connection_closed) ∷ [])
+  -- an empty payload is taken for the end of a set
+  pub empty_end : NoTape (connected ∷ selected ∷ returned NextRow [] (packet 3 []) ToldEnd ∷ [])
+  -- the statement that has to go isn't closed
+  pub evicted_open : IsTape frugal (tape_of (connected ∷ prepared_plain (codes "DO 1") 1 [] ∷ prepared_plain (codes "DO 2") 2 [] ∷ [])) → ⊥
+  -- a statement is found in the cache after it was closed
+  pub kept_over_close : NoTape (connected ∷ prepared 1 ∷ returned (CloseStmt 1) (closes 1) [] ToldReady ∷ found ∷ [])
   -- bytes of no call
   pub bytes_alone : IsDisordered (tape_with (connected ∷ []) [])

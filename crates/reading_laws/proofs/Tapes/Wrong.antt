@@ -164,5 +164,9 @@ are_wrong = record {
   answer_twice = record { first = refl; calls = (record { ends = refl; sent = refl; quiet = refl }, (record { ends = refl; sent = refl; quiet = refl }, (record { ends = refl; sent = refl; quiet = refl }, (record { ends = refl; sent = refl; quiet = refl }, tt)))); wrong = λ w. false≢true w.order.order };
   open_before = record { first = refl; calls = (record { ends = refl; sent = refl; quiet = refl }, (record { ends = refl; sent = refl; quiet = refl }, (record { ends = IsOpen refl; sent = refl; quiet = refl }, (record { ends = refl; sent = refl; quiet = refl }, tt)))); wrong = λ w. false≢true w.order.order };
   beyond_end = record { first = refl; calls = (record { ends = refl; sent = refl; quiet = refl }, (record { ends = refl; sent = refl; quiet = refl }, tt)); wrong = λ w. false≢true w.order.order };
+  closing_ping = λ w. not_cut _ _ (λ e. absurd (omega arith)) (λ e. absurd (omega arith)) (λ e. absurd (omega arith)) (λ e. absurd (omega arith)) w.calls.1.1.0.ends;
+  empty_end = λ w. differs _ _ (λ e. absurd (omega arith)) w.calls.1.1.0.ends;
+  evicted_open = λ w. not_cut _ _ (λ e. absurd (omega arith)) (λ e. absurd (omega arith)) (λ e. absurd (omega arith)) (λ e. absurd (omega arith)) w.calls.1.1.0.ends;
+  kept_over_close = λ w. not_cut _ _ (λ e. absurd (omega arith)) (λ e. absurd (omega arith)) (λ e. absurd (omega arith)) (λ e. absurd (omega arith)) w.calls.1.1.1.0.ends;
   bytes_alone = record { first = refl; calls = tt; wrong = λ w. false≢true w.order.first };
 }
