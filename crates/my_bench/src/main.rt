@@ -29,6 +29,7 @@ const USAGE: &str = "my_bench HOST PORT USER PASS MODE N
 
 It does N rounds of MODE at the server on HOST and PORT, as USER with the password PASS, over the database bench:
   text      SELECT 12345, whose number is read
+  prep      the same, prepared once: executed, read and dropped
   rows      SELECT id,name,ts,val,price FROM t100k, whose rows are all kept
   rowsuse   the same, streamed: no row is kept
   conn      connect, ping and quit
@@ -108,7 +109,9 @@ fn run<R: Clock + Files + AllocGlobal, W: World<L = RealLink>>(
     let place = Place::new(rt.alloc(), plan)?;
     match plan.mode {
         Mode::Conn => run_connecting(rt, world, &place, plan.count),
-        Mode::Text | Mode::Rows | Mode::RowsUse => run_connected(rt, world, &place, plan),
+        Mode::Text | Mode::Prep | Mode::Rows | Mode::RowsUse => run_connected(
+            rt, world, &place, plan,
+        ),
     }
 }
 

@@ -7,6 +7,8 @@ use crate::words::Mode;
 use my_conn::{Conn, NextAnswer};
 use my_frame::{Blob, NoMemory};
 use my_link::BlockingLink;
+use my_params::Params;
+use my_statements::Statement;
 use my_value::{Row, from_row};
 use std::alloc::Global;
 
@@ -35,15 +37,55 @@ fn ask<L: BlockingLink>(alloc: Global, conn: &mut Conn<L>, query: &[u8]) -> Resu
     Ok(conn.query(alloc, text)?)
 }
 
+// The number of the row that comes next; what is left of the result is dropped.
+fn read_number<L: BlockingLink>(alloc: Global, conn: &mut Conn<L>) -> Result<u64, Fault>
+    requires { conn.old.pending ≡ None }
+    ensures { conn.new.pending ≡ None }
+{
+    let number = number_of(alloc, conn.next(alloc)?)?;
+    conn.drop_result(alloc)?;
+    Ok(number)
+}
+
 // One number, read.
 fn number_round<L: BlockingLink>(alloc: Global, conn: &mut Conn<L>) -> Result<u64, Fault>
     requires { conn.old.pending ≡ None }
     ensures { conn.new.pending ≡ None }
 {
     ask(alloc, conn, NUMBER)?;
-    let number = number_of(alloc, conn.next(alloc)?)?;
-    conn.drop_result(alloc)?;
-    Ok(number)
+    read_number(alloc, conn)
+}
+
+// One execution of a statement, whose number is read.
+fn executed_round<L: BlockingLink>(
+    alloc: Global,
+    conn: &mut Conn<L>,
+    statement: &Statement,
+) -> Result<u64, Fault>
+    requires { conn.old.pending ≡ None }
+    ensures { conn.new.pending ≡ None }
+{
+    let statement = statement.copy(alloc)?;
+    conn.execute(alloc, statement, Params::Empty)?;
+    read_number(alloc, conn)
+}
+
+// Rounds of executions of one statement, which is prepared before the first.
+fn executed_rounds<L: BlockingLink>(
+    alloc: Global,
+    conn: &mut Conn<L>,
+    count: u64,
+) -> Result<u64, Fault>
+    requires { conn.old.pending ≡ None }
+    ensures { conn.new.pending ≡ None }
+{
+    let text = Blob::from_slice(alloc, NUMBER)?;
+    let statement = conn.prepare(alloc, text)?;
+    let mut sum = 0u64;
+    'rounds: for _ in 0..count {
+        sum = sum.saturating_add(executed_round(alloc, conn, &statement)?);
+    }
+    Ok(sum)
 }
 
 // Keeps each row of a set.
@@ -103,7 +145,7 @@ fn streamed_round<L: BlockingLink>(alloc: Global, conn: &mut Conn<L>) -> Result<
     }
 }
 
-// A round in this mode; a connection is a round of its own.
+// A round in this mode; executions and connections have rounds of their own.
 fn round<L: BlockingLink>(alloc: Global, conn: &mut Conn<L>, mode: Mode) -> Result<u64, Fault>
     requires { conn.old.pending ≡ None }
     ensures { conn.new.pending ≡ None }
@@ -112,11 +154,11 @@ fn round<L: BlockingLink>(alloc: Global, conn: &mut Conn<L>, mode: Mode) -> Resu
         Mode::Text => number_round(alloc, conn),
         Mode::Rows => kept_round(alloc, conn),
         Mode::RowsUse => streamed_round(alloc, conn),
-        Mode::Conn => Ok(0),
+        Mode::Prep | Mode::Conn => Ok(0),
     }
 }
 
-/// The sum of so many rounds.
+/// The sum of this number of rounds.
 pub fn rounds<L: BlockingLink>(
     alloc: Global,
     conn: &mut Conn<L>,
@@ -126,6 +168,9 @@ pub fn rounds<L: BlockingLink>(
     requires { conn.old.pending ≡ None }
     ensures { conn.new.pending ≡ None }
 {
+    if matches!(mode, Mode::Prep) {
+        return executed_rounds(alloc, conn, count);
+    }
     let mut sum = 0u64;
     'rounds: for _ in 0..count {
         sum = sum.saturating_add(round(alloc, conn, mode)?);

@@ -5,6 +5,8 @@
 pub enum Mode {
     /// A query whose result has one row of one number.
     Text,
+    /// An execution of a statement that is prepared once, whose result has one row of one number.
+    Prep,
     /// A query of many rows, all of which are kept until the last was read.
     Rows,
     /// The same, streamed: no row is kept.
@@ -17,6 +19,7 @@ pub enum Mode {
 fn mode_named(word: &str) -> Option<Mode> {
     match word {
         "text" => Some(Mode::Text),
+        "prep" => Some(Mode::Prep),
         "rows" => Some(Mode::Rows),
         "rowsuse" => Some(Mode::RowsUse),
         "conn" => Some(Mode::Conn),
