@@ -19,7 +19,7 @@ use std::net::IpAddr;
 /// Options that are set one after the other. Contracts see the options that it gives.
 #[derive(Drop)]
 pub struct OptsBuilder {
-    opts: Opts,
+    pub(crate) opts: Opts,
 }
 
 impl Model for OptsBuilder {
@@ -269,7 +269,15 @@ impl OptsBuilder {
             in IfOk result (λ b. b ≡ record self { connect_attributes = Some pairs }) }
     {
         let attributes = self.opts.connect_attributes.take();
-        self.opts.connect_attributes = Some(with_one(alloc, attributes, key, value)?);
-        Ok(self)
+        match with_one(alloc, attributes, key, value) {
+            Ok(attributes) => {
+                self.opts.connect_attributes = Some(attributes);
+                Ok(self)
+            }
+            Err(_) => {
+                drop(self);
+                Err(NoMemory)
+            }
+        }
     }
 }

@@ -4,8 +4,9 @@ ghost use Rattle.std.specs.Prelude.{◌≡◌, ◌≤◌, [], IfOk, Ok, Some, No
 ghost use Rattle.url.specs.Host.{host_text};
 ghost use Rattle.url.specs.Parts.{nonempty_host};
 ghost use Rattle.my_opts_parts.specs.declared.limits.TheConstants.{LONGEST_URL};
-ghost use Rattle.my_opts.specs.Faults.{ReadsAs, IsFault};
-ghost use Rattle.my_opts.specs.Query.{and_then};
+ghost use Rattle.my_opts.specs.Faults.{ReadsAs, LeavesAs, IsFault};
+ghost use Rattle.form_urlencoded.specs.Form.{raw_pairs};
+ghost use Rattle.my_opts.specs.Query.{and_then, after_pairs};
 ghost use Rattle.my_opts.specs.Url.{decoded, unless_empty, before_slash, first_segment, url_of, begun, gathered, allowed_bounds, finished, options_of};
 
 use crate::builder::OptsBuilder;
@@ -74,13 +75,27 @@ fn gather(alloc: Global, url: &Url) -> Result<Gathered, UrlFault>
     ensures { ReadsAs result (gathered url.now) }
 {
     let mut gathered = begin(alloc, url)?;
+    match gather_pairs(alloc, url, &mut gathered) {
+        Ok(()) => Ok(gathered),
+        Err(fault) => {
+            drop(gathered);
+            Err(fault)
+        }
+    }
+}
+
+/// Sets what the pairs of the URL's query set.
+fn gather_pairs(alloc: Global, url: &Url, gathered: &mut Gathered) -> Result<(), UrlFault>
+    ensures { LeavesAs result gathered.new
+        (after_pairs (raw_pairs (unwrap_or url.now.query [])) gathered.old) }
+{
     for pair in url.query_pairs() {
         let Ok((name, value)) = pair else {
             return Err(UrlFault::NoMemory);
         };
-        gathered = gathered.with_pair(alloc, name.as_str(), value.as_str())?;
+        gathered.put_pair(alloc, name.as_str(), value.as_str())?;
     }
-    Ok(gathered)
+    Ok(())
 }
 
 /// What the URL sets before its query is read.
@@ -196,13 +211,19 @@ fn up_to_slash(rest: &str) -> &str
 fn finish(alloc: Global, gathered: Gathered) -> Result<OptsBuilder, UrlFault>
     ensures { ReadsAs result (finished gathered) }
 {
-    let constraints = bounds_of(
+    let bounds = bounds_of(
         alloc,
         gathered.pool_min,
         gathered.pool_max,
         gathered.require_ssl,
-    )?;
-    Ok(gathered.into_builder(constraints))
+    );
+    match bounds {
+        Ok(constraints) => Ok(gathered.into_builder(constraints)),
+        Err(fault) => {
+            drop(gathered);
+            Err(fault)
+        }
+    }
 }
 
 /// The bounds of the pool, where nothing that was gathered is refused.

@@ -1,7 +1,7 @@
 //! The options that a URL's query sets, one pair after the other.
 
 ghost use Rattle.std.specs.Prelude.{◌≡◌, Some, Ok};
-ghost use Rattle.my_opts.specs.Faults.{ReadsAs, IsFault};
+ghost use Rattle.my_opts.specs.Faults.{LeavesAs, IsFault};
 ghost use Rattle.my_opts.specs.Query.{put_number, put_truth, put_socket, set_or_refused, compression_error, after_row, after_pair};
 ghost use Rattle.my_frame.specs.Numeral.{whole_number};
 ghost use Rattle.my_opts.specs.Values.{truth};
@@ -11,6 +11,7 @@ use crate::error::UrlFault;
 use crate::values::{is_compression, truth_of, whole32, whole64};
 use my_frame::Text;
 use my_opts_parts::keys::{NumberOption, Row, TruthOption, row_named};
+use my_opts_parts::limits::{limited_packet, limited_wait};
 use my_opts_parts::{Millis, PoolConstraints, PoolOpts, UrlError};
 use std::alloc::Global;
 
@@ -33,29 +34,23 @@ impl Gathered {
         self.builder.pool_opts(pool)
     }
 
-    /// What is set once this pair is read.
-    pub(crate) fn with_pair(
-        self,
+    /// Sets what this pair sets.
+    pub(crate) fn put_pair(
+        &mut self,
         alloc: Global,
         name: &str,
         value: &str,
-    ) -> Result<Gathered, UrlFault>
-        ensures { ReadsAs result (after_pair self (name.now, value.now)) }
+    ) -> Result<(), UrlFault>
+        ensures { LeavesAs result self.new (after_pair self.old (name.now, value.now)) }
     {
         match row_named(name) {
-            Some(row) => self.with_row(alloc, row, name, value),
+            Some(row) => self.put_row(alloc, row, name, value),
             None => Err(unknown(alloc, name)),
         }
     }
 
-    fn with_row(
-        self,
-        alloc: Global,
-        row: Row,
-        name: &str,
-        value: &str,
-    ) -> Result<Gathered, UrlFault>
-        ensures { ReadsAs result (after_row (Some row) name.now value.now self) }
+    fn put_row(&mut self, alloc: Global, row: Row, name: &str, value: &str) -> Result<(), UrlFault>
+        ensures { LeavesAs result self.new (after_row (Some row) name.now value.now self.old) }
     {
         match row {
             Row::Truth(option) => self.truth_pair(alloc, option, name, value),
@@ -73,141 +68,100 @@ impl Gathered {
     }
 
     fn truth_pair(
-        self,
+        &mut self,
         alloc: Global,
         option: TruthOption,
         name: &str,
         value: &str,
-    ) -> Result<Gathered, UrlFault>
-        ensures { ReadsAs result (set_or_refused name.now value.now (truth value.now) (put_truth option) self) }
+    ) -> Result<(), UrlFault>
+        ensures { LeavesAs result self.new
+            (set_or_refused name.now value.now (truth value.now) (put_truth option) self.old) }
     {
         match truth_of(value) {
-            Some(truth) => Ok(self.with_truth(option, truth)),
+            Some(truth) => {
+                self.put_truth(option, truth);
+                Ok(())
+            }
             None => Err(invalid(alloc, name, value)),
         }
     }
 
     fn number_pair(
-        self,
+        &mut self,
         alloc: Global,
         option: NumberOption,
         number: Option<u64>,
         name: &str,
         value: &str,
-    ) -> Result<Gathered, UrlFault>
-        ensures { ReadsAs result (set_or_refused name.now value.now number (put_number option) self) }
+    ) -> Result<(), UrlFault>
+        ensures { LeavesAs result self.new
+            (set_or_refused name.now value.now number (put_number option) self.old) }
     {
         match number {
-            Some(number) => Ok(self.with_number(option, number)),
+            Some(number) => {
+                self.put_number(option, number);
+                Ok(())
+            }
             None => Err(invalid(alloc, name, value)),
         }
     }
 
-    fn with_truth(self, option: TruthOption, truth: bool) -> Gathered
-        ensures { result ≡ put_truth option truth self }
+    fn put_truth(&mut self, option: TruthOption, truth: bool)
+        ensures { self.new ≡ put_truth option truth self.old }
     {
         match option {
-            TruthOption::TcpNodelay => Gathered {
-                builder: self.builder.tcp_nodelay(truth),
-                ..self
-            },
-            TruthOption::PreferSocket => Gathered {
-                builder: self.builder.prefer_socket(truth),
-                ..self
-            },
-            TruthOption::SecureAuth => Gathered {
-                builder: self.builder.secure_auth(truth),
-                ..self
-            },
-            TruthOption::ClientFoundRows => Gathered {
-                builder: self.builder.client_found_rows(truth),
-                ..self
-            },
-            TruthOption::EnableCleartextPlugin => Gathered {
-                builder: self.builder.enable_cleartext_plugin(truth),
-                ..self
-            },
-            TruthOption::ResetConnection => Gathered {
-                pool: self.pool.with_reset_connection(truth),
-                ..self
-            },
-            TruthOption::RequireSsl => Gathered {
-                require_ssl: truth,
-                ..self
-            },
-            TruthOption::VerifyCa | TruthOption::VerifyIdentity | TruthOption::BuiltInRoots => self,
+            TruthOption::TcpNodelay => self.builder.opts.tcp_nodelay = truth,
+            TruthOption::PreferSocket => self.builder.opts.prefer_socket = truth,
+            TruthOption::SecureAuth => self.builder.opts.secure_auth = truth,
+            TruthOption::ClientFoundRows => self.builder.opts.client_found_rows = truth,
+            TruthOption::EnableCleartextPlugin => {
+                self.builder.opts.enable_cleartext_plugin = truth;
+            }
+            TruthOption::ResetConnection => {
+                self.pool = self.pool.copy().with_reset_connection(truth);
+            }
+            TruthOption::RequireSsl => self.require_ssl = truth,
+            TruthOption::VerifyCa | TruthOption::VerifyIdentity | TruthOption::BuiltInRoots => {}
         }
     }
 
-    fn with_number(self, option: NumberOption, number: u64) -> Gathered
-        ensures { result ≡ put_number option number self }
+    fn put_number(&mut self, option: NumberOption, number: u64)
+        ensures { self.new ≡ put_number option number self.old }
     {
+        let seconds = Millis::from_secs(number);
+        let pool = self.pool.copy();
         match option {
-            NumberOption::PoolMin => Gathered {
-                pool_min: number,
-                ..self
-            },
-            NumberOption::PoolMax => Gathered {
-                pool_max: number,
-                ..self
-            },
-            NumberOption::PoolMaxWaiting => Gathered {
-                pool: self.pool.with_max_waiting(Some(number)),
-                ..self
-            },
-            NumberOption::InactiveConnectionTtl => Gathered {
-                pool: self
-                    .pool
-                    .with_inactive_connection_ttl(Millis::from_secs(number)),
-                ..self
-            },
-            NumberOption::TtlCheckInterval => Gathered {
-                pool: self.pool.with_ttl_check_interval(Millis::from_secs(number)),
-                ..self
-            },
-            NumberOption::AbsConnTtl => Gathered {
-                pool: self.pool.with_abs_conn_ttl(Some(Millis::from_secs(number))),
-                ..self
-            },
-            NumberOption::AbsConnTtlJitter => Gathered {
-                pool: self
-                    .pool
-                    .with_abs_conn_ttl_jitter(Some(Millis::from_secs(number))),
-                ..self
-            },
-            NumberOption::ConnTtl => Gathered {
-                builder: self.builder.conn_ttl(Some(Millis::from_secs(number))),
-                ..self
-            },
-            NumberOption::TcpKeepalive => Gathered {
-                builder: self
-                    .builder
-                    .tcp_keepalive(Some(Millis::from_millis(number))),
-                ..self
-            },
-            NumberOption::StmtCacheSize => Gathered {
-                builder: self.builder.stmt_cache_size(number),
-                ..self
-            },
-            NumberOption::MaxAllowedPacket => Gathered {
-                builder: self.builder.max_allowed_packet(Some(number)),
-                ..self
-            },
-            NumberOption::WaitTimeout => Gathered {
-                builder: self.builder.wait_timeout(Some(number)),
-                ..self
-            },
+            NumberOption::PoolMin => self.pool_min = number,
+            NumberOption::PoolMax => self.pool_max = number,
+            NumberOption::PoolMaxWaiting => self.pool = pool.with_max_waiting(Some(number)),
+            NumberOption::InactiveConnectionTtl => {
+                self.pool = pool.with_inactive_connection_ttl(seconds);
+            }
+            NumberOption::TtlCheckInterval => self.pool = pool.with_ttl_check_interval(seconds),
+            NumberOption::AbsConnTtl => self.pool = pool.with_abs_conn_ttl(Some(seconds)),
+            NumberOption::AbsConnTtlJitter => {
+                self.pool = pool.with_abs_conn_ttl_jitter(Some(seconds));
+            }
+            NumberOption::ConnTtl => self.builder.opts.conn_ttl = Some(seconds),
+            NumberOption::TcpKeepalive => {
+                self.builder.opts.tcp_keepalive = Some(Millis::from_millis(number));
+            }
+            NumberOption::StmtCacheSize => self.builder.opts.stmt_cache_size = number,
+            NumberOption::MaxAllowedPacket => {
+                self.builder.opts.max_allowed_packet = limited_packet(Some(number));
+            }
+            NumberOption::WaitTimeout => {
+                self.builder.opts.wait_timeout = limited_wait(Some(number));
+            }
         }
     }
 
-    fn socket_pair(self, alloc: Global, path: &str) -> Result<Gathered, UrlFault>
-        ensures { ReadsAs result (Ok (put_socket path.now self)) }
+    fn socket_pair(&mut self, alloc: Global, path: &str) -> Result<(), UrlFault>
+        ensures { LeavesAs result self.new (Ok (put_socket path.now self.old)) }
     {
-        let path = String::from_str(alloc, path)?;
-        Ok(Gathered {
-            builder: self.builder.socket(Some(path)),
-            ..self
-        })
+        let path = Text::from_str(alloc, path)?;
+        self.builder.opts.socket = Some(path);
+        Ok(())
     }
 }
 
