@@ -3,7 +3,7 @@
 ghost use Rattle.std.specs.Prelude.{◌≡◌, ◌++◌, IfOk, List, ℕ, Some};
 ghost use Rattle.std.specs.Option.{option_map};
 ghost use Rattle.my_frame.specs.Reading.{Gives, ReadsExactly};
-ghost use Rattle.my_handshake.specs.Greeting.{IsGreeting, first_at, greeting_at, second_at, settings_at};
+ghost use Rattle.my_handshake.specs.Greeting.{IsGreeting, first_at, greeting_at, greeting_from, second_at, settings_at};
 
 use my_flags::{CapabilityFlags, MariadbCapabilities, StatusFlags};
 use my_frame::numbers::{
@@ -41,15 +41,16 @@ impl Greeting {
     pub fn copy(&self, alloc: Global) -> Result<Greeting, NoMemory>
         ensures { IfOk result (λ copy. copy ≡ self.now) }
     {
-        Ok(Greeting {
-            version: self.version.copy(alloc)?,
-            id: self.id,
-            nonce: self.nonce.copy(alloc)?,
+        let settings = Settings {
             capabilities: self.capabilities,
             status: self.status,
-            plugin: self.plugin.copy(alloc)?,
+            nonce_length: 0,
             extended: self.extended,
-        })
+        };
+        let none: &[u8] = &[];
+        let begun = (self.version.as_slice(), self.id, none);
+        let ended = (self.nonce.as_slice(), self.plugin.as_slice());
+        greeting_from(alloc, begun, settings, ended)
     }
 }
 
@@ -111,24 +112,51 @@ fn joined(alloc: Global, first: &[u8], second: &[u8]) -> Result<Blob, NoMemory>
     Ok(Blob::from(bytes))
 }
 
+// The parts of a greeting, which are still in the payload.
+fn parts_of(payload: &[u8]) -> Option<((&[u8], u32, &[u8]), Settings, (&[u8], &[u8]))>
+    ensures { option_map (λ x. greeting_from (x.0.0.now, x.0.1, x.0.2.now) x.1 (x.2.0.now, x.2.1.now)) result
+        ≡ greeting_at payload.now }
+{
+    let (begun, rest) = first_of(payload)?;
+    let (settings, rest) = settings_of(rest)?;
+    let ended = second_of(settings.nonce_length, rest)?;
+    if !settings.capabilities.contains(NEEDED_CAPABILITIES) {
+        return None;
+    }
+    Some((begun, settings, ended))
+}
+
+// The greeting of these parts.
+fn greeting_from(
+    alloc: Global,
+    begun: (&[u8], u32, &[u8]),
+    settings: Settings,
+    ended: (&[u8], &[u8]),
+) -> Result<Greeting, NoMemory>
+    ensures { IfOk result (λ g. g ≡ greeting_from (begun.entry.0.now, begun.entry.1, begun.entry.2.now) settings
+        (ended.entry.0.now, ended.entry.1.now)) }
+{
+    let version = Blob::from_slice(alloc, begun.0)?;
+    let nonce = joined(alloc, begun.2, ended.0)?;
+    let plugin = Blob::from_slice(alloc, ended.1)?;
+    Ok(Greeting {
+        version,
+        id: begun.1,
+        nonce,
+        capabilities: settings.capabilities,
+        status: settings.status,
+        plugin,
+        extended: settings.extended,
+    })
+}
+
 fn greeting_of(alloc: Global, payload: &[u8]) -> Result<Greeting, ReadError>
     ensures { Gives result (greeting_at payload.now) }
 {
-    let ((version, id, first), rest) = first_of(payload).ok_or(ReadError::Malformed)?;
-    let (settings, rest) = settings_of(rest).ok_or(ReadError::Malformed)?;
-    let (second, plugin) = second_of(settings.nonce_length, rest).ok_or(ReadError::Malformed)?;
-    if !settings.capabilities.contains(NEEDED_CAPABILITIES) {
-        return Err(ReadError::Malformed);
+    match parts_of(payload) {
+        None => Err(ReadError::Malformed),
+        Some((begun, settings, ended)) => Ok(greeting_from(alloc, begun, settings, ended)?),
     }
-    Ok(Greeting {
-        version: Blob::from_slice(alloc, version)?,
-        id,
-        nonce: joined(alloc, first, second)?,
-        capabilities: settings.capabilities,
-        status: settings.status,
-        plugin: Blob::from_slice(alloc, plugin)?,
-        extended: settings.extended,
-    })
 }
 
 /// Reads a server's greeting. One without `NEEDED_CAPABILITIES` is malformed.
@@ -144,11 +172,6 @@ pub fn greeting_offer(payload: &[u8]) -> Option<(CapabilityFlags, &[u8])>
     ensures { option_map (λ x. (x.0, x.1.now)) result
         ≡ option_map {U = CapabilityFlags × List ℕ} (λ g. (g.capabilities, g.plugin)) (greeting_at payload.now) }
 {
-    let (_begun, rest) = first_of(payload)?;
-    let (settings, rest) = settings_of(rest)?;
-    let (_second, plugin) = second_of(settings.nonce_length, rest)?;
-    if !settings.capabilities.contains(NEEDED_CAPABILITIES) {
-        return None;
-    }
+    let (_begun, settings, (_second, plugin)) = parts_of(payload)?;
     Some((settings.capabilities, plugin))
 }

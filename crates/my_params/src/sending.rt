@@ -128,24 +128,23 @@ pub fn put_value(out: &mut Vec<u8>, value: &Value) -> Result<(), NoMemory>
     ensures { OnOk result (out.new.items ≡ out.old.items ++ value_bytes value.now) }
 {
     match value {
-        Value::NULL => {}
-        Value::Bytes(text) => put_text(out, text.as_slice())?,
-        Value::Int(n) => put_u64(out, n.cast_unsigned())?,
-        Value::UInt(n) => put_u64(out, *n)?,
-        Value::FloatBits(bits) => put_u32(out, *bits)?,
-        Value::DoubleBits(bits) => put_u64(out, *bits)?,
+        Value::NULL => Ok(()),
+        Value::Bytes(text) => put_text(out, text.as_slice()),
+        Value::Int(n) => put_u64(out, n.cast_unsigned()),
+        Value::UInt(n) => put_u64(out, *n),
+        Value::FloatBits(bits) => put_u32(out, *bits),
+        Value::DoubleBits(bits) => put_u64(out, *bits),
         Value::Date(year, month, day, hour, minute, second, micros) => {
             let parts = date_parts(*year, *month, *day, *hour, *minute, *second, *micros);
             let len = date_len(*year, *month, *day, *hour, *minute, *second, *micros);
-            put_parts(out, &parts, len)?;
+            put_parts(out, &parts, len)
         }
         Value::Time(negative, days, hours, minutes, seconds, micros) => {
             let parts = time_parts(*negative, *days, *hours, *minutes, *seconds, *micros);
             let len = time_len(*negative, *days, *hours, *minutes, *seconds, *micros);
-            put_parts(out, &parts, len)?;
+            put_parts(out, &parts, len)
         }
     }
-    Ok(())
 }
 
 // How many bytes a length-encoded number takes.

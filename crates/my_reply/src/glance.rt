@@ -5,12 +5,12 @@ ghost use Rattle.std.specs.Prelude.{◌≡◌, is_some};
 ghost use Rattle.std.specs.Option.{option_map};
 ghost use Rattle.my_reply.specs.OkPacket.{end_ok_at, fields_at, ok_at};
 ghost use Rattle.my_reply.specs.ErrPacket.{err_at, told_at};
-ghost use Rattle.my_reply.specs.Column.{column_at, names_at};
+ghost use Rattle.my_reply.specs.Column.{column_at};
 
-use crate::column::form_of;
+use crate::column::parts_of;
 use my_flags::StatusFlags;
 use my_frame::FULL_LENGTH;
-use my_frame::numbers::{take_head, take_len, take_text, take_u16};
+use my_frame::numbers::{take_head, take_len, take_u16};
 
 // The status after an OK's head.
 #[tactic(auto, unfolding(crate::specs::OkPacket::fields_at))]
@@ -66,26 +66,9 @@ pub fn is_err(payload: &[u8], before_response: bool) -> bool
     has_state(before_response, rest)
 }
 
-// The bytes after the names of a column.
-#[tactic(auto, unfolding(crate::specs::Column::names_at))]
-fn after_names(bytes: &[u8]) -> Option<&[u8]>
-    ensures { option_map (λ x. x.now) result ≡ option_map (λ x. x.1) (names_at bytes.now) }
-{
-    let (_catalog, rest) = take_text(bytes)?;
-    let (_schema, rest) = take_text(rest)?;
-    let (_table, rest) = take_text(rest)?;
-    let (_org_table, rest) = take_text(rest)?;
-    let (_name, rest) = take_text(rest)?;
-    let (_org_name, rest) = take_text(rest)?;
-    Some(rest)
-}
-
 /// Whether it describes a column.
 pub fn is_column(payload: &[u8]) -> bool
     ensures { result ≡ is_some (column_at payload.now) }
 {
-    match after_names(payload) {
-        Some(rest) => form_of(rest).is_some(),
-        None => false,
-    }
+    parts_of(payload).is_some()
 }

@@ -1,7 +1,8 @@
 //! What a server sends: its packets become payloads.
 
-ghost use Rattle.std.specs.Prelude.{◌≡◌, ◌++◌, IfOk, OnOk, length};
+ghost use Rattle.std.specs.Prelude.{◌≡◌, ◌++◌, IfOk, OnOk, drop, length, take};
 ghost use Rattle.std.specs.List.{flat_map};
+ghost use Rattle.my_frame.specs.Writing.{le_bytes, text0_bytes};
 ghost use Rattle.my_reply.specs.Server.{cell_bytes, column_bytes, err_bytes, fitted, form_bytes, greeting_bytes, info_bytes, names_bytes, ok_bytes, server_bytes, settings_bytes};
 
 use crate::column::Column;
@@ -54,11 +55,15 @@ fn put_settings(out: &mut Vec<u8>, greeting: &Greeting) -> Result<(), NoMemory>
     put_u32(out, greeting.extended.0)
 }
 
-fn put_greeting(alloc: Global, out: &mut Vec<u8>, greeting: &Greeting) -> Result<(), NoMemory>
-    ensures { OnOk result (out.new.items ≡ out.old.items ++ greeting_bytes greeting.now) }
+// A greeting with this nonce, which has its 20 bytes.
+fn put_with_nonce(out: &mut Vec<u8>, greeting: &Greeting, nonce: &[u8]) -> Result<(), NoMemory>
+    requires { length nonce.now ≡ 20 }
+    ensures { OnOk result (out.new.items ≡ out.old.items
+        ++ (le_bytes 1 10 ++ text0_bytes greeting.now.version ++ le_bytes 4 greeting.now.id
+        ++ take 8 nonce.now ++ le_bytes 1 0 ++ settings_bytes greeting.now
+        ++ drop 8 nonce.now ++ le_bytes 1 0 ++ text0_bytes greeting.now.plugin)) }
 {
-    let nonce = fitted(alloc, greeting.nonce.as_slice())?;
-    let (first, second) = nonce.as_slice().split_at(8);
+    let (first, second) = nonce.split_at(8);
     put_u8(out, 10)?;
     put_text0(out, greeting.version.as_slice())?;
     put_u32(out, greeting.id)?;
@@ -68,6 +73,15 @@ fn put_greeting(alloc: Global, out: &mut Vec<u8>, greeting: &Greeting) -> Result
     out.extend_from_slice(second)?;
     put_u8(out, 0)?;
     put_text0(out, greeting.plugin.as_slice())
+}
+
+fn put_greeting(alloc: Global, out: &mut Vec<u8>, greeting: &Greeting) -> Result<(), NoMemory>
+    ensures { OnOk result (out.new.items ≡ out.old.items ++ greeting_bytes greeting.now) }
+{
+    let nonce = fitted(alloc, greeting.nonce.as_slice())?;
+    let done = put_with_nonce(out, greeting, nonce.as_slice());
+    drop(nonce);
+    done
 }
 
 fn put_info(out: &mut Vec<u8>, info: &[u8]) -> Result<(), NoMemory>

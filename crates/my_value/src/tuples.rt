@@ -59,6 +59,24 @@ impl<A: FromValue> FromRow for (A,) {
     }
 }
 
+// The conversion of two cells.
+fn converted_pair<A: FromValue + Drop, B: FromValue>(
+    alloc: Global,
+    first: &Value,
+    second: &Value,
+) -> Result<Option<(A, B)>, NoMemory>
+    ensures { IfOk result (λ o. MatchOption o ((A.converts first.now × B.converts second.now) → ⊥)
+        (λ x. A.becomes first.now x.0 × B.becomes second.now x.1)) }
+{
+    let Some(first) = converted::<A>(alloc, first)? else {
+        return Ok(None);
+    };
+    let Some(second) = converted::<B>(alloc, second)? else {
+        return Ok(None);
+    };
+    Ok(Some((first, second)))
+}
+
 fn two_cells<A: FromValue + Drop, B: FromValue>(
     alloc: Global,
     cells: &[Value],
@@ -69,13 +87,7 @@ fn two_cells<A: FromValue + Drop, B: FromValue>(
     let [a, b] = cells else {
         return Ok(None);
     };
-    let Some(a) = converted::<A>(alloc, a)? else {
-        return Ok(None);
-    };
-    let Some(b) = converted::<B>(alloc, b)? else {
-        return Ok(None);
-    };
-    Ok(Some((a, b)))
+    converted_pair(alloc, a, b)
 }
 
 impl<A: FromValue + Drop, B: FromValue> FromRow for (A, B) {
@@ -105,10 +117,7 @@ fn three_cells<A: FromValue + Drop, B: FromValue + Drop, C: FromValue>(
     let [a, b, c] = cells else {
         return Ok(None);
     };
-    let Some(a) = converted::<A>(alloc, a)? else {
-        return Ok(None);
-    };
-    let Some(b) = converted::<B>(alloc, b)? else {
+    let Some((a, b)) = converted_pair::<A, B>(alloc, a, b)? else {
         return Ok(None);
     };
     let Some(c) = converted::<C>(alloc, c)? else {
@@ -147,16 +156,10 @@ fn four_cells<A: FromValue + Drop, B: FromValue + Drop, C: FromValue + Drop, D: 
     let [a, b, c, d] = cells else {
         return Ok(None);
     };
-    let Some(a) = converted::<A>(alloc, a)? else {
+    let Some((a, b)) = converted_pair::<A, B>(alloc, a, b)? else {
         return Ok(None);
     };
-    let Some(b) = converted::<B>(alloc, b)? else {
-        return Ok(None);
-    };
-    let Some(c) = converted::<C>(alloc, c)? else {
-        return Ok(None);
-    };
-    let Some(d) = converted::<D>(alloc, d)? else {
+    let Some((c, d)) = converted_pair::<C, D>(alloc, c, d)? else {
         return Ok(None);
     };
     Ok(Some((a, b, c, d)))
