@@ -216,11 +216,11 @@ pub(crate) fn put_dump_gtid(
     requires { FitsDump dump.now }
     ensures { OnOk result (out.new.items ≡ out.old.items ++ dump_gtid_bytes dump.now) }
 {
-    let block = gtid_block(alloc, dump.sids.as_slice())?;
     put_u8(out, 0x1E)?;
     put_u16(out, 4 + u16::from(dump.non_blocking))?;
     put_u32(out, dump.server)?;
     put_long(out, dump.file.as_slice())?;
     put_u64(out, dump.position)?;
+    let block = gtid_block(alloc, dump.sids.as_slice())?;
     put_long(out, block.as_slice())
 }

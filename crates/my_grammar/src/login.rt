@@ -109,7 +109,9 @@ fn written(alloc: Global, login: &Login, greeting: &Greeting) -> Result<Blob, No
     ensures { IfOk result (λ payload. payload ≡ response_bytes (response_to login.now greeting.now)) }
 {
     let packet = ClientPacket::Response(response_to(alloc, login, greeting)?);
-    Ok(Blob::from(write_client(alloc, &packet)?))
+    let payload = write_client(alloc, &packet);
+    drop(packet);
+    Ok(Blob::from(payload?))
 }
 
 /// The payload that the client sends after a greeting; an empty one where the payload is none.

@@ -6,51 +6,66 @@ use my_frame::{CodecFault, NoMemory, Text};
 use my_opts_parts::UrlError;
 use my_params::ParamsError;
 use std::alloc::Global;
+use std::fmt;
 use thiserror::Error as ThisError;
 
 /// The driver's own refusals.
-#[derive(Debug, Drop, PartialEq, Eq, ThisError)]
+#[derive(Debug, Drop, PartialEq, Eq)]
 pub enum DriverError {
-    #[error("connection is closed")]
     ConnectionClosed,
     /// A text to prepare has both named parameters and `?`.
-    #[error("named and positional parameters in one text")]
     MixedParams,
     /// A transaction was to begin while there is one.
-    #[error("nested transaction")]
     NestedTransaction,
+    /// The pool is closed, and gives no connection any more.
+    PoolDisconnected,
+    /// A request would have to wait for a connection of the pool, and `waiting` others do, as many as may.
+    PoolFull { waiting: u64, limit: u64 },
     /// The server is too old to be told whether a transaction only reads: it is below 5.6.5.
-    #[error("the server has no read-only transactions")]
     ReadOnlyTransNotSupported,
     /// The parameters don't fit the statement's names, or one of them can't be sent.
-    #[error(transparent)]
     Params(ParamsError),
-    #[error("statement takes {required} parameters but {supplied} were supplied")]
     StmtParamsMismatch { required: u16, supplied: u64 },
     /// More values than an execution can have: 65,535.
-    #[error("too many parameters for a statement: {supplied}")]
     StmtParamsNumberExceedsLimit { supplied: u64 },
-    #[error("the call took too many bytes without an answer")]
     TooLong,
-    #[error("can't parse the server's version")]
     CantParseServerVersion,
-    #[error("packet out of order")]
     PacketOutOfOrder,
-    #[error("packet too large")]
     PacketTooLarge,
-    #[error("bad header of a compressed packet")]
     BadCompressedPacketHeader,
-    #[error("no key found")]
     NoKeyFound,
-    #[error("named pipes are disabled")]
     NamedPipesDisabled,
-    #[error("invalid salt for parsec authentication")]
     InvalidParsecSalt,
-    #[error("no flag for SSL from the server")]
     NoClientSslFlagFromServer,
 }
 
 impl DriverError {
+    // What it says, up to its values where it has some.
+    fn text(&self) -> &'static str {
+        match self {
+            DriverError::ConnectionClosed => "connection is closed",
+            DriverError::MixedParams => "named and positional parameters in one text",
+            DriverError::NestedTransaction => "nested transaction",
+            DriverError::PoolDisconnected => "Pool was disconnected.",
+            DriverError::PoolFull { .. } => "Too many requests wait for a connection: ",
+            DriverError::ReadOnlyTransNotSupported => "the server has no read-only transactions",
+            DriverError::Params(_) => "",
+            DriverError::StmtParamsMismatch { .. } => "statement takes ",
+            DriverError::StmtParamsNumberExceedsLimit { .. } => {
+                "too many parameters for a statement: "
+            }
+            DriverError::TooLong => "the call took too many bytes without an answer",
+            DriverError::CantParseServerVersion => "can't parse the server's version",
+            DriverError::PacketOutOfOrder => "packet out of order",
+            DriverError::PacketTooLarge => "packet too large",
+            DriverError::BadCompressedPacketHeader => "bad header of a compressed packet",
+            DriverError::NoKeyFound => "no key found",
+            DriverError::NamedPipesDisabled => "named pipes are disabled",
+            DriverError::InvalidParsecSalt => "invalid salt for parsec authentication",
+            DriverError::NoClientSslFlagFromServer => "no flag for SSL from the server",
+        }
+    }
+
     /// A second value of the same refusal.
     pub fn copy(&self, alloc: Global) -> Result<DriverError, NoMemory>
         ensures { IfOk result (λ copy. copy ≡ self.now) }
@@ -59,6 +74,11 @@ impl DriverError {
             DriverError::ConnectionClosed => Ok(DriverError::ConnectionClosed),
             DriverError::MixedParams => Ok(DriverError::MixedParams),
             DriverError::NestedTransaction => Ok(DriverError::NestedTransaction),
+            DriverError::PoolDisconnected => Ok(DriverError::PoolDisconnected),
+            DriverError::PoolFull { waiting, limit } => Ok(DriverError::PoolFull {
+                waiting: *waiting,
+                limit: *limit,
+            }),
             DriverError::ReadOnlyTransNotSupported => Ok(DriverError::ReadOnlyTransNotSupported),
             DriverError::Params(error) => Ok(DriverError::Params(error.copy(alloc)?)),
             DriverError::StmtParamsMismatch { required, supplied } => {
@@ -85,22 +105,55 @@ impl DriverError {
     }
 }
 
+impl fmt::Display for DriverError {
+    fn fmt<W: fmt::Write>(&self, f: &mut fmt::Formatter<W>) -> fmt::Result {
+        f.write_str(self.text())?;
+        match self {
+            DriverError::Params(error) => fmt::Display::fmt(error, f),
+            DriverError::PoolFull { waiting, limit } => write!(f, "{waiting} of at most {limit}."),
+            DriverError::StmtParamsMismatch { required, supplied } => {
+                write!(f, "{required} parameters but {supplied} were supplied")
+            }
+            DriverError::StmtParamsNumberExceedsLimit { supplied } => write!(f, "{supplied}"),
+            _ => Ok(()),
+        }
+    }
+}
+
+impl std::error::Error for DriverError {}
+
 /// What failed on the way between client and server.
-#[derive(Clone, Copy, Debug, PartialEq, Eq, ThisError)]
+#[derive(Clone, Copy, Debug, PartialEq, Eq)]
 pub enum IoKind {
     /// The link failed.
-    #[error("the link failed")]
     Link,
     /// No link could be made.
-    #[error("no link could be made")]
     Dial,
     /// The link ended where a packet was awaited.
-    #[error("the link ended where a packet was awaited")]
     UnexpectedEof,
     /// A payload was received that fits no case.
-    #[error("a packet came that may not stand there")]
     InvalidData,
 }
+
+impl IoKind {
+    // What failed, in words.
+    fn text(self) -> &'static str {
+        match self {
+            IoKind::Link => "the link failed",
+            IoKind::Dial => "no link could be made",
+            IoKind::UnexpectedEof => "the link ended where a packet was awaited",
+            IoKind::InvalidData => "a packet came that may not stand there",
+        }
+    }
+}
+
+impl fmt::Display for IoKind {
+    fn fmt<W: fmt::Write>(&self, f: &mut fmt::Formatter<W>) -> fmt::Result {
+        f.write_str(self.text())
+    }
+}
+
+impl std::error::Error for IoKind {}
 
 /// A fault on the way, with the number of whole payloads that were taken before.
 #[derive(Clone, Copy, Debug, PartialEq, Eq, ThisError)]

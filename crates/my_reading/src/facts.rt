@@ -102,7 +102,7 @@ fn column_in(alloc: Global, payload: &[u8]) -> Result<Option<Column>, NoMemory>
 }
 
 impl Facts {
-    ghost use Rattle.my_reading.specs.Facts.{first_facts, facts_after, counted, with_greeting, with_ok, with_count, with_column, with_field, with_head, with_parameter, with_settings, prepared_by};
+    ghost use Rattle.my_reading.specs.Facts.{first_facts, facts_after, counted, with_greeting, with_ok, with_count, with_column, with_field, with_head, with_parameter, with_settings, prepared_by, told_after};
     ghost use Rattle.my_reading.specs.Rows.{row_at};
     ghost use Rattle.my_reading.specs.Settings.{end_settings, good_settings, row_settings};
 
@@ -138,7 +138,7 @@ impl Facts {
         self.place = self.place.saturating_add(1);
     }
 
-    fn learn_greeting(&mut self, greeting: Option<Greeting>)
+    fn greet(&mut self, greeting: Option<Greeting>)
         ensures { self.new ≡ with_greeting greeting self.old }
     {
         if let Some(greeting) = greeting {
@@ -148,11 +148,61 @@ impl Facts {
         }
     }
 
+    fn learn_greeting(&mut self, alloc: Global, payload: &[u8]) -> Result<(), NoMemory>
+        ensures ok { OnOk result (self.new ≡ with_greeting (greeting_at payload.now) self.old) }
+        ensures err { OnErr result (self.new ≡ self.old) }
+    {
+        let greeting = greeting_in(alloc, payload)?;
+        self.greet(greeting);
+        Ok(())
+    }
+
     fn learn_ok(&mut self, ok: Option<OkPacket>, status: StatusFlags)
         ensures { self.new ≡ with_ok ok status self.old }
     {
         self.ok = ok;
         self.status = status;
+    }
+
+    // An OK that ends no set.
+    fn learn_good(
+        &mut self,
+        alloc: Global,
+        status: StatusFlags,
+        payload: &[u8],
+    ) -> Result<(), NoMemory>
+        ensures ok { let known = with_ok (ok_at payload.now) status self.old in
+            OnOk result (self.new ≡ with_settings (good_settings self.old.settings.stage self.old.settings) known) }
+        ensures err { OnErr result (self.new ≡ self.old) }
+    {
+        let ok = ok_in(alloc, payload)?;
+        self.learn_ok(ok, status);
+        self.settings = self.settings.after_ok();
+        Ok(())
+    }
+
+    // An OK that ends a set.
+    fn learn_end(
+        &mut self,
+        alloc: Global,
+        status: StatusFlags,
+        payload: &[u8],
+    ) -> Result<(), NoMemory>
+        ensures ok { let known = with_ok (end_ok_at payload.now) status self.old in
+            OnOk result (self.new ≡ with_settings (end_settings self.old.settings.stage self.old.settings) known) }
+        ensures err { OnErr result (self.new ≡ self.old) }
+    {
+        let ok = end_ok_in(alloc, payload)?;
+        self.learn_ok(ok, status);
+        self.settings = self.settings.after_end();
+        Ok(())
+    }
+
+    fn learn_count(&mut self, alloc: Global, columns: u16)
+        ensures { self.new ≡ with_count columns self.old }
+    {
+        self.left = columns;
+        self.gathered = Listed::new(alloc);
     }
 
     fn join(&mut self, alloc: Global, column: Column) -> Result<(), NoMemory>
@@ -169,11 +219,11 @@ impl Facts {
         Ok(())
     }
 
-    fn learn_column(&mut self, alloc: Global, column: Option<Column>) -> Result<(), NoMemory>
-        ensures ok { OnOk result (self.new ≡ with_column column self.old) }
+    fn learn_column(&mut self, alloc: Global, payload: &[u8]) -> Result<(), NoMemory>
+        ensures ok { OnOk result (self.new ≡ with_column (column_at payload.now) self.old) }
         ensures err { OnErr result (self.new ≡ self.old) }
     {
-        match column {
+        match column_in(alloc, payload)? {
             None => Ok(()),
             Some(column) => self.join(alloc, column),
         }
@@ -259,41 +309,41 @@ impl Facts {
         Ok(())
     }
 
+    // What a payload of this kind says. Out of memory, nothing changes.
+    fn learn_by_kind(&mut self, alloc: Global, kind: Kind, payload: &[u8]) -> Result<(), NoMemory>
+        ensures ok { OnOk result (self.new ≡ told_after kind payload.now self.old) }
+        ensures err { OnErr result (self.new ≡ self.old) }
+    {
+        match kind {
+            Kind::Greets(_) => self.learn_greeting(alloc, payload),
+            Kind::Good(status) => self.learn_good(alloc, status, payload),
+            Kind::End(status) => self.learn_end(alloc, status, payload),
+            Kind::Failed => {
+                self.learn_ok(None, StatusFlags(0));
+                Ok(())
+            }
+            Kind::Count(columns) => {
+                self.learn_count(alloc, columns);
+                Ok(())
+            }
+            Kind::Column => self.learn_column(alloc, payload),
+            Kind::Row => self.learn_row(alloc, payload),
+            Kind::Prepared { .. } => {
+                self.learn_head(alloc, payload);
+                Ok(())
+            }
+            Kind::Parameter => self.learn_parameter(alloc, payload),
+            Kind::Field => self.learn_field(alloc, payload),
+            Kind::ColumnsDone | Kind::Bad => Ok(()),
+        }
+    }
+
     /// What a payload of this kind adds. Out of memory, nothing changes.
     pub fn learn(&mut self, alloc: Global, kind: Kind, payload: &[u8]) -> Result<(), NoMemory>
         ensures ok { OnOk result (self.new ≡ facts_after kind payload.now self.old) }
         ensures err { OnErr result (self.new ≡ self.old) }
     {
-        match kind {
-            Kind::Greets(_) => {
-                let greeting = greeting_in(alloc, payload)?;
-                self.learn_greeting(greeting);
-            }
-            Kind::Good(status) => {
-                let ok = ok_in(alloc, payload)?;
-                self.learn_ok(ok, status);
-                self.settings = self.settings.after_ok();
-            }
-            Kind::End(status) => {
-                let ok = end_ok_in(alloc, payload)?;
-                self.learn_ok(ok, status);
-                self.settings = self.settings.after_end();
-            }
-            Kind::Failed => self.learn_ok(None, StatusFlags(0)),
-            Kind::Count(columns) => {
-                self.left = columns;
-                self.gathered = Listed::new(alloc);
-            }
-            Kind::Column => {
-                let column = column_in(alloc, payload)?;
-                self.learn_column(alloc, column)?;
-            }
-            Kind::Row => self.learn_row(alloc, payload)?,
-            Kind::Prepared { .. } => self.learn_head(alloc, payload),
-            Kind::Parameter => self.learn_parameter(alloc, payload)?,
-            Kind::Field => self.learn_field(alloc, payload)?,
-            Kind::ColumnsDone | Kind::Bad => {}
-        }
+        self.learn_by_kind(alloc, kind, payload)?;
         self.count();
         Ok(())
     }

@@ -35,11 +35,13 @@ params_text (params.Missing name) = one_text (codes "Driver Params Missing") nam
 params_text params.Kind = codes "Driver Params Kind"
 params_text params.NoMemory = codes "Driver Params NoMemory"
 
--- of a mismatch how many values the statement takes, and how many there were
+-- of a full pool how many requests wait, and how many may; of a mismatch how many values the statement takes, and how many there were
 abbrev pub driver_text : DriverError → List ℕ
 driver_text drivers.ConnectionClosed = codes "Driver ConnectionClosed"
 driver_text drivers.MixedParams = codes "Driver MixedParams"
 driver_text drivers.NestedTransaction = codes "Driver NestedTransaction"
+driver_text drivers.PoolDisconnected = codes "Driver PoolDisconnected"
+driver_text (drivers.PoolFull waiting limit) = two_text (codes "Driver PoolFull") waiting limit
 driver_text drivers.ReadOnlyTransNotSupported = codes "Driver ReadOnlyTransNotSupported"
 driver_text (drivers.Params e) = params_text e
 driver_text (drivers.StmtParamsMismatch required supplied) = two_text (codes "Driver StmtParamsMismatch") required supplied

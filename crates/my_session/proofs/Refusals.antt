@@ -98,6 +98,8 @@ params_close : (e : DriverError) → is_params e ≡ true → closes_driver e �
 params_close drivers.ConnectionClosed w = cc
 params_close drivers.MixedParams w = cc
 params_close drivers.NestedTransaction w = cc
+params_close drivers.PoolDisconnected w = cc
+params_close (drivers.PoolFull waiting limit) w = cc
 params_close drivers.ReadOnlyTransNotSupported w = cc
 params_close (drivers.Params x) w = refl
 params_close (drivers.StmtParamsMismatch required supplied) w = refl
@@ -116,6 +118,8 @@ params_own : (e : DriverError) → is_params e ≡ true → OwnDriver e
 params_own drivers.ConnectionClosed w = cc
 params_own drivers.MixedParams w = cc
 params_own drivers.NestedTransaction w = cc
+params_own drivers.PoolDisconnected w = cc
+params_own (drivers.PoolFull waiting limit) w = cc
 params_own drivers.ReadOnlyTransNotSupported w = cc
 params_own (drivers.Params x) w = tt
 params_own (drivers.StmtParamsMismatch required supplied) w = tt
@@ -134,6 +138,8 @@ params_cause : (e : DriverError) (login : Login) (made : Option LinkFault) (stat
 params_cause drivers.ConnectionClosed login made status h es w u = cc
 params_cause drivers.MixedParams login made status h es w u = cc
 params_cause drivers.NestedTransaction login made status h es w u = cc
+params_cause drivers.PoolDisconnected login made status h es w u = cc
+params_cause (drivers.PoolFull waiting limit) login made status h es w u = cc
 params_cause drivers.ReadOnlyTransNotSupported login made status h es w u = cc
 params_cause (drivers.Params x) login made status h es w u = u
 params_cause (drivers.StmtParamsMismatch required supplied) login made status h es w u = u

@@ -100,12 +100,21 @@ fn each_kind_of_value(rt: HostRuntime) -> Result<(), Fail> {
 type DriverRow = (DriverError, &'static str);
 
 fn of_connections(alloc: Global) -> Result<Vec<DriverRow>, NoMemory> {
+    let full = DriverError::PoolFull {
+        waiting: 2,
+        limit: 1,
+    };
     Ok(vec![in alloc;
         (
             DriverError::ConnectionClosed,
             "error Driver ConnectionClosed"
         ),
         (DriverError::TooLong, "error Driver TooLong"),
+        (
+            DriverError::PoolDisconnected,
+            "error Driver PoolDisconnected"
+        ),
+        (full, "error Driver PoolFull 2 1"),
         (
             DriverError::CantParseServerVersion,
             "error Driver CantParseServerVersion"

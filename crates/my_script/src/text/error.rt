@@ -68,6 +68,10 @@ fn push_driver(alloc: Global, out: &mut Vec<u8>, error: &DriverError) -> Result<
         DriverError::ConnectionClosed => out.extend_from_slice(b"Driver ConnectionClosed"),
         DriverError::MixedParams => out.extend_from_slice(b"Driver MixedParams"),
         DriverError::NestedTransaction => out.extend_from_slice(b"Driver NestedTransaction"),
+        DriverError::PoolDisconnected => out.extend_from_slice(b"Driver PoolDisconnected"),
+        DriverError::PoolFull { waiting, limit } => {
+            push_two(alloc, out, b"Driver PoolFull", *waiting, *limit)
+        }
         DriverError::ReadOnlyTransNotSupported => {
             out.extend_from_slice(b"Driver ReadOnlyTransNotSupported")
         }

@@ -113,6 +113,8 @@ module _ (u : Met) (stop : Stop) (taken : List ℕ) (of_call : IsOfCall u) (met 
     driver_so drivers.ConnectionClosed own none = absurd own
     driver_so drivers.MixedParams own none = in_bytes stop refl none ready
     driver_so drivers.NestedTransaction own none = in_bytes stop refl none ready
+    driver_so drivers.PoolDisconnected own none = absurd own
+    driver_so (drivers.PoolFull waiting limit) own none = absurd own
     driver_so drivers.ReadOnlyTransNotSupported own none = in_bytes stop refl none ready
     driver_so (drivers.Params e) own none = in_bytes stop refl none ready
     driver_so (drivers.StmtParamsMismatch required supplied) own none = in_bytes stop refl none ready
