@@ -1,0 +1,386 @@
+-- Calls that read sets, and the head of a query's first one.
+use Rattle.std.proofs.Common.{◌≡◌, ◌⊎◌, inl, inr, ℕ, List, [], ◌∷◌, Bool, true, false, cond, not, ◌||◌, Option, Some, None, refl, sym, ap, ◌∙◌, subst}
+use Rattle.my_flags.specs.declared.flags.StatusFlags.{StatusFlags}
+use Rattle.my_flags.specs.Sets.{deprecates_eof}
+use Rattle.my_grammar.proofs.Growth.{grows}
+use Rattle.my_grammar.specs.declared.login.Login.{Login}
+use Rattle.my_grammar.specs.declared.packet.Packet.{Packet}
+use Rattle.my_grammar.specs.declared.spot.Kind.{Kind}
+use Rattle.my_grammar.specs.declared.spot.Kind.TheVariants as kinds
+use Rattle.my_grammar.specs.declared.spot.Terms.{Terms}
+use Rattle.my_grammar.specs.declared.spot.Spot.TheVariants as spots
+use Rattle.my_grammar.specs.declared.spot.Spot.{Spot}
+use Rattle.my_grammar.specs.Cut.{is_idle, is_over}
+use Rattle.my_grammar.specs.Growth.{grow}
+use Rattle.my_grammar.specs.Sets.{Sets, SetHead, NoSets, Lone, Failed, Heading, Headed, Begun, Ended, Broken, grow_sets, packets_in, head_columns}
+use Rattle.my_grammar.specs.Talk.{Talk, Queried, context_of, packets_of, described, Fits}
+use Rattle.my_reply.specs.declared.column.Column.{Column}
+use Rattle.my_reply.specs.declared.err.ErrPacket.{ErrPacket}
+use Rattle.my_reading.proofs.Described.{at_rows}
+use Rattle.my_reading.specs.declared.call.Call.{Call}
+use Rattle.my_reading.specs.declared.call.Call.TheVariants.{Connect, Query, Prepare, Execute, Batch, CloseStmt, NextRow, DropResult, TakeSet, SkipTaken, Ping, Reset, ChangeUser, Begin, Commit, Rollback, ForgetTransaction, CleanForPool, ResetForPool, Quit}
+use Rattle.my_reading.specs.Calls.{kind_of}
+use Rattle.my_reading.specs.Course.{Part, All, Head, Item, Set, Rest, Goes, Stops, Awaits, Returns, after_kind, is_rows, refused_at, step_of}
+use Rattle.my_reading.specs.Errors.{server_error}
+use Rattle.my_reading.specs.Place.{Place, facts_at, facts_of, with_end as ending, with_taken, with_talk, without_end}
+use Rattle.my_reading.specs.Rows.{row_of}
+use Rattle.my_reading.specs.Told.{Told, ToldReady, ToldRow, ToldEnd, ToldNone}
+use Rattle.history_laws.specs.Given.{IsGiven, IsItem, Passed, passes_over, is_known, givens, onto}
+use Rattle.history_laws.specs.Given.{NonePassed, MorePassed}
+use Rattle.history_laws.specs.Groups.{Group, Made, given, given_after, groups, item_given, stop_given, with_item, with_stop}
+use Rattle.history_laws.proofs.Growing.{InRows, end_in_rows, failed_over, is_quiet, quiet_groups, row_in_rows}
+use Rattle.history_laws.proofs.Having.{Comes, either, reads_have, row_at}
+use Rattle.history_laws.proofs.Phases.{Answering, Gave, GaveAt, Heading as HeadingAt, IsFine, IsFresh, IsHalted, IsKept, IsPassing, Drops, Skips, KeptAt, Left, Over, Passing, Phase, Reading, Rests, Stopped, Taking, is_lone, is_query, known_part, reads_sets, returned_so}
+use Rattle.history_laws.proofs.Stepping.{faults_fine, grown_gave, refused_fine, told_gave}
+
+all_given : (t : Talk) (terms : Terms) (command : List ℕ) (x : Sets) → t ≡ Queried terms command x → IsGiven (Some (groups x)) t
+all_given t terms command x e = subst (IsGiven (Some (groups x))) (sym e) (x, ([], refl), refl)
+
+lone_stop : (x : Sets) → is_lone x ≡ true → with_stop (groups (known_part true x)) ≡ groups x
+lone_stop (Lone older p s) e = refl
+lone_stop (NoSets asking) e = cc
+lone_stop (Failed older p) e = cc
+lone_stop (Heading older head left) e = cc
+lone_stop (Headed older head) e = cc
+lone_stop (Begun older head rows) e = cc
+lone_stop (Ended older head rows p s) e = cc
+lone_stop (Broken older head rows p) e = cc
+
+-- what was read is in the sets of a query
+grown_is : (t : Talk) (terms : Terms) (command : List ℕ) (x : Sets) (k : Kind) (q : List ℕ) → t ≡ Queried terms command x → grow k t q ≡ Queried terms command (grow_sets (deprecates_eof terms.kept) k x q)
+grown_is t terms command x k q e = ap (λ u. grow k u q) e
+
+more_packets : (p : Place) (ms : List Made) (o : Option (List Group)) (k : Kind) (q : List ℕ) (terms : Terms) (command : List ℕ) (x : Sets) → Comes p k q → GaveAt ms p o → p.talk ≡ Queried terms command x
+    → packets_in (grow_sets (deprecates_eof terms.kept) k x q) ≡ (let one : Packet = record { kind = k; payload = q } in one) ∷ packets_in x
+more_packets p ms o k q terms command x c w e = subst (λ (t : Talk). packets_of (grow k t q) ≡ (let one : Packet = record { kind = k; payload = q } in one) ∷ packets_of t) e (grows p.talk k q c.kind_is c.good c.short w.fits).packets_are
+
+rows_there : (t : Talk) (terms : Terms) (command : List ℕ) (x : Sets) → InRows x → t ≡ Queried terms command x → is_rows (context_of t).spot ≡ true
+rows_there t terms command x r e = subst (λ (u : Talk). is_rows (context_of u).spot ≡ true) (sym (e ∙ ap (Queried terms command) r.sets_are)) refl
+
+-- what a call was told more, and what is left then
+record Shared (c : Call) (ms : List Made) (t : Told) (p : Place) (talk : Talk) : Type 0 where
+  pub share : Option (List Group)
+  pub gave : Gave (returned_so c t ms) talk p.older p.trial share
+  pub left : Left talk false share
+
+module _ (c : Call) (ms : List Made) (p : Place) (o : Option (List Group)) (w : GaveAt ms p o) where
+  -- with another list of groups for the newest response
+  shared : (t : Told) (talk : Talk) (terms : Terms) (command : List ℕ) (x : Sets) (g : List Group) → talk ≡ Queried terms command x → Fits talk → o ≡ Some g
+      → given_after t (kind_of c) (g ∷ givens w.olds) ≡ groups x ∷ givens w.olds → Shared c ms t p talk
+  shared t talk terms command x g is fits share gives = record {
+    share = Some (groups x);
+    gave = record {
+      olds = w.olds;
+      given_is = ap (given_after t (kind_of c)) (w.given_is ∙ ap (λ s. onto s (givens w.olds)) share) ∙ gives;
+      newest = all_given talk terms command x is;
+      each = w.each;
+      fits = fits;
+      off = w.off;
+    };
+    left = record { terms = terms; command = command; sets = x; talk_is = is; share_is = refl; lone = λ e. absurd (cc) };
+  }
+
+  -- the end of a lone OK that was left
+  end_shared : Left p.talk true o → Shared c ms ToldEnd p p.talk
+  end_shared l = shared ToldEnd p.talk l.terms l.command l.sets (groups (known_part true l.sets)) l.talk_is w.fits l.share_is (ap (λ g. g ∷ givens w.olds) (lone_stop l.sets (l.lone refl)))
+
+  module _ (l : Left p.talk false o) where
+    fits_after : (k : Kind) (q : List ℕ) → Comes p k q → Fits (grow k p.talk q)
+    fits_after k q come = (grows p.talk k q come.kind_is come.good come.short w.fits).fits
+
+    grown : (k : Kind) (q : List ℕ) → grow k p.talk q ≡ Queried l.terms l.command (grow_sets (deprecates_eof l.terms.kept) k l.sets q)
+    grown k q = grown_is p.talk l.terms l.command l.sets k q l.talk_is
+
+    good_shared : (s : StatusFlags) (q : List ℕ) → Comes p (kinds.Good s) q → Shared c ms ToldEnd p (grow (kinds.Good s) p.talk q)
+    good_shared s q come = shared ToldEnd (grow (kinds.Good s) p.talk q) l.terms l.command (Lone l.sets q s) (groups l.sets) (grown (kinds.Good s) q) (fits_after (kinds.Good s) q come) l.share_is refl
+
+    end_rows : (s : StatusFlags) (q : List ℕ) → Comes p (kinds.End s) q → InRows l.sets
+    end_rows s q come = end_in_rows l.sets q s _ (more_packets p ms o (kinds.End s) q l.terms l.command l.sets come w l.talk_is)
+
+    row_rows : (q : List ℕ) → Comes p kinds.Row q → InRows l.sets
+    row_rows q come = row_in_rows l.sets q _ (more_packets p ms o kinds.Row q l.terms l.command l.sets come w l.talk_is)
+
+    stop_shared : (s : StatusFlags) (q : List ℕ) → Comes p (kinds.End s) q → Shared c ms ToldEnd p (grow (kinds.End s) p.talk q)
+    stop_shared s q come =
+        let r = end_rows s q come in
+        let is : p.talk ≡ Queried l.terms l.command (Begun r.older r.head r.rows) = l.talk_is ∙ ap (Queried l.terms l.command) r.sets_are in
+        shared ToldEnd (grow (kinds.End s) p.talk q) l.terms l.command (Ended r.older r.head r.rows q s) (groups (Begun r.older r.head r.rows)) (ap (λ u. grow (kinds.End s) u q) is) (fits_after (kinds.End s) q come)
+        (l.share_is ∙ ap (λ x. Some (groups x)) r.sets_are) refl
+
+    row_shared : (login : Login) (q : List ℕ) → Comes p kinds.Row q → Shared c ms (row_at login p q) p (grow kinds.Row p.talk q)
+    row_shared login q come =
+        let r = row_rows q come in
+        let x : Sets = Begun r.older r.head r.rows in
+        let is : p.talk ≡ Queried l.terms l.command x = l.talk_is ∙ ap (Queried l.terms l.command) r.sets_are in
+        let spot : (context_of p.talk).spot ≡ spots.Rows = ap (λ u. (context_of u).spot) is in
+        let columns : (facts_at login p).columns ≡ head_columns r.head = (at_rows p.talk w.fits spot).known (facts_of login p.older) ∙ ap described is in
+        let same : row_of (context_of p.talk).rows (facts_at login p).columns q ≡ row_of (context_of (Queried l.terms l.command x)).rows (head_columns r.head) q
+        = ap (λ u. row_of (context_of u).rows (facts_at login p).columns q) is ∙ ap (λ cs. row_of (context_of (Queried l.terms l.command x)).rows cs q) columns in
+        shared (row_at login p q) (grow kinds.Row p.talk q) l.terms l.command (Begun r.older r.head (q ∷ r.rows)) (groups x) (ap (λ u. grow kinds.Row u q) is) (fits_after kinds.Row q come)
+        (l.share_is ∙ ap (λ y. Some (groups y)) r.sets_are) (ap (λ row. with_item row (groups x) ∷ givens w.olds) same)
+
+    -- a payload that gives nothing leaves what was left
+    quiet_left : (k : Kind) (q : List ℕ) → is_quiet k ≡ true → Left (grow k p.talk q) false o
+    quiet_left k q quiet = record {
+      terms = l.terms;
+      command = l.command;
+      sets = grow_sets (deprecates_eof l.terms.kept) k l.sets q;
+      talk_is = grown k q;
+      share_is = l.share_is ∙ ap Some (sym (quiet_groups (deprecates_eof l.terms.kept) k l.sets q quiet));
+      lone = λ e. absurd (cc);
+    }
+
+-- rows are read where the exchange isn't over
+rows_open : (s : Spot) → is_rows s ≡ true → is_idle s ≡ false
+rows_open spots.Rows e = refl
+rows_open spots.Idle e = cc
+rows_open spots.Greeting e = cc
+rows_open spots.Authentication e = cc
+rows_open spots.Single e = cc
+rows_open spots.Head e = cc
+rows_open spots.Further e = cc
+rows_open (spots.Columns left) e = cc
+rows_open spots.ColumnsEnd e = cc
+rows_open spots.Prepare e = cc
+rows_open (spots.Parameters left columns) e = cc
+rows_open (spots.ParametersEnd columns) e = cc
+rows_open (spots.Fields left) e = cc
+rows_open spots.FieldsEnd e = cc
+
+-- where something is left to be read, all before it was given
+left_there : (p : Place) (o : Option (List Group)) → KeptAt p o → p.end_left ≡ false → is_over p.talk ≡ false → Left p.talk false o
+left_there p o (inl (over, none)) e unread = absurd (cc)
+left_there p o (inr l) e unread = subst (λ b. Left p.talk b o) e l
+
+left_end : (p : Place) (o : Option (List Group)) → KeptAt p o → p.end_left ≡ true → Left p.talk true o
+left_end p o (inl (over, none)) e = absurd (cc)
+left_end p o (inr l) e = subst (λ b. Left p.talk b o) e l
+
+module _ (login : Login) (ms : List Made) (p : Place) (o : Option (List Group)) (w : GaveAt ms p o) where
+  -- a call that reads, where it waits, fails or finds nothing
+  module _ (c : Call) (known : is_known c ≡ true) (kept : KeptAt p o) where
+    waits_fine : IsHalted c ms p
+    waits_fine = record { share = o; gave = w; kept = λ _. kept }
+
+    none_fine : Stopped c ms p (Returns ToldNone)
+    none_fine = record { share = o; gave = told_gave c ms known ToldNone p o refl w; kept = λ _. kept }
+
+    err_fine : (q rest : List ℕ) → Comes p kinds.Failed q → (e : ErrPacket) → IsFine c ms (refused_at p.trial (with_talk p (grow kinds.Failed p.talk q) rest) (server_error e))
+    err_fine q rest come e = refused_fine c ms known p.trial (with_talk p (grow kinds.Failed p.talk q) rest) o (server_error e) w.off (grown_gave ms p o kinds.Failed q come w) (failed_over p.talk q) refl
+
+  -- the next row
+  item_kind : (k : Kind) (q rest : List ℕ) → Comes p k q → Left p.talk false o → IsFine NextRow ms (after_kind Item [] k (with_talk p (grow k p.talk q) rest) (row_at login p q))
+  item_kind (kinds.Good s) q rest come l = let x = good_shared NextRow ms p o w l s q come in record { share = x.share; gave = x.gave; kept = λ _. inr x.left }
+  item_kind (kinds.End s) q rest come l = let x = stop_shared NextRow ms p o w l s q come in record { share = x.share; gave = x.gave; kept = λ _. inr x.left }
+  item_kind kinds.Row q rest come l = let x = row_shared NextRow ms p o w l login q come in record { share = x.share; gave = x.gave; kept = λ _. inr x.left }
+  item_kind (kinds.Greets n) q rest come l = (ms, NonePassed, Reading _ o refl (grown_gave ms p o (kinds.Greets n) q come w) (inr (quiet_left NextRow ms p o w l (kinds.Greets n) q refl)))
+  item_kind kinds.Failed q rest come l = (ms, NonePassed, Reading _ o refl (grown_gave ms p o kinds.Failed q come w) (inr (quiet_left NextRow ms p o w l kinds.Failed q refl)))
+  item_kind (kinds.Count n) q rest come l = (ms, NonePassed, Reading _ o refl (grown_gave ms p o (kinds.Count n) q come w) (inr (quiet_left NextRow ms p o w l (kinds.Count n) q refl)))
+  item_kind kinds.Column q rest come l = (ms, NonePassed, Reading _ o refl (grown_gave ms p o kinds.Column q come w) (inr (quiet_left NextRow ms p o w l kinds.Column q refl)))
+  item_kind kinds.ColumnsDone q rest come l = (ms, NonePassed, Reading _ o refl (grown_gave ms p o kinds.ColumnsDone q come w) (inr (quiet_left NextRow ms p o w l kinds.ColumnsDone q refl)))
+  item_kind (kinds.Prepared m n) q rest come l = (ms, NonePassed, Reading _ o refl (grown_gave ms p o (kinds.Prepared m n) q come w) (inr (quiet_left NextRow ms p o w l (kinds.Prepared m n) q refl)))
+  item_kind kinds.Parameter q rest come l = (ms, NonePassed, Reading _ o refl (grown_gave ms p o kinds.Parameter q come w) (inr (quiet_left NextRow ms p o w l kinds.Parameter q refl)))
+  item_kind kinds.Field q rest come l = (ms, NonePassed, Reading _ o refl (grown_gave ms p o kinds.Field q come w) (inr (quiet_left NextRow ms p o w l kinds.Field q refl)))
+  item_kind kinds.Bad q rest come l = (ms, NonePassed, Reading _ o refl (grown_gave ms p o kinds.Bad q come w) (inr (quiet_left NextRow ms p o w l kinds.Bad q refl)))
+
+  pub item_fine : KeptAt p o → IsFine NextRow ms (step_of login NextRow (Item ∷ []) p)
+  item_fine kept = either (IsFine NextRow ms) p.end_left _ _
+      (λ e. let x = end_shared NextRow ms p o w (left_end p o kept e) in record { share = x.share; gave = x.gave; kept = λ _. inr x.left })
+      (λ e. either (IsFine NextRow ms) (is_over p.talk) _ _ (λ _. none_fine NextRow refl kept)
+      (λ unread. let l = left_there p o kept e unread in reads_have (IsFine NextRow ms) p (faults_fine NextRow ms refl p o w) login Item [] refl (waits_fine NextRow refl kept)
+      (λ k quiet q rest come. (ms, NonePassed, Reading _ o refl (grown_gave ms p o k q come w) (inr (quiet_left NextRow ms p o w l k q quiet))))
+      (λ k q rest come. item_kind k q rest come l) (err_fine NextRow refl kept)))
+
+  -- a set that a stream takes
+  no_rows : (x : Sets) (terms : Terms) (command : List ℕ) → p.talk ≡ Queried terms command x → is_rows (context_of p.talk).spot ≡ false → InRows x → ⊥
+  no_rows x terms command is e r = let yes = rows_there p.talk terms command x r is in absurd (cc)
+
+  set_kind : (k : Kind) (q rest : List ℕ) → Comes p k q → Left p.talk false o → is_rows (context_of p.talk).spot ≡ false → IsFine TakeSet ms (after_kind Set [] k (with_talk p (grow k p.talk q) rest) (row_at login p q))
+  set_kind (kinds.Good s) q rest come l e = record {
+    share = o;
+    gave = told_gave TakeSet ms refl ToldReady (with_talk p (grow (kinds.Good s) p.talk q) rest) o refl (grown_gave ms p o (kinds.Good s) q come w);
+    kept = λ _. inr (record { terms = l.terms; command = l.command; sets = Lone l.sets q s; talk_is = grown_is p.talk l.terms l.command l.sets (kinds.Good s) q l.talk_is; share_is = l.share_is; lone = λ _. refl });
+  }
+  set_kind (kinds.End s) q rest come l e = absurd (no_rows l.sets l.terms l.command l.talk_is e (end_rows TakeSet ms p o w l s q come))
+  set_kind kinds.Row q rest come l e = absurd (no_rows l.sets l.terms l.command l.talk_is e (row_rows TakeSet ms p o w l q come))
+  set_kind (kinds.Greets n) q rest come l e = (ms, NonePassed, Taking _ o refl (grown_gave ms p o (kinds.Greets n) q come w) (inr (quiet_left TakeSet ms p o w l (kinds.Greets n) q refl)))
+  set_kind kinds.Failed q rest come l e = (ms, NonePassed, Taking _ o refl (grown_gave ms p o kinds.Failed q come w) (inr (quiet_left TakeSet ms p o w l kinds.Failed q refl)))
+  set_kind (kinds.Count n) q rest come l e = (ms, NonePassed, Taking _ o refl (grown_gave ms p o (kinds.Count n) q come w) (inr (quiet_left TakeSet ms p o w l (kinds.Count n) q refl)))
+  set_kind kinds.Column q rest come l e = (ms, NonePassed, Taking _ o refl (grown_gave ms p o kinds.Column q come w) (inr (quiet_left TakeSet ms p o w l kinds.Column q refl)))
+  set_kind kinds.ColumnsDone q rest come l e = (ms, NonePassed, Taking _ o refl (grown_gave ms p o kinds.ColumnsDone q come w) (inr (quiet_left TakeSet ms p o w l kinds.ColumnsDone q refl)))
+  set_kind (kinds.Prepared m n) q rest come l e = (ms, NonePassed, Taking _ o refl (grown_gave ms p o (kinds.Prepared m n) q come w) (inr (quiet_left TakeSet ms p o w l (kinds.Prepared m n) q refl)))
+  set_kind kinds.Parameter q rest come l e = (ms, NonePassed, Taking _ o refl (grown_gave ms p o kinds.Parameter q come w) (inr (quiet_left TakeSet ms p o w l kinds.Parameter q refl)))
+  set_kind kinds.Field q rest come l e = (ms, NonePassed, Taking _ o refl (grown_gave ms p o kinds.Field q come w) (inr (quiet_left TakeSet ms p o w l kinds.Field q refl)))
+  set_kind kinds.Bad q rest come l e = (ms, NonePassed, Taking _ o refl (grown_gave ms p o kinds.Bad q come w) (inr (quiet_left TakeSet ms p o w l kinds.Bad q refl)))
+
+  neither : (a b : Bool) → (a || b) ≡ false → (a ≡ false) × (b ≡ false)
+  neither true b e = cc
+  neither false b e = (refl, e)
+
+  pub set_fine : KeptAt p o → IsFine TakeSet ms (step_of login TakeSet (Set ∷ []) p)
+  set_fine kept = either (IsFine TakeSet ms) (p.end_left || is_rows (context_of p.talk).spot) _ _
+      (λ _. record { share = o; gave = told_gave TakeSet ms refl ToldReady p o refl w; kept = λ _. kept })
+      (λ e. let no = neither p.end_left (is_rows (context_of p.talk).spot) e in either (IsFine TakeSet ms) (is_over p.talk) _ _ (λ _. none_fine TakeSet refl kept)
+      (λ unread. let l = left_there p o kept no.0 unread in reads_have (IsFine TakeSet ms) p (faults_fine TakeSet ms refl p o w) login Set [] refl (waits_fine TakeSet refl kept)
+      (λ k quiet q rest come. (ms, NonePassed, Taking _ o refl (grown_gave ms p o k q come w) (inr (quiet_left TakeSet ms p o w l k q quiet))))
+      (λ k q rest come. set_kind k q rest come l no.1) (err_fine TakeSet refl kept)))
+
+  -- what is passed over
+  module _ (c : Call) (part : Part) (known : is_known c ≡ true) (passes : passes_over c ≡ true) (does : IsPassing c part) where
+    passed_fine : (t : Told) (q rest : List ℕ) (k : Kind) → IsItem t → Shared c ms t p (grow k p.talk q) → IsFine c ms (Goes (part ∷ []) (with_talk p (grow k p.talk q) rest))
+    passed_fine t q rest k item x = (returned_so c t ms, MorePassed ms t passes item NonePassed, Passing part _ x.share does x.gave (inr x.left))
+
+    pass_kind : (k : Kind) (q rest : List ℕ) → Comes p k q → Left p.talk false o → IsFine c ms (Goes (part ∷ []) (with_talk p (grow k p.talk q) rest))
+    pass_kind (kinds.Good s) q rest come l = passed_fine ToldEnd q rest (kinds.Good s) tt (good_shared c ms p o w l s q come)
+    pass_kind (kinds.End s) q rest come l = passed_fine ToldEnd q rest (kinds.End s) tt (stop_shared c ms p o w l s q come)
+    pass_kind kinds.Row q rest come l = passed_fine (row_at login p q) q rest kinds.Row tt (row_shared c ms p o w l login q come)
+    pass_kind (kinds.Greets n) q rest come l = (ms, NonePassed, Passing part _ o does (grown_gave ms p o (kinds.Greets n) q come w) (inr (quiet_left c ms p o w l (kinds.Greets n) q refl)))
+    pass_kind kinds.Failed q rest come l = (ms, NonePassed, Passing part _ o does (grown_gave ms p o kinds.Failed q come w) (inr (quiet_left c ms p o w l kinds.Failed q refl)))
+    pass_kind (kinds.Count n) q rest come l = (ms, NonePassed, Passing part _ o does (grown_gave ms p o (kinds.Count n) q come w) (inr (quiet_left c ms p o w l (kinds.Count n) q refl)))
+    pass_kind kinds.Column q rest come l = (ms, NonePassed, Passing part _ o does (grown_gave ms p o kinds.Column q come w) (inr (quiet_left c ms p o w l kinds.Column q refl)))
+    pass_kind kinds.ColumnsDone q rest come l = (ms, NonePassed, Passing part _ o does (grown_gave ms p o kinds.ColumnsDone q come w) (inr (quiet_left c ms p o w l kinds.ColumnsDone q refl)))
+    pass_kind (kinds.Prepared m n) q rest come l = (ms, NonePassed, Passing part _ o does (grown_gave ms p o (kinds.Prepared m n) q come w) (inr (quiet_left c ms p o w l (kinds.Prepared m n) q refl)))
+    pass_kind kinds.Parameter q rest come l = (ms, NonePassed, Passing part _ o does (grown_gave ms p o kinds.Parameter q come w) (inr (quiet_left c ms p o w l kinds.Parameter q refl)))
+    pass_kind kinds.Field q rest come l = (ms, NonePassed, Passing part _ o does (grown_gave ms p o kinds.Field q come w) (inr (quiet_left c ms p o w l kinds.Field q refl)))
+    pass_kind kinds.Bad q rest come l = (ms, NonePassed, Passing part _ o does (grown_gave ms p o kinds.Bad q come w) (inr (quiet_left c ms p o w l kinds.Bad q refl)))
+
+    end_passed : Left p.talk true o → IsFine c ms (Goes (part ∷ []) (without_end p))
+    end_passed l = let x = end_shared c ms p o w l in (returned_so c ToldEnd ms, MorePassed ms ToldEnd passes tt NonePassed, Passing part _ x.share does x.gave (inr x.left))
+
+    done_fine : KeptAt p o → IsFine c ms (Goes [] p)
+    done_fine kept = (ms, NonePassed, Over p o passes w kept)
+
+  pub drop_fine : KeptAt p o → IsFine DropResult ms (step_of login DropResult (All ∷ []) p)
+  drop_fine kept = either (IsFine DropResult ms) p.end_left _ _ (λ e. end_passed DropResult All refl refl Drops (left_end p o kept e))
+      (λ e. either (IsFine DropResult ms) (is_over p.talk) _ _ (λ _. done_fine DropResult All refl refl Drops kept)
+      (λ unread. let l = left_there p o kept e unread in reads_have (IsFine DropResult ms) p (faults_fine DropResult ms refl p o w) login All [] refl (waits_fine DropResult refl kept)
+      (λ k quiet q rest come. pass_kind DropResult All refl refl Drops k q rest come l) (λ k q rest come. pass_kind DropResult All refl refl Drops k q rest come l) (err_fine DropResult refl kept)))
+
+  pub skip_fine : KeptAt p o → IsFine SkipTaken ms (step_of login SkipTaken (Rest ∷ []) p)
+  skip_fine kept = either (IsFine SkipTaken ms) p.end_left _ _ (λ e. end_passed SkipTaken Rest refl refl Skips (left_end p o kept e))
+      (λ e. either (IsFine SkipTaken ms) (is_rows (context_of p.talk).spot) _ _
+      (λ rows. let l = left_there p o kept e (rows_open (context_of p.talk).spot rows) in reads_have (IsFine SkipTaken ms) p (faults_fine SkipTaken ms refl p o w) login Rest [] refl (waits_fine SkipTaken refl kept)
+      (λ k quiet q rest come. pass_kind SkipTaken Rest refl refl Skips k q rest come l) (λ k q rest come. pass_kind SkipTaken Rest refl refl Skips k q rest come l) (err_fine SkipTaken refl kept))
+      (λ _. done_fine SkipTaken Rest refl refl Skips kept))
+
+-- the head of a query's first set
+module _ (login : Login) (c : Call) (ms : List Made) (known : is_known c ≡ true) (query : is_query c ≡ true) (plain : reads_sets c ≡ false) (p : Place) (w : GaveAt ms p None) where
+  quiet_head : (k : Kind) (q rest : List ℕ) → Comes p k q → is_quiet k ≡ true → IsFresh p.talk false → IsFine c ms (Goes (Head ∷ []) (with_talk p (grow k p.talk q) rest))
+  quiet_head k q rest come quiet f = (
+    ms,
+    NonePassed,
+    HeadingAt (with_talk p (grow k p.talk q) rest) query refl
+        (record { terms = f.terms; command = f.command; sets = grow_sets (deprecates_eof f.terms.kept) k f.sets q; talk_is = grown_is p.talk f.terms f.command f.sets k q f.talk_is; none = quiet_groups (deprecates_eof f.terms.kept) k f.sets q quiet ∙ f.none; lone = λ x. absurd (cc) })
+        (grown_gave ms p None k q come w),
+  )
+
+  head_kind : (k : Kind) (q rest : List ℕ) → Comes p k q → IsFresh p.talk false → is_rows (context_of p.talk).spot ≡ false → IsFine c ms (after_kind Head [] k (with_talk p (grow k p.talk q) rest) (row_at login p q))
+  head_kind (kinds.Good s) q rest come f e = (
+    ms,
+    NonePassed,
+    Answering (ending (with_talk p (grow (kinds.Good s) p.talk q) rest)) query
+        (record { terms = f.terms; command = f.command; sets = Lone f.sets q s; talk_is = grown_is p.talk f.terms f.command f.sets (kinds.Good s) q f.talk_is; none = f.none; lone = λ _. refl })
+        (grown_gave ms p None (kinds.Good s) q come w),
+  )
+  head_kind (kinds.End s) q rest come f e =
+      let r = end_in_rows f.sets q s _ (more_packets p ms None (kinds.End s) q f.terms f.command f.sets come w f.talk_is) in
+      absurd (no_rows login ms p None w f.sets f.terms f.command f.talk_is e r)
+  head_kind kinds.Row q rest come f e =
+      let r = row_in_rows f.sets q _ (more_packets p ms None kinds.Row q f.terms f.command f.sets come w f.talk_is) in
+      absurd (no_rows login ms p None w f.sets f.terms f.command f.talk_is e r)
+  head_kind (kinds.Greets n) q rest come f e = quiet_head (kinds.Greets n) q rest come refl f
+  head_kind kinds.Failed q rest come f e = quiet_head kinds.Failed q rest come refl f
+  head_kind (kinds.Count n) q rest come f e = quiet_head (kinds.Count n) q rest come refl f
+  head_kind kinds.Column q rest come f e = quiet_head kinds.Column q rest come refl f
+  head_kind kinds.ColumnsDone q rest come f e = quiet_head kinds.ColumnsDone q rest come refl f
+  head_kind (kinds.Prepared m n) q rest come f e = quiet_head (kinds.Prepared m n) q rest come refl f
+  head_kind kinds.Parameter q rest come f e = quiet_head kinds.Parameter q rest come refl f
+  head_kind kinds.Field q rest come f e = quiet_head kinds.Field q rest come refl f
+  head_kind kinds.Bad q rest come f e = quiet_head kinds.Bad q rest come refl f
+
+  pub heading_fine : p.end_left ≡ false → IsFresh p.talk false → IsFine c ms (step_of login c (Head ∷ []) p)
+  heading_fine none f = either (IsFine c ms) (is_rows (context_of p.talk).spot) _ _
+      (λ _. (ms, NonePassed, Answering p query (subst (λ b. IsFresh p.talk b) (sym none) f) w))
+      (λ e. reads_have (IsFine c ms) p (faults_fine c ms known p None w) login Head [] refl
+      (record { share = None; gave = w; kept = λ x. absurd (cc) })
+      (λ k quiet q rest come. quiet_head k q rest come quiet f) (λ k q rest come. head_kind k q rest come f e)
+      (λ q rest come x. refused_fine c ms known p.trial (with_talk p (grow kinds.Failed p.talk q) rest) None (server_error x) w.off (grown_gave ms p None kinds.Failed q come w) (failed_over p.talk q) refl))
+
+-- what is known of a response was in it at some moment
+known_given : (t : Talk) (terms : Terms) (command : List ℕ) (x : Sets) (end : Bool) → t ≡ Queried terms command x → (end ≡ true → is_lone x ≡ true) → IsGiven (Some (groups (known_part end x))) t
+known_given t terms command x false e lone = all_given t terms command x e
+known_given t terms command (Lone older p s) true e lone =
+    subst (IsGiven (Some (groups older))) (sym e) (older, ((let one : Packet = record { kind = kinds.Good s; payload = p } in one) ∷ [], refl), refl)
+known_given t terms command (NoSets asking) true e lone = absurd (let no : false ≡ true = lone refl in cc)
+known_given t terms command (Failed older p) true e lone = absurd (let no : false ≡ true = lone refl in cc)
+known_given t terms command (Heading older head left) true e lone = absurd (let no : false ≡ true = lone refl in cc)
+known_given t terms command (Headed older head) true e lone = absurd (let no : false ≡ true = lone refl in cc)
+known_given t terms command (Begun older head rows) true e lone = absurd (let no : false ≡ true = lone refl in cc)
+known_given t terms command (Ended older head rows p s) true e lone = absurd (let no : false ≡ true = lone refl in cc)
+known_given t terms command (Broken older head rows p) true e lone = absurd (let no : false ≡ true = lone refl in cc)
+
+-- a query is answered
+query_answered : (login : Login) (text : List ℕ) (ms : List Made) (p : Place) → IsFresh p.talk p.end_left → GaveAt ms p None → IsFine (Query text) ms (step_of login (Query text) [] p)
+query_answered login text ms p f w = record {
+  share = Some [];
+  gave = record {
+    olds = w.olds;
+    given_is = ap (λ gs. [] ∷ gs) w.given_is;
+    newest = subst (λ g. IsGiven (Some g) p.talk) f.none (known_given p.talk f.terms f.command f.sets p.end_left f.talk_is f.lone);
+    each = w.each;
+    fits = w.fits;
+    off = w.off;
+  };
+  kept = λ _. inr (record { terms = f.terms; command = f.command; sets = f.sets; talk_is = f.talk_is; share_is = ap Some (sym f.none); lone = f.lone });
+}
+
+pub answer_fine : (login : Login) (c : Call) (ms : List Made) → is_query c ≡ true → (p : Place) → IsFresh p.talk p.end_left → GaveAt ms p None → IsFine c ms (step_of login c [] p)
+answer_fine login Connect ms query p f w = absurd (cc)
+answer_fine login (Query text) ms query p f w = query_answered login text ms p f w
+answer_fine login (Prepare text) ms query p f w = absurd (cc)
+answer_fine login (Execute statement params) ms query p f w = absurd (cc)
+answer_fine login (Batch statement lists) ms query p f w = absurd (cc)
+answer_fine login (CloseStmt id) ms query p f w = absurd (cc)
+answer_fine login NextRow ms query p f w = absurd (cc)
+answer_fine login DropResult ms query p f w = absurd (cc)
+answer_fine login TakeSet ms query p f w = absurd (cc)
+answer_fine login SkipTaken ms query p f w = absurd (cc)
+answer_fine login Ping ms query p f w = absurd (cc)
+answer_fine login Reset ms query p f w = absurd (cc)
+answer_fine login (ChangeUser change) ms query p f w = absurd (cc)
+answer_fine login (Begin opts) ms query p f w = absurd (cc)
+answer_fine login Commit ms query p f w = absurd (cc)
+answer_fine login Rollback ms query p f w = absurd (cc)
+answer_fine login ForgetTransaction ms query p f w = absurd (cc)
+answer_fine login CleanForPool ms query p f w = absurd (cc)
+answer_fine login ResetForPool ms query p f w = absurd (cc)
+answer_fine login Quit ms query p f w = absurd (cc)
+
+pub pass_fine : (login : Login) (c : Call) (ms : List Made) (part : Part) (p : Place) (o : Option (List Group)) → IsPassing c part → GaveAt ms p o → KeptAt p o → IsFine c ms (step_of login c (part ∷ []) p)
+pass_fine login c ms part p o Drops w k = drop_fine login ms p o w k
+pass_fine login c ms part p o Skips w k = skip_fine login ms p o w k
+
+over_same : (c : Call) → passes_over c ≡ true → (gs : List (List Group)) → given_after ToldReady (kind_of c) gs ≡ gs
+over_same Connect passes gs = absurd (cc)
+over_same (Query text) passes gs = absurd (cc)
+over_same (Prepare text) passes gs = absurd (cc)
+over_same (Execute statement params) passes gs = absurd (cc)
+over_same (Batch statement lists) passes gs = absurd (cc)
+over_same (CloseStmt id) passes gs = absurd (cc)
+over_same NextRow passes gs = absurd (cc)
+over_same DropResult passes gs = refl
+over_same TakeSet passes gs = absurd (cc)
+over_same SkipTaken passes gs = refl
+over_same Ping passes gs = absurd (cc)
+over_same Reset passes gs = absurd (cc)
+over_same (ChangeUser change) passes gs = absurd (cc)
+over_same (Begin opts) passes gs = absurd (cc)
+over_same Commit passes gs = absurd (cc)
+over_same Rollback passes gs = absurd (cc)
+over_same ForgetTransaction passes gs = absurd (cc)
+over_same CleanForPool passes gs = absurd (cc)
+over_same ResetForPool passes gs = absurd (cc)
+over_same Quit passes gs = absurd (cc)
+
+pub over_fine : (login : Login) (c : Call) (ms : List Made) → is_known c ≡ true → passes_over c ≡ true → (p : Place) (o : Option (List Group)) → GaveAt ms p o → KeptAt p o → IsFine c ms (step_of login c [] p)
+over_fine login c ms known passes p o w k = record { share = o; gave = told_gave c ms known ToldReady p o (over_same c passes (given ms)) w; kept = λ _. k }

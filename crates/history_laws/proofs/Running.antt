@@ -1,0 +1,258 @@
+-- Calls one after another give callers what is in the sets.
+use Rattle.std.proofs.Common.{◌≡◌, ◌⊎◌, inl, inr, ℕ, suc, zero, List, [], ◌∷◌, Bool, true, false, not, ◌&&◌, ◌||◌, Option, Some, None, is_some, refl, sym, ap, ◌∙◌, subst}
+use Rattle.my_grammar.specs.declared.login.Login.{Login}
+use Rattle.my_reading.specs.declared.call.Call.{Call}
+use Rattle.my_reading.specs.declared.call.Call.TheVariants.{Connect, Query, Prepare, Execute, Batch, CloseStmt, NextRow, DropResult, TakeSet, SkipTaken, Ping, Reset, ChangeUser, Begin, Commit, Rollback, ForgetTransaction, CleanForPool, ResetForPool, Quit}
+use Rattle.my_params.specs.declared.params.Params.{Params}
+use Rattle.my_reading.specs.declared.transaction.TxStatus.TheVariants.{InTransaction}
+use Rattle.my_reading.specs.Calls.{kind_of, is_connect}
+use Rattle.my_reading.specs.Commands.{arranging_texts, setup_texts}
+use Rattle.my_reading.specs.Course.{Part, All, Head, Item, Set, Rest, Command, Check, Run, Learn, Flag, Settle, Renew, Clear, Text, Step, Goes, Stops, Stop, Owes, Awaits, Returns, Halt, course, enough, parts_of, parts_of_batch, parts_of_lists, parts_of_queries, parts_of_texts, clean, run, step, step_of, unless_owed}
+use Rattle.my_reading.specs.Endings.{AreCalls, Ends, IsCall, IsCut, IsOpen, IsCancelled, IsLinkFailure, IsLinkEnd, awaits_head, cancelling, closes_cancelled, link_end, link_failure}
+use Rattle.my_reading.specs.Errors.{io_error, unexpected_eof}
+use Rattle.my_reading.specs.Place.{Place, exchanges, first_place, owed as owed_at, with_bytes}
+use Rattle.my_reading.specs.Reading.{ReadCall, closed_answer, halt_of, is_closing, read_calls}
+use Rattle.my_reading.specs.Tape.{Span}
+use Rattle.my_reading.specs.Told.{Told, ToldReady, ToldError, Dropped, closes}
+use Rattle.my_reading.specs.Transactions.{begin_texts}
+use Rattle.history_laws.specs.Given.{AreMade, IsGivenOf, connects, Passed, PrefixesAreGiven, are_known, have_ended, is_known, passes_over, with_ending}
+use Rattle.history_laws.specs.Given.{NonePassed, MorePassed}
+use Rattle.history_laws.specs.Given.{NoCalls, OneCall}
+use Rattle.history_laws.specs.Groups.{Group, Made, given, given_after}
+use Rattle.history_laws.proofs.Phases.{Answering, Gave, GaveAt, Heading, IsFine, IsHalted, KeptAt, Over, Passing, Drops, Skips, Phase, Reading, Rests, Safely, Stopped, Taking, is_query, is_safe, reads_sets, returned_so}
+use Rattle.history_laws.proofs.Giving.{answer_fine, heading_fine, item_fine, over_fine, pass_fine, set_fine}
+use Rattle.history_laws.proofs.Stepping.{both, safe_fine, told_gave}
+
+-- what was passed over, and then more
+then_passed : (c : Call) (ms mid more : List Made) → Passed c ms mid → Passed c mid more → Passed c ms more
+then_passed c ms mid more a NonePassed = a
+then_passed c ms mid more a (MorePassed older t passes item b) = MorePassed older t passes item (then_passed c ms mid older a b)
+
+query_plain : (c : Call) → is_query c ≡ true → reads_sets c ≡ false
+query_plain Connect e = refl
+query_plain (Query text) e = refl
+query_plain (Prepare text) e = refl
+query_plain (Execute statement params) e = refl
+query_plain (Batch statement lists) e = refl
+query_plain (CloseStmt id) e = refl
+query_plain NextRow e = absurd (cc)
+query_plain DropResult e = absurd (cc)
+query_plain TakeSet e = absurd (cc)
+query_plain SkipTaken e = absurd (cc)
+query_plain Ping e = refl
+query_plain Reset e = refl
+query_plain (ChangeUser change) e = refl
+query_plain (Begin opts) e = refl
+query_plain Commit e = refl
+query_plain Rollback e = refl
+query_plain ForgetTransaction e = refl
+query_plain CleanForPool e = refl
+query_plain ResetForPool e = refl
+query_plain Quit e = refl
+
+step_part : (login : Login) (c : Call) (known : is_known c ≡ true) (ms : List Made) (parts : List Part) (p : Place) → Phase c ms parts p → IsFine c ms (step_of login c parts p)
+step_part login c known ms parts p (Safely kept ps q o plain e w k) = safe_fine login ms c known plain kept ps q o e w k
+step_part login c known ms parts p (Heading q query none f w) = heading_fine login c ms known query (query_plain c query) q w none f
+step_part login c known ms parts p (Answering q query f w) = answer_fine login c ms query q f w
+step_part login c known ms parts p (Reading q o is w k) = subst (λ d. IsFine d ms (step_of login d (Item ∷ []) q)) (sym is) (item_fine login ms q o w k)
+step_part login c known ms parts p (Taking q o is w k) = subst (λ d. IsFine d ms (step_of login d (Set ∷ []) q)) (sym is) (set_fine login ms q o w k)
+step_part login c known ms parts p (Passing part q o does w k) = pass_fine login c ms part q o does w k
+step_part login c known ms parts p (Over q o passes w k) = over_fine login c ms known passes q o w k
+
+-- where bytes are owed or awaited
+phase_halted : (c : Call) (ms : List Made) (parts : List Part) (p : Place) → Phase c ms parts p → IsHalted c ms p
+phase_halted c ms parts p (Safely kept ps q o plain e w k) = record { share = o; gave = w; kept = λ x. absurd (let no : not (reads_sets c) ≡ true = ap not plain in cc) }
+phase_halted c ms parts p (Heading q query none f w) = record { share = None; gave = w; kept = λ x. absurd (let no : not (reads_sets c) ≡ true = ap not (query_plain c query) in cc) }
+phase_halted c ms parts p (Answering q query f w) = record { share = None; gave = w; kept = λ x. absurd (let no : not (reads_sets c) ≡ true = ap not (query_plain c query) in cc) }
+phase_halted c ms parts p (Reading q o is w k) = record { share = o; gave = w; kept = λ _. k }
+phase_halted c ms parts p (Taking q o is w k) = record { share = o; gave = w; kept = λ _. k }
+phase_halted c ms parts p (Passing part q o does w k) = record { share = o; gave = w; kept = λ _. k }
+phase_halted c ms parts p (Over q o passes w k) = record { share = o; gave = w; kept = λ _. k }
+
+step_fine : (login : Login) (c : Call) (known : is_known c ≡ true) (ms : List Made) (parts : List Part) (p : Place) → Phase c ms parts p → IsFine c ms (step login c parts p)
+unfolding step
+step_fine login c known ms parts p w = by_owed (owed_at p)
+  where
+    by_owed : (x : List ℕ) → IsFine c ms (unless_owed x p (step_of login c parts p))
+    by_owed (b ∷ bytes) = phase_halted c ms parts p w
+    by_owed [] = step_part login c known ms parts p w
+
+-- a call that stopped, with what it passed over
+abbrev Ran : Call → List Made → Halt → Type 0
+Ran c ms h = (more : List Made) × Passed c ms more × Stopped c more h.place h.stop
+
+run_fine : (n : ℕ) (login : Login) (c : Call) (known : is_known c ≡ true) (ms mid : List Made) → Passed c ms mid → (s : Step) → IsFine c mid s → Ran c ms (run n login c s)
+unfolding run
+run_fine zero login c known ms mid a (Stops p s) w = (mid, a, w)
+run_fine (suc n) login c known ms mid a (Stops p s) w = (mid, a, w)
+run_fine zero login c known ms mid a (Goes parts p) w = (w.0, then_passed c ms mid w.0 a w.1, phase_halted c w.0 parts p w.2)
+run_fine (suc n) login c known ms mid a (Goes parts p) w = run_fine n login c known ms w.0 (then_passed c ms mid w.0 a w.1) (step login c parts p) (step_fine login c known w.0 parts p w.2)
+
+-- the parts of calls are safe
+texts_safe : (texts : List (List ℕ)) → is_safe Connect true (parts_of_texts texts) ≡ true
+texts_safe [] = refl
+texts_safe (text ∷ texts) = texts_safe texts
+
+lists_safe : (c : Call) → is_query c ≡ false → (lists : List Params) → is_safe c true (parts_of_lists lists) ≡ true
+lists_safe c other [] = ap not other
+lists_safe c other (params ∷ lists) = lists_safe c other lists
+
+batch_safe : (c : Call) → is_query c ≡ false → (lists : List Params) → is_safe c true (parts_of_batch lists) ≡ true
+batch_safe c other [] = ap not other
+batch_safe c other (params ∷ lists) = lists_safe c other lists
+
+queries_safe : (c : Call) (kept : Bool) (texts : List (List ℕ)) (parts : List Part) → is_safe c true parts ≡ true → is_safe c kept (parts_of_queries texts parts) ≡ true
+queries_safe c kept [] parts e = e
+queries_safe c kept (text ∷ texts) parts e = queries_safe c false texts parts e
+
+begins_fine : (login : Login) (c : Call) (known : is_known c ≡ true) (ms : List Made) (p : Place) (o : Option (List Group)) → GaveAt ms p o → (is_connect (kind_of c) ≡ false → KeptAt p o) → Phase c ms (parts_of login c) p
+begins_fine login Connect known ms p o w k = Safely false (parts_of login Connect) p o refl (texts_safe (arranging_texts login)) w (λ e. absurd (cc))
+begins_fine login (Batch statement lists) known ms p o w k = Safely true (parts_of_batch lists) p o refl (batch_safe (Batch statement lists) refl lists) w (λ _. k refl)
+begins_fine login Reset known ms p o w k = Safely true (parts_of login Reset) p o refl (queries_safe Reset true (setup_texts login) (Flag true ∷ []) refl) w (λ _. k refl)
+begins_fine login (ChangeUser change) known ms p o w k = Safely true (parts_of login (ChangeUser change)) p o refl (queries_safe (ChangeUser change) true (setup_texts login) [] refl) w (λ _. k refl)
+begins_fine login ResetForPool known ms p o w k = Safely true (parts_of login ResetForPool) p o refl (queries_safe ResetForPool true (setup_texts login) [] refl) w (λ _. k refl)
+begins_fine login (Begin opts) known ms p o w k = Safely true (parts_of login (Begin opts)) p o refl (queries_safe (Begin opts) true (begin_texts opts) (Settle InTransaction ∷ []) refl) w (λ _. k refl)
+begins_fine login NextRow known ms p o w k = Reading p o refl w (k refl)
+begins_fine login TakeSet known ms p o w k = Taking p o refl w (k refl)
+begins_fine login DropResult known ms p o w k = Passing All p o Drops w (k refl)
+begins_fine login SkipTaken known ms p o w k = Passing Rest p o Skips w (k refl)
+begins_fine login (Prepare text) known ms p o w k = absurd (cc)
+begins_fine login (Execute statement params) known ms p o w k = absurd (cc)
+begins_fine login Commit known ms p o w k = absurd (cc)
+begins_fine login (Query text) known ms p o w k = Safely true (parts_of login (Query text)) p o refl refl w (λ _. k refl)
+begins_fine login (CloseStmt id) known ms p o w k = Safely true (parts_of login (CloseStmt id)) p o refl refl w (λ _. k refl)
+begins_fine login Ping known ms p o w k = Safely true (parts_of login Ping) p o refl refl w (λ _. k refl)
+begins_fine login Rollback known ms p o w k = Safely true (parts_of login Rollback) p o refl refl w (λ _. k refl)
+begins_fine login ForgetTransaction known ms p o w k = Safely true (parts_of login ForgetTransaction) p o refl refl w (λ _. k refl)
+begins_fine login CleanForPool known ms p o w k = Safely true (parts_of login CleanForPool) p o refl refl w (λ _. k refl)
+begins_fine login Quit known ms p o w k = Safely true (parts_of login Quit) p o refl refl w (λ _. k refl)
+
+-- what a call on a closed session returns gives nothing
+closed_same : (c : Call) (gs : List (List Group)) → given_after (closed_answer c) (kind_of c) gs ≡ gs
+closed_same Connect gs = refl
+closed_same (Query text) gs = refl
+closed_same (Prepare text) gs = refl
+closed_same (Execute statement params) gs = refl
+closed_same (Batch statement lists) gs = refl
+closed_same (CloseStmt id) gs = refl
+closed_same NextRow gs = refl
+closed_same DropResult gs = refl
+closed_same TakeSet gs = refl
+closed_same SkipTaken gs = refl
+closed_same Ping gs = refl
+closed_same Reset gs = refl
+closed_same (ChangeUser change) gs = refl
+closed_same (Begin opts) gs = refl
+closed_same Commit gs = refl
+closed_same Rollback gs = refl
+closed_same ForgetTransaction gs = refl
+closed_same CleanForPool gs = refl
+closed_same ResetForPool gs = refl
+closed_same Quit gs = refl
+
+-- a call that may be cancelled without closing the session keeps what is left
+cancelled_reads : (c : Call) (p : Place) → closes_cancelled (kind_of c) p ≡ false → not (reads_sets c) ≡ false
+cancelled_reads Connect p e = absurd (cc)
+cancelled_reads (Query text) p e = absurd (cc)
+cancelled_reads (Prepare text) p e = absurd (cc)
+cancelled_reads (Execute statement params) p e = absurd (cc)
+cancelled_reads (Batch statement lists) p e = absurd (cc)
+cancelled_reads (CloseStmt id) p e = absurd (cc)
+cancelled_reads NextRow p e = refl
+cancelled_reads DropResult p e = refl
+cancelled_reads TakeSet p e = refl
+cancelled_reads SkipTaken p e = refl
+cancelled_reads Ping p e = absurd (cc)
+cancelled_reads Reset p e = absurd (cc)
+cancelled_reads (ChangeUser change) p e = absurd (cc)
+cancelled_reads (Begin opts) p e = absurd (cc)
+cancelled_reads Commit p e = absurd (cc)
+cancelled_reads Rollback p e = absurd (cc)
+cancelled_reads ForgetTransaction p e = absurd (cc)
+cancelled_reads CleanForPool p e = absurd (cc)
+cancelled_reads ResetForPool p e = absurd (cc)
+cancelled_reads Quit p e = absurd (cc)
+
+module _ (login : Login) (s : Span) (known : is_known s.call ≡ true) (h : Halt) (mid : List Made) where
+  abbrev call : ReadCall
+  call = record { span = s; closed = false; halt = h }
+
+  -- after the call: what it was given, and whether it is closed
+  abbrev Ended : Type 0
+  Ended = ((s.ending ≡ None) × IsHalted s.call mid h.place) ⊎ Rests (is_closing s.call s.ending) (with_ending s.call s.ending mid) h.place
+
+  so : (t : Told) → s.ending ≡ Some t → Rests (closes t (kind_of s.call)) (returned_so s.call t mid) h.place → Ended
+  so t e r = inr (subst (λ (x : Option Told). Rests (is_closing s.call x) (with_ending s.call x mid) h.place) (sym e) r)
+
+  cut_ended : IsHalted s.call mid h.place → IsCut login call → Ended
+  cut_ended r (IsOpen e) = inl (e, r)
+  cut_ended r (IsCancelled e) = so (Dropped (closes_cancelled (kind_of s.call) h.place)) e
+      (record { share = r.share; gave = told_gave s.call mid known (Dropped (closes_cancelled (kind_of s.call) h.place)) h.place r.share refl r.gave; kept = λ x. r.kept (cancelled_reads s.call h.place x) })
+  cut_ended r (IsLinkFailure e) = so _ e (record { share = r.share; gave = told_gave s.call mid known _ h.place r.share refl r.gave; kept = λ x. absurd (cc) })
+  cut_ended r (IsLinkEnd a e) = so _ e (record { share = r.share; gave = told_gave s.call mid known _ h.place r.share refl r.gave; kept = λ x. absurd (cc) })
+
+  call_ended : (stop : Stop) → Stopped s.call mid h.place stop → Ends login call stop → Ended
+  call_ended Owes w e = cut_ended w e
+  call_ended Awaits w e = cut_ended w e
+  call_ended (Returns t) w e = so t e w
+
+-- where the reading stands after calls
+record Stood (ms : List Made) (ss : List Span) (p : Place) : Type 0 where
+  pub made : List Made
+  pub of_calls : AreMade ms ss made
+  pub share : Option (List Group)
+  pub gave : GaveAt made p share
+
+here_stood : (ms : List Made) (p : Place) (o : Option (List Group)) → GaveAt ms p o → Stood ms [] p
+here_stood ms p o w = record { made = ms; of_calls = NoCalls ms; share = o; gave = w }
+
+before_stood : (ms mid : List Made) (s : Span) (ss : List Span) (p : Place) → Passed s.call ms mid → Stood (with_ending s.call s.ending mid) ss p → Stood ms (s ∷ ss) p
+before_stood ms mid s ss p passed w = record { made = w.made; of_calls = OneCall ms mid w.made s ss passed w.of_calls; share = w.share; gave = w.gave }
+
+rest_ended : (s : Span) (ss : List Span) → have_ended (s ∷ ss) ≡ true → have_ended ss ≡ true
+rest_ended s [] e = refl
+rest_ended s (t ∷ ss) e = (both (is_some s.ending) (have_ended (t ∷ ss)) e).1
+
+-- an open call is the newest
+open_stood : (login : Login) (s : Span) (ss : List Span) (closed : Bool) (ms mid : List Made) (p : Place) → have_ended (s ∷ ss) ≡ true → s.ending ≡ None → Passed s.call ms mid → IsHalted s.call mid p → Stood ms (s ∷ ss) (read_calls login ss closed p).place
+unfolding read_calls
+open_stood login s [] closed ms mid p ended none passed r = before_stood ms mid s [] p passed
+    (subst (λ (x : Option Told). Stood (with_ending s.call x mid) [] p) (sym none) (here_stood mid p r.share r.gave))
+open_stood login s (t ∷ ss) closed ms mid p ended none passed r =
+    let some : is_some s.ending ≡ true = (both (is_some s.ending) (have_ended (t ∷ ss)) ended).0 in
+    let no : is_some s.ending ≡ false = ap is_some none in
+    absurd (cc)
+
+closed_gave : (s : Span) (ms : List Made) (p : Place) (o : Option (List Group)) → is_known s.call ≡ true → s.ending ≡ Some (closed_answer s.call) → GaveAt ms p o → GaveAt (with_ending s.call s.ending ms) p o
+closed_gave s ms p o known e w = subst (λ (x : Option Told). GaveAt (with_ending s.call x ms) p o) (sym e) (told_gave s.call ms known (closed_answer s.call) p o (closed_same s.call (given ms)) w)
+
+-- after one call
+ended_stood : (login : Login) (s : Span) (ss : List Span) (ms : List Made) (h : Halt) (mid : List Made) → have_ended (s ∷ ss) ≡ true → Passed s.call ms mid
+    → (Rests (is_closing s.call s.ending) (with_ending s.call s.ending mid) h.place → Stood (with_ending s.call s.ending mid) ss (read_calls login ss (is_closing s.call s.ending) h.place).place)
+    → (((s.ending ≡ None) × IsHalted s.call mid h.place) ⊎ Rests (is_closing s.call s.ending) (with_ending s.call s.ending mid) h.place)
+    → Stood ms (s ∷ ss) (read_calls login ss (is_closing s.call s.ending) h.place).place
+ended_stood login s ss ms h mid ended passed go (inl cut) = open_stood login s ss (is_closing s.call s.ending) ms mid h.place ended cut.0 passed cut.1
+ended_stood login s ss ms h mid ended passed go (inr r) = before_stood ms mid s ss _ passed (go r)
+
+calls_stood : (login : Login) (ss : List Span) (closed : Bool) (ms : List Made) (p : Place) (o : Option (List Group)) → GaveAt ms p o → (closed ≡ false → connects ss ≡ false → KeptAt p o)
+    → have_ended ss ≡ true → are_known ss ≡ true → AreCalls login (read_calls login ss closed p).calls → Stood ms ss (read_calls login ss closed p).place
+unfolding read_calls
+calls_stood login [] closed ms p o w k ended known calls = here_stood ms p o w
+calls_stood login (s ∷ ss) true ms p o w k ended known calls =
+    let knows = both (is_known s.call) (are_known ss) known in
+    before_stood ms ms s ss _ NonePassed
+    (calls_stood login ss true (with_ending s.call s.ending ms) (with_bytes s.sent s.taken p) o (closed_gave s ms (with_bytes s.sent s.taken p) o knows.0 calls.0.ends w) (λ e _. absurd (cc)) (rest_ended s ss ended) knows.1 calls.1)
+calls_stood login (s ∷ ss) false ms p o w k ended known calls =
+    let knows = both (is_known s.call) (are_known ss) known in
+    let q : Place = with_bytes s.sent s.taken p in
+    let h : Halt = course login s.call q in
+    let ran = run_fine (enough login s.call q) login s.call knows.0 ms ms NonePassed (Goes (parts_of login s.call) q) (ms, NonePassed, begins_fine login s.call knows.0 ms q o w (k refl)) in
+    ended_stood login s ss ms h ran.0 ended ran.1
+    (λ r. calls_stood login ss (is_closing s.call s.ending) (with_ending s.call s.ending ran.0) h.place r.share r.gave (λ e _. r.kept e) (rest_ended s ss ended) knows.1 calls.1)
+    (call_ended login s knows.0 h ran.0 h.stop ran.2 calls.0.ends)
+
+pub prefixes_are_given : PrefixesAreGiven
+prefixes_are_given login ss ended known first calls =
+    let w = calls_stood login ss false [] (first_place login) None (record { olds = []; given_is = refl; newest = tt; each = tt; fits = record { kinds = tt; within = tt }; off = refl })
+    (λ _ e. absurd (let no : connects ss ≡ true = first in cc)) ended known calls in
+    record { made = w.made; of_calls = w.of_calls; shares = w.share ∷ w.gave.olds; given_is = w.gave.given_is; each = (w.gave.newest, w.gave.each) }

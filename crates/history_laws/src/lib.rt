@@ -1,0 +1,17 @@
+//! What follows of the reading of a tape for its exchanges and for what callers are given, each law a function's clause.
+//! No session is named: the laws are of bytes and calls alone.
+#![tactic(auto)]
+
+ghost use Rattle.history_laws.specs.Given.{PrefixesAreGiven};
+ghost use Rattle.history_laws.specs.Order.{EachIsOrderly};
+
+/// What calls returned and passed over of the sets of a response is, set by set, what the response was at some moment. It
+/// is proved of tapes without a call that prepares or executes one statement, and without a commit (`are_known`).
+pub fn prefixes_are_given()
+    ensures { PrefixesAreGiven }
+{}
+
+/// Each exchange of a tape is one that the protocol has, and all but the newest are over.
+pub fn each_is_orderly()
+    ensures { EachIsOrderly }
+{}
