@@ -19,18 +19,19 @@ use Rattle.my_reply.specs.declared.err.ErrPacket.{ErrPacket}
 use Rattle.my_reading.proofs.Described.{at_rows}
 use Rattle.my_reading.specs.declared.call.Call.{Call}
 use Rattle.my_reading.specs.declared.call.Call.TheVariants.{Connect, Query, Prepare, Execute, Batch, CloseStmt, NextRow, DropResult, TakeSet, SkipTaken, Ping, Reset, ChangeUser, Begin, Commit, Rollback, ForgetTransaction, CleanForPool, ResetForPool, Quit}
-use Rattle.my_reading.specs.Calls.{kind_of}
-use Rattle.my_reading.specs.Course.{Part, All, Head, Item, Set, Rest, Goes, Stops, Awaits, Returns, after_kind, is_rows, refused_at, step_of}
+use Rattle.my_reading.specs.Calls.{id_in, kind_of}
+use Rattle.my_reading.specs.Statements.{Statements, with_columns}
+use Rattle.my_reading.specs.Course.{Part, All, Head, Item, Set, Rest, Learn, Goes, Stops, Awaits, Returns, after_kind, is_rows, refused_at, step_of}
 use Rattle.my_reading.specs.Errors.{server_error}
-use Rattle.my_reading.specs.Place.{Place, facts_at, facts_of, with_end as ending, with_taken, with_talk, without_end}
+use Rattle.my_reading.specs.Place.{Place, facts_at, facts_of, with_end as ending, with_statements, with_taken, with_talk, without_end}
 use Rattle.my_reading.specs.Rows.{row_of}
-use Rattle.my_reading.specs.Told.{Told, ToldReady, ToldRow, ToldEnd, ToldNone}
-use Rattle.history_laws.specs.Given.{IsGiven, IsItem, Passed, passes_over, is_known, givens, onto}
+use Rattle.my_reading.specs.Told.{Told, ToldReady, ToldRow, ToldEnd, ToldNone, closes}
+use Rattle.history_laws.specs.Given.{IsGiven, IsItem, Passed, passes_over, givens, onto}
 use Rattle.history_laws.specs.Given.{NonePassed, MorePassed}
 use Rattle.history_laws.specs.Groups.{Group, Made, given, given_after, groups, item_given, stop_given, with_item, with_stop}
 use Rattle.history_laws.proofs.Growing.{InRows, end_in_rows, failed_over, is_quiet, quiet_groups, row_in_rows}
 use Rattle.history_laws.proofs.Having.{Comes, either, reads_have, row_at}
-use Rattle.history_laws.proofs.Phases.{Answering, Gave, GaveAt, Heading as HeadingAt, IsFine, IsFresh, IsHalted, IsKept, IsPassing, Drops, Skips, KeptAt, Left, Over, Passing, Phase, Reading, Rests, Stopped, Taking, is_lone, is_query, known_part, reads_sets, returned_so}
+use Rattle.history_laws.proofs.Phases.{Answering, Gave, GaveAt, Heading as HeadingAt, IsFine, IsFresh, IsHalted, IsKept, IsPassing, Drops, Skips, KeptAt, Left, Over, Passing, Phase, Reading, Rests, Stopped, Taking, is_lone, is_query, is_tail, known_part, reads_sets, returned_so, shifted}
 use Rattle.history_laws.proofs.Stepping.{faults_fine, grown_gave, refused_fine, told_gave}
 
 all_given : (t : Talk) (terms : Terms) (command : List ℕ) (x : Sets) → t ≡ Queried terms command x → IsGiven (Some (groups x)) t
@@ -50,7 +51,7 @@ lone_stop (Broken older head rows p) e = cc
 grown_is : (t : Talk) (terms : Terms) (command : List ℕ) (x : Sets) (k : Kind) (q : List ℕ) → t ≡ Queried terms command x → grow k t q ≡ Queried terms command (grow_sets (deprecates_eof terms.kept) k x q)
 grown_is t terms command x k q e = ap (λ u. grow k u q) e
 
-more_packets : (p : Place) (ms : List Made) (o : Option (List Group)) (k : Kind) (q : List ℕ) (terms : Terms) (command : List ℕ) (x : Sets) → Comes p k q → GaveAt ms p o → p.talk ≡ Queried terms command x
+more_packets : (p : Place) (ms : List Made) (o : Option (List Group)) (k : Kind) (q : List ℕ) (terms : Terms) (command : List ℕ) (x : Sets) → Comes p k q → GaveAt false ms p o → p.talk ≡ Queried terms command x
     → packets_in (grow_sets (deprecates_eof terms.kept) k x q) ≡ (let one : Packet = record { kind = k; payload = q } in one) ∷ packets_in x
 more_packets p ms o k q terms command x c w e = subst (λ (t : Talk). packets_of (grow k t q) ≡ (let one : Packet = record { kind = k; payload = q } in one) ∷ packets_of t) e (grows p.talk k q c.kind_is c.good c.short w.fits).packets_are
 
@@ -60,10 +61,10 @@ rows_there t terms command x r e = subst (λ (u : Talk). is_rows (context_of u).
 -- what a call was told more, and what is left then
 record Shared (c : Call) (ms : List Made) (t : Told) (p : Place) (talk : Talk) : Type 0 where
   pub share : Option (List Group)
-  pub gave : Gave (returned_so c t ms) talk p.older p.trial share
+  pub gave : Gave false (returned_so c t ms) talk p.older p.trial share
   pub left : Left talk false share
 
-module _ (c : Call) (ms : List Made) (p : Place) (o : Option (List Group)) (w : GaveAt ms p o) where
+module _ (c : Call) (ms : List Made) (p : Place) (o : Option (List Group)) (w : GaveAt false ms p o) where
   -- with another list of groups for the newest response
   shared : (t : Told) (talk : Talk) (terms : Terms) (command : List ℕ) (x : Sets) (g : List Group) → talk ≡ Queried terms command x → Fits talk → o ≡ Some g
       → given_after t (kind_of c) (g ∷ givens w.olds) ≡ groups x ∷ givens w.olds → Shared c ms t p talk
@@ -156,40 +157,40 @@ left_end : (p : Place) (o : Option (List Group)) → KeptAt p o → p.end_left �
 left_end p o (inl (over, none)) e = absurd (cc)
 left_end p o (inr l) e = subst (λ b. Left p.talk b o) e l
 
-module _ (login : Login) (ms : List Made) (p : Place) (o : Option (List Group)) (w : GaveAt ms p o) where
+module _ (login : Login) (ms : List Made) (p : Place) (o : Option (List Group)) (w : GaveAt false ms p o) where
   -- a call that reads, where it waits, fails or finds nothing
-  module _ (c : Call) (known : is_known c ≡ true) (kept : KeptAt p o) where
+  module _ (c : Call) (kept : KeptAt p o) where
     waits_fine : IsHalted c ms p
-    waits_fine = record { share = o; gave = w; kept = λ _. kept }
+    waits_fine = record { share = o; gave = shifted false (not (reads_sets c)) ms p.talk p.older p.trial o (λ x. refl) w; kept = λ _. kept }
 
     none_fine : Stopped c ms p (Returns ToldNone)
-    none_fine = record { share = o; gave = told_gave c ms known ToldNone p o refl w; kept = λ _. kept }
+    none_fine = record { share = o; gave = told_gave c ms false ToldNone p o refl w; kept = λ _. kept }
 
     err_fine : (q rest : List ℕ) → Comes p kinds.Failed q → (e : ErrPacket) → IsFine c ms (refused_at p.trial (with_talk p (grow kinds.Failed p.talk q) rest) (server_error e))
-    err_fine q rest come e = refused_fine c ms known p.trial (with_talk p (grow kinds.Failed p.talk q) rest) o (server_error e) w.off (grown_gave ms p o kinds.Failed q come w) (failed_over p.talk q) refl
+    err_fine q rest come e = refused_fine c ms p.trial (with_talk p (grow kinds.Failed p.talk q) rest) o (server_error e) (w.off refl) (grown_gave false ms p o kinds.Failed q come w) (failed_over p.talk q) refl
 
   -- the next row
   item_kind : (k : Kind) (q rest : List ℕ) → Comes p k q → Left p.talk false o → IsFine NextRow ms (after_kind Item [] k (with_talk p (grow k p.talk q) rest) (row_at login p q))
   item_kind (kinds.Good s) q rest come l = let x = good_shared NextRow ms p o w l s q come in record { share = x.share; gave = x.gave; kept = λ _. inr x.left }
   item_kind (kinds.End s) q rest come l = let x = stop_shared NextRow ms p o w l s q come in record { share = x.share; gave = x.gave; kept = λ _. inr x.left }
   item_kind kinds.Row q rest come l = let x = row_shared NextRow ms p o w l login q come in record { share = x.share; gave = x.gave; kept = λ _. inr x.left }
-  item_kind (kinds.Greets n) q rest come l = (ms, NonePassed, Reading _ o refl (grown_gave ms p o (kinds.Greets n) q come w) (inr (quiet_left NextRow ms p o w l (kinds.Greets n) q refl)))
-  item_kind kinds.Failed q rest come l = (ms, NonePassed, Reading _ o refl (grown_gave ms p o kinds.Failed q come w) (inr (quiet_left NextRow ms p o w l kinds.Failed q refl)))
-  item_kind (kinds.Count n) q rest come l = (ms, NonePassed, Reading _ o refl (grown_gave ms p o (kinds.Count n) q come w) (inr (quiet_left NextRow ms p o w l (kinds.Count n) q refl)))
-  item_kind kinds.Column q rest come l = (ms, NonePassed, Reading _ o refl (grown_gave ms p o kinds.Column q come w) (inr (quiet_left NextRow ms p o w l kinds.Column q refl)))
-  item_kind kinds.ColumnsDone q rest come l = (ms, NonePassed, Reading _ o refl (grown_gave ms p o kinds.ColumnsDone q come w) (inr (quiet_left NextRow ms p o w l kinds.ColumnsDone q refl)))
-  item_kind (kinds.Prepared m n) q rest come l = (ms, NonePassed, Reading _ o refl (grown_gave ms p o (kinds.Prepared m n) q come w) (inr (quiet_left NextRow ms p o w l (kinds.Prepared m n) q refl)))
-  item_kind kinds.Parameter q rest come l = (ms, NonePassed, Reading _ o refl (grown_gave ms p o kinds.Parameter q come w) (inr (quiet_left NextRow ms p o w l kinds.Parameter q refl)))
-  item_kind kinds.Field q rest come l = (ms, NonePassed, Reading _ o refl (grown_gave ms p o kinds.Field q come w) (inr (quiet_left NextRow ms p o w l kinds.Field q refl)))
-  item_kind kinds.Bad q rest come l = (ms, NonePassed, Reading _ o refl (grown_gave ms p o kinds.Bad q come w) (inr (quiet_left NextRow ms p o w l kinds.Bad q refl)))
+  item_kind (kinds.Greets n) q rest come l = (ms, NonePassed, Reading _ o refl (grown_gave false ms p o (kinds.Greets n) q come w) (inr (quiet_left NextRow ms p o w l (kinds.Greets n) q refl)))
+  item_kind kinds.Failed q rest come l = (ms, NonePassed, Reading _ o refl (grown_gave false ms p o kinds.Failed q come w) (inr (quiet_left NextRow ms p o w l kinds.Failed q refl)))
+  item_kind (kinds.Count n) q rest come l = (ms, NonePassed, Reading _ o refl (grown_gave false ms p o (kinds.Count n) q come w) (inr (quiet_left NextRow ms p o w l (kinds.Count n) q refl)))
+  item_kind kinds.Column q rest come l = (ms, NonePassed, Reading _ o refl (grown_gave false ms p o kinds.Column q come w) (inr (quiet_left NextRow ms p o w l kinds.Column q refl)))
+  item_kind kinds.ColumnsDone q rest come l = (ms, NonePassed, Reading _ o refl (grown_gave false ms p o kinds.ColumnsDone q come w) (inr (quiet_left NextRow ms p o w l kinds.ColumnsDone q refl)))
+  item_kind (kinds.Prepared m n) q rest come l = (ms, NonePassed, Reading _ o refl (grown_gave false ms p o (kinds.Prepared m n) q come w) (inr (quiet_left NextRow ms p o w l (kinds.Prepared m n) q refl)))
+  item_kind kinds.Parameter q rest come l = (ms, NonePassed, Reading _ o refl (grown_gave false ms p o kinds.Parameter q come w) (inr (quiet_left NextRow ms p o w l kinds.Parameter q refl)))
+  item_kind kinds.Field q rest come l = (ms, NonePassed, Reading _ o refl (grown_gave false ms p o kinds.Field q come w) (inr (quiet_left NextRow ms p o w l kinds.Field q refl)))
+  item_kind kinds.Bad q rest come l = (ms, NonePassed, Reading _ o refl (grown_gave false ms p o kinds.Bad q come w) (inr (quiet_left NextRow ms p o w l kinds.Bad q refl)))
 
   pub item_fine : KeptAt p o → IsFine NextRow ms (step_of login NextRow (Item ∷ []) p)
   item_fine kept = either (IsFine NextRow ms) p.end_left _ _
       (λ e. let x = end_shared NextRow ms p o w (left_end p o kept e) in record { share = x.share; gave = x.gave; kept = λ _. inr x.left })
-      (λ e. either (IsFine NextRow ms) (is_over p.talk) _ _ (λ _. none_fine NextRow refl kept)
-      (λ unread. let l = left_there p o kept e unread in reads_have (IsFine NextRow ms) p (faults_fine NextRow ms refl p o w) login Item [] refl (waits_fine NextRow refl kept)
-      (λ k quiet q rest come. (ms, NonePassed, Reading _ o refl (grown_gave ms p o k q come w) (inr (quiet_left NextRow ms p o w l k q quiet))))
-      (λ k q rest come. item_kind k q rest come l) (err_fine NextRow refl kept)))
+      (λ e. either (IsFine NextRow ms) (is_over p.talk) _ _ (λ _. none_fine NextRow kept)
+      (λ unread. let l = left_there p o kept e unread in reads_have (IsFine NextRow ms) p (faults_fine NextRow ms false p o w) login Item [] refl (waits_fine NextRow kept)
+      (λ k quiet q rest come. (ms, NonePassed, Reading _ o refl (grown_gave false ms p o k q come w) (inr (quiet_left NextRow ms p o w l k q quiet))))
+      (λ k q rest come. item_kind k q rest come l) (err_fine NextRow kept)))
 
   -- a set that a stream takes
   no_rows : (x : Sets) (terms : Terms) (command : List ℕ) → p.talk ≡ Queried terms command x → is_rows (context_of p.talk).spot ≡ false → InRows x → ⊥
@@ -198,20 +199,20 @@ module _ (login : Login) (ms : List Made) (p : Place) (o : Option (List Group)) 
   set_kind : (k : Kind) (q rest : List ℕ) → Comes p k q → Left p.talk false o → is_rows (context_of p.talk).spot ≡ false → IsFine TakeSet ms (after_kind Set [] k (with_talk p (grow k p.talk q) rest) (row_at login p q))
   set_kind (kinds.Good s) q rest come l e = record {
     share = o;
-    gave = told_gave TakeSet ms refl ToldReady (with_talk p (grow (kinds.Good s) p.talk q) rest) o refl (grown_gave ms p o (kinds.Good s) q come w);
+    gave = told_gave TakeSet ms false ToldReady (with_talk p (grow (kinds.Good s) p.talk q) rest) o refl (grown_gave false ms p o (kinds.Good s) q come w);
     kept = λ _. inr (record { terms = l.terms; command = l.command; sets = Lone l.sets q s; talk_is = grown_is p.talk l.terms l.command l.sets (kinds.Good s) q l.talk_is; share_is = l.share_is; lone = λ _. refl });
   }
   set_kind (kinds.End s) q rest come l e = absurd (no_rows l.sets l.terms l.command l.talk_is e (end_rows TakeSet ms p o w l s q come))
   set_kind kinds.Row q rest come l e = absurd (no_rows l.sets l.terms l.command l.talk_is e (row_rows TakeSet ms p o w l q come))
-  set_kind (kinds.Greets n) q rest come l e = (ms, NonePassed, Taking _ o refl (grown_gave ms p o (kinds.Greets n) q come w) (inr (quiet_left TakeSet ms p o w l (kinds.Greets n) q refl)))
-  set_kind kinds.Failed q rest come l e = (ms, NonePassed, Taking _ o refl (grown_gave ms p o kinds.Failed q come w) (inr (quiet_left TakeSet ms p o w l kinds.Failed q refl)))
-  set_kind (kinds.Count n) q rest come l e = (ms, NonePassed, Taking _ o refl (grown_gave ms p o (kinds.Count n) q come w) (inr (quiet_left TakeSet ms p o w l (kinds.Count n) q refl)))
-  set_kind kinds.Column q rest come l e = (ms, NonePassed, Taking _ o refl (grown_gave ms p o kinds.Column q come w) (inr (quiet_left TakeSet ms p o w l kinds.Column q refl)))
-  set_kind kinds.ColumnsDone q rest come l e = (ms, NonePassed, Taking _ o refl (grown_gave ms p o kinds.ColumnsDone q come w) (inr (quiet_left TakeSet ms p o w l kinds.ColumnsDone q refl)))
-  set_kind (kinds.Prepared m n) q rest come l e = (ms, NonePassed, Taking _ o refl (grown_gave ms p o (kinds.Prepared m n) q come w) (inr (quiet_left TakeSet ms p o w l (kinds.Prepared m n) q refl)))
-  set_kind kinds.Parameter q rest come l e = (ms, NonePassed, Taking _ o refl (grown_gave ms p o kinds.Parameter q come w) (inr (quiet_left TakeSet ms p o w l kinds.Parameter q refl)))
-  set_kind kinds.Field q rest come l e = (ms, NonePassed, Taking _ o refl (grown_gave ms p o kinds.Field q come w) (inr (quiet_left TakeSet ms p o w l kinds.Field q refl)))
-  set_kind kinds.Bad q rest come l e = (ms, NonePassed, Taking _ o refl (grown_gave ms p o kinds.Bad q come w) (inr (quiet_left TakeSet ms p o w l kinds.Bad q refl)))
+  set_kind (kinds.Greets n) q rest come l e = (ms, NonePassed, Taking _ o refl (grown_gave false ms p o (kinds.Greets n) q come w) (inr (quiet_left TakeSet ms p o w l (kinds.Greets n) q refl)))
+  set_kind kinds.Failed q rest come l e = (ms, NonePassed, Taking _ o refl (grown_gave false ms p o kinds.Failed q come w) (inr (quiet_left TakeSet ms p o w l kinds.Failed q refl)))
+  set_kind (kinds.Count n) q rest come l e = (ms, NonePassed, Taking _ o refl (grown_gave false ms p o (kinds.Count n) q come w) (inr (quiet_left TakeSet ms p o w l (kinds.Count n) q refl)))
+  set_kind kinds.Column q rest come l e = (ms, NonePassed, Taking _ o refl (grown_gave false ms p o kinds.Column q come w) (inr (quiet_left TakeSet ms p o w l kinds.Column q refl)))
+  set_kind kinds.ColumnsDone q rest come l e = (ms, NonePassed, Taking _ o refl (grown_gave false ms p o kinds.ColumnsDone q come w) (inr (quiet_left TakeSet ms p o w l kinds.ColumnsDone q refl)))
+  set_kind (kinds.Prepared m n) q rest come l e = (ms, NonePassed, Taking _ o refl (grown_gave false ms p o (kinds.Prepared m n) q come w) (inr (quiet_left TakeSet ms p o w l (kinds.Prepared m n) q refl)))
+  set_kind kinds.Parameter q rest come l e = (ms, NonePassed, Taking _ o refl (grown_gave false ms p o kinds.Parameter q come w) (inr (quiet_left TakeSet ms p o w l kinds.Parameter q refl)))
+  set_kind kinds.Field q rest come l e = (ms, NonePassed, Taking _ o refl (grown_gave false ms p o kinds.Field q come w) (inr (quiet_left TakeSet ms p o w l kinds.Field q refl)))
+  set_kind kinds.Bad q rest come l e = (ms, NonePassed, Taking _ o refl (grown_gave false ms p o kinds.Bad q come w) (inr (quiet_left TakeSet ms p o w l kinds.Bad q refl)))
 
   neither : (a b : Bool) → (a || b) ≡ false → (a ≡ false) × (b ≡ false)
   neither true b e = cc
@@ -219,14 +220,14 @@ module _ (login : Login) (ms : List Made) (p : Place) (o : Option (List Group)) 
 
   pub set_fine : KeptAt p o → IsFine TakeSet ms (step_of login TakeSet (Set ∷ []) p)
   set_fine kept = either (IsFine TakeSet ms) (p.end_left || is_rows (context_of p.talk).spot) _ _
-      (λ _. record { share = o; gave = told_gave TakeSet ms refl ToldReady p o refl w; kept = λ _. kept })
-      (λ e. let no = neither p.end_left (is_rows (context_of p.talk).spot) e in either (IsFine TakeSet ms) (is_over p.talk) _ _ (λ _. none_fine TakeSet refl kept)
-      (λ unread. let l = left_there p o kept no.0 unread in reads_have (IsFine TakeSet ms) p (faults_fine TakeSet ms refl p o w) login Set [] refl (waits_fine TakeSet refl kept)
-      (λ k quiet q rest come. (ms, NonePassed, Taking _ o refl (grown_gave ms p o k q come w) (inr (quiet_left TakeSet ms p o w l k q quiet))))
-      (λ k q rest come. set_kind k q rest come l no.1) (err_fine TakeSet refl kept)))
+      (λ _. record { share = o; gave = told_gave TakeSet ms false ToldReady p o refl w; kept = λ _. kept })
+      (λ e. let no = neither p.end_left (is_rows (context_of p.talk).spot) e in either (IsFine TakeSet ms) (is_over p.talk) _ _ (λ _. none_fine TakeSet kept)
+      (λ unread. let l = left_there p o kept no.0 unread in reads_have (IsFine TakeSet ms) p (faults_fine TakeSet ms false p o w) login Set [] refl (waits_fine TakeSet kept)
+      (λ k quiet q rest come. (ms, NonePassed, Taking _ o refl (grown_gave false ms p o k q come w) (inr (quiet_left TakeSet ms p o w l k q quiet))))
+      (λ k q rest come. set_kind k q rest come l no.1) (err_fine TakeSet kept)))
 
   -- what is passed over
-  module _ (c : Call) (part : Part) (known : is_known c ≡ true) (passes : passes_over c ≡ true) (does : IsPassing c part) where
+  module _ (c : Call) (part : Part) (passes : passes_over c ≡ true) (does : IsPassing c part) where
     passed_fine : (t : Told) (q rest : List ℕ) (k : Kind) → IsItem t → Shared c ms t p (grow k p.talk q) → IsFine c ms (Goes (part ∷ []) (with_talk p (grow k p.talk q) rest))
     passed_fine t q rest k item x = (returned_so c t ms, MorePassed ms t passes item NonePassed, Passing part _ x.share does x.gave (inr x.left))
 
@@ -234,15 +235,15 @@ module _ (login : Login) (ms : List Made) (p : Place) (o : Option (List Group)) 
     pass_kind (kinds.Good s) q rest come l = passed_fine ToldEnd q rest (kinds.Good s) tt (good_shared c ms p o w l s q come)
     pass_kind (kinds.End s) q rest come l = passed_fine ToldEnd q rest (kinds.End s) tt (stop_shared c ms p o w l s q come)
     pass_kind kinds.Row q rest come l = passed_fine (row_at login p q) q rest kinds.Row tt (row_shared c ms p o w l login q come)
-    pass_kind (kinds.Greets n) q rest come l = (ms, NonePassed, Passing part _ o does (grown_gave ms p o (kinds.Greets n) q come w) (inr (quiet_left c ms p o w l (kinds.Greets n) q refl)))
-    pass_kind kinds.Failed q rest come l = (ms, NonePassed, Passing part _ o does (grown_gave ms p o kinds.Failed q come w) (inr (quiet_left c ms p o w l kinds.Failed q refl)))
-    pass_kind (kinds.Count n) q rest come l = (ms, NonePassed, Passing part _ o does (grown_gave ms p o (kinds.Count n) q come w) (inr (quiet_left c ms p o w l (kinds.Count n) q refl)))
-    pass_kind kinds.Column q rest come l = (ms, NonePassed, Passing part _ o does (grown_gave ms p o kinds.Column q come w) (inr (quiet_left c ms p o w l kinds.Column q refl)))
-    pass_kind kinds.ColumnsDone q rest come l = (ms, NonePassed, Passing part _ o does (grown_gave ms p o kinds.ColumnsDone q come w) (inr (quiet_left c ms p o w l kinds.ColumnsDone q refl)))
-    pass_kind (kinds.Prepared m n) q rest come l = (ms, NonePassed, Passing part _ o does (grown_gave ms p o (kinds.Prepared m n) q come w) (inr (quiet_left c ms p o w l (kinds.Prepared m n) q refl)))
-    pass_kind kinds.Parameter q rest come l = (ms, NonePassed, Passing part _ o does (grown_gave ms p o kinds.Parameter q come w) (inr (quiet_left c ms p o w l kinds.Parameter q refl)))
-    pass_kind kinds.Field q rest come l = (ms, NonePassed, Passing part _ o does (grown_gave ms p o kinds.Field q come w) (inr (quiet_left c ms p o w l kinds.Field q refl)))
-    pass_kind kinds.Bad q rest come l = (ms, NonePassed, Passing part _ o does (grown_gave ms p o kinds.Bad q come w) (inr (quiet_left c ms p o w l kinds.Bad q refl)))
+    pass_kind (kinds.Greets n) q rest come l = (ms, NonePassed, Passing part _ o does (grown_gave false ms p o (kinds.Greets n) q come w) (inr (quiet_left c ms p o w l (kinds.Greets n) q refl)))
+    pass_kind kinds.Failed q rest come l = (ms, NonePassed, Passing part _ o does (grown_gave false ms p o kinds.Failed q come w) (inr (quiet_left c ms p o w l kinds.Failed q refl)))
+    pass_kind (kinds.Count n) q rest come l = (ms, NonePassed, Passing part _ o does (grown_gave false ms p o (kinds.Count n) q come w) (inr (quiet_left c ms p o w l (kinds.Count n) q refl)))
+    pass_kind kinds.Column q rest come l = (ms, NonePassed, Passing part _ o does (grown_gave false ms p o kinds.Column q come w) (inr (quiet_left c ms p o w l kinds.Column q refl)))
+    pass_kind kinds.ColumnsDone q rest come l = (ms, NonePassed, Passing part _ o does (grown_gave false ms p o kinds.ColumnsDone q come w) (inr (quiet_left c ms p o w l kinds.ColumnsDone q refl)))
+    pass_kind (kinds.Prepared m n) q rest come l = (ms, NonePassed, Passing part _ o does (grown_gave false ms p o (kinds.Prepared m n) q come w) (inr (quiet_left c ms p o w l (kinds.Prepared m n) q refl)))
+    pass_kind kinds.Parameter q rest come l = (ms, NonePassed, Passing part _ o does (grown_gave false ms p o kinds.Parameter q come w) (inr (quiet_left c ms p o w l kinds.Parameter q refl)))
+    pass_kind kinds.Field q rest come l = (ms, NonePassed, Passing part _ o does (grown_gave false ms p o kinds.Field q come w) (inr (quiet_left c ms p o w l kinds.Field q refl)))
+    pass_kind kinds.Bad q rest come l = (ms, NonePassed, Passing part _ o does (grown_gave false ms p o kinds.Bad q come w) (inr (quiet_left c ms p o w l kinds.Bad q refl)))
 
     end_passed : Left p.talk true o → IsFine c ms (Goes (part ∷ []) (without_end p))
     end_passed l = let x = end_shared c ms p o w l in (returned_so c ToldEnd ms, MorePassed ms ToldEnd passes tt NonePassed, Passing part _ x.share does x.gave (inr x.left))
@@ -251,36 +252,36 @@ module _ (login : Login) (ms : List Made) (p : Place) (o : Option (List Group)) 
     done_fine kept = (ms, NonePassed, Over p o passes w kept)
 
   pub drop_fine : KeptAt p o → IsFine DropResult ms (step_of login DropResult (All ∷ []) p)
-  drop_fine kept = either (IsFine DropResult ms) p.end_left _ _ (λ e. end_passed DropResult All refl refl Drops (left_end p o kept e))
-      (λ e. either (IsFine DropResult ms) (is_over p.talk) _ _ (λ _. done_fine DropResult All refl refl Drops kept)
-      (λ unread. let l = left_there p o kept e unread in reads_have (IsFine DropResult ms) p (faults_fine DropResult ms refl p o w) login All [] refl (waits_fine DropResult refl kept)
-      (λ k quiet q rest come. pass_kind DropResult All refl refl Drops k q rest come l) (λ k q rest come. pass_kind DropResult All refl refl Drops k q rest come l) (err_fine DropResult refl kept)))
+  drop_fine kept = either (IsFine DropResult ms) p.end_left _ _ (λ e. end_passed DropResult All refl Drops (left_end p o kept e))
+      (λ e. either (IsFine DropResult ms) (is_over p.talk) _ _ (λ _. done_fine DropResult All refl Drops kept)
+      (λ unread. let l = left_there p o kept e unread in reads_have (IsFine DropResult ms) p (faults_fine DropResult ms false p o w) login All [] refl (waits_fine DropResult kept)
+      (λ k quiet q rest come. pass_kind DropResult All refl Drops k q rest come l) (λ k q rest come. pass_kind DropResult All refl Drops k q rest come l) (err_fine DropResult kept)))
 
   pub skip_fine : KeptAt p o → IsFine SkipTaken ms (step_of login SkipTaken (Rest ∷ []) p)
-  skip_fine kept = either (IsFine SkipTaken ms) p.end_left _ _ (λ e. end_passed SkipTaken Rest refl refl Skips (left_end p o kept e))
+  skip_fine kept = either (IsFine SkipTaken ms) p.end_left _ _ (λ e. end_passed SkipTaken Rest refl Skips (left_end p o kept e))
       (λ e. either (IsFine SkipTaken ms) (is_rows (context_of p.talk).spot) _ _
-      (λ rows. let l = left_there p o kept e (rows_open (context_of p.talk).spot rows) in reads_have (IsFine SkipTaken ms) p (faults_fine SkipTaken ms refl p o w) login Rest [] refl (waits_fine SkipTaken refl kept)
-      (λ k quiet q rest come. pass_kind SkipTaken Rest refl refl Skips k q rest come l) (λ k q rest come. pass_kind SkipTaken Rest refl refl Skips k q rest come l) (err_fine SkipTaken refl kept))
-      (λ _. done_fine SkipTaken Rest refl refl Skips kept))
+      (λ rows. let l = left_there p o kept e (rows_open (context_of p.talk).spot rows) in reads_have (IsFine SkipTaken ms) p (faults_fine SkipTaken ms false p o w) login Rest [] refl (waits_fine SkipTaken kept)
+      (λ k quiet q rest come. pass_kind SkipTaken Rest refl Skips k q rest come l) (λ k q rest come. pass_kind SkipTaken Rest refl Skips k q rest come l) (err_fine SkipTaken kept))
+      (λ _. done_fine SkipTaken Rest refl Skips kept))
 
--- the head of a query's first set
-module _ (login : Login) (c : Call) (ms : List Made) (known : is_known c ≡ true) (query : is_query c ≡ true) (plain : reads_sets c ≡ false) (p : Place) (w : GaveAt ms p None) where
-  quiet_head : (k : Kind) (q rest : List ℕ) → Comes p k q → is_quiet k ≡ true → IsFresh p.talk false → IsFine c ms (Goes (Head ∷ []) (with_talk p (grow k p.talk q) rest))
+-- the head of the first set of a query or of an execution
+module _ (login : Login) (c : Call) (ms : List Made) (query : is_query c ≡ true) (plain : reads_sets c ≡ false) (parts : List Part) (tail : is_tail parts ≡ true) (p : Place) (w : GaveAt false ms p None) where
+  quiet_head : (k : Kind) (q rest : List ℕ) → Comes p k q → is_quiet k ≡ true → IsFresh p.talk false → IsFine c ms (Goes (Head ∷ parts) (with_talk p (grow k p.talk q) rest))
   quiet_head k q rest come quiet f = (
     ms,
     NonePassed,
-    HeadingAt (with_talk p (grow k p.talk q) rest) query refl
+    HeadingAt parts (with_talk p (grow k p.talk q) rest) query tail refl
         (record { terms = f.terms; command = f.command; sets = grow_sets (deprecates_eof f.terms.kept) k f.sets q; talk_is = grown_is p.talk f.terms f.command f.sets k q f.talk_is; none = quiet_groups (deprecates_eof f.terms.kept) k f.sets q quiet ∙ f.none; lone = λ x. absurd (cc) })
-        (grown_gave ms p None k q come w),
+        (grown_gave false ms p None k q come w),
   )
 
-  head_kind : (k : Kind) (q rest : List ℕ) → Comes p k q → IsFresh p.talk false → is_rows (context_of p.talk).spot ≡ false → IsFine c ms (after_kind Head [] k (with_talk p (grow k p.talk q) rest) (row_at login p q))
+  head_kind : (k : Kind) (q rest : List ℕ) → Comes p k q → IsFresh p.talk false → is_rows (context_of p.talk).spot ≡ false → IsFine c ms (after_kind Head parts k (with_talk p (grow k p.talk q) rest) (row_at login p q))
   head_kind (kinds.Good s) q rest come f e = (
     ms,
     NonePassed,
-    Answering (ending (with_talk p (grow (kinds.Good s) p.talk q) rest)) query
+    Answering parts (ending (with_talk p (grow (kinds.Good s) p.talk q) rest)) query tail
         (record { terms = f.terms; command = f.command; sets = Lone f.sets q s; talk_is = grown_is p.talk f.terms f.command f.sets (kinds.Good s) q f.talk_is; none = f.none; lone = λ _. refl })
-        (grown_gave ms p None (kinds.Good s) q come w),
+        (grown_gave false ms p None (kinds.Good s) q come w),
   )
   head_kind (kinds.End s) q rest come f e =
       let r = end_in_rows f.sets q s _ (more_packets p ms None (kinds.End s) q f.terms f.command f.sets come w f.talk_is) in
@@ -298,13 +299,13 @@ module _ (login : Login) (c : Call) (ms : List Made) (known : is_known c ≡ tru
   head_kind kinds.Field q rest come f e = quiet_head kinds.Field q rest come refl f
   head_kind kinds.Bad q rest come f e = quiet_head kinds.Bad q rest come refl f
 
-  pub heading_fine : p.end_left ≡ false → IsFresh p.talk false → IsFine c ms (step_of login c (Head ∷ []) p)
+  pub heading_fine : p.end_left ≡ false → IsFresh p.talk false → IsFine c ms (step_of login c (Head ∷ parts) p)
   heading_fine none f = either (IsFine c ms) (is_rows (context_of p.talk).spot) _ _
-      (λ _. (ms, NonePassed, Answering p query (subst (λ b. IsFresh p.talk b) (sym none) f) w))
-      (λ e. reads_have (IsFine c ms) p (faults_fine c ms known p None w) login Head [] refl
-      (record { share = None; gave = w; kept = λ x. absurd (cc) })
+      (λ _. (ms, NonePassed, Answering parts p query tail (subst (λ b. IsFresh p.talk b) (sym none) f) w))
+      (λ e. reads_have (IsFine c ms) p (faults_fine c ms false p None w) login Head parts refl
+      (record { share = None; gave = shifted false (not (reads_sets c)) ms p.talk p.older p.trial None (λ x. refl) w; kept = λ x. absurd (let no : not (reads_sets c) ≡ true = ap not plain in cc) })
       (λ k quiet q rest come. quiet_head k q rest come quiet f) (λ k q rest come. head_kind k q rest come f e)
-      (λ q rest come x. refused_fine c ms known p.trial (with_talk p (grow kinds.Failed p.talk q) rest) None (server_error x) w.off (grown_gave ms p None kinds.Failed q come w) (failed_over p.talk q) refl))
+      (λ q rest come x. refused_fine c ms p.trial (with_talk p (grow kinds.Failed p.talk q) rest) None (server_error x) (w.off refl) (grown_gave false ms p None kinds.Failed q come w) (failed_over p.talk q) refl))
 
 -- what is known of a response was in it at some moment
 known_given : (t : Talk) (terms : Terms) (command : List ℕ) (x : Sets) (end : Bool) → t ≡ Queried terms command x → (end ≡ true → is_lone x ≡ true) → IsGiven (Some (groups (known_part end x))) t
@@ -319,44 +320,53 @@ known_given t terms command (Begun older head rows) true e lone = absurd (let no
 known_given t terms command (Ended older head rows p s) true e lone = absurd (let no : false ≡ true = lone refl in cc)
 known_given t terms command (Broken older head rows p) true e lone = absurd (let no : false ≡ true = lone refl in cc)
 
--- a query is answered
-query_answered : (login : Login) (text : List ℕ) (ms : List Made) (p : Place) → IsFresh p.talk p.end_left → GaveAt ms p None → IsFine (Query text) ms (step_of login (Query text) [] p)
-query_answered login text ms p f w = record {
-  share = Some [];
-  gave = record {
-    olds = w.olds;
-    given_is = ap (λ gs. [] ∷ gs) w.given_is;
-    newest = subst (λ g. IsGiven (Some g) p.talk) f.none (known_given p.talk f.terms f.command f.sets p.end_left f.talk_is f.lone);
-    each = w.each;
-    fits = w.fits;
-    off = w.off;
-  };
-  kept = λ _. inr (record { terms = f.terms; command = f.command; sets = f.sets; talk_is = f.talk_is; share_is = ap Some (sym f.none); lone = f.lone });
+-- a query, or an execution, is answered: of its response nothing was given yet
+fresh_gave : (made : List Made) (ms : List Made) (p : Place) → given made ≡ [] ∷ given ms → IsFresh p.talk p.end_left → GaveAt false ms p None → GaveAt false made p (Some [])
+fresh_gave made ms p ready f w = record {
+  olds = w.olds;
+  given_is = ready ∙ ap (λ gs. [] ∷ gs) w.given_is;
+  newest = subst (λ g. IsGiven (Some g) p.talk) f.none (known_given p.talk f.terms f.command f.sets p.end_left f.talk_is f.lone);
+  each = w.each;
+  fits = w.fits;
+  off = w.off;
 }
 
-pub answer_fine : (login : Login) (c : Call) (ms : List Made) → is_query c ≡ true → (p : Place) → IsFresh p.talk p.end_left → GaveAt ms p None → IsFine c ms (step_of login c [] p)
-answer_fine login Connect ms query p f w = absurd (cc)
-answer_fine login (Query text) ms query p f w = query_answered login text ms p f w
-answer_fine login (Prepare text) ms query p f w = absurd (cc)
-answer_fine login (Execute statement params) ms query p f w = absurd (cc)
-answer_fine login (Batch statement lists) ms query p f w = absurd (cc)
-answer_fine login (CloseStmt id) ms query p f w = absurd (cc)
-answer_fine login NextRow ms query p f w = absurd (cc)
-answer_fine login DropResult ms query p f w = absurd (cc)
-answer_fine login TakeSet ms query p f w = absurd (cc)
-answer_fine login SkipTaken ms query p f w = absurd (cc)
-answer_fine login Ping ms query p f w = absurd (cc)
-answer_fine login Reset ms query p f w = absurd (cc)
-answer_fine login (ChangeUser change) ms query p f w = absurd (cc)
-answer_fine login (Begin opts) ms query p f w = absurd (cc)
-answer_fine login Commit ms query p f w = absurd (cc)
-answer_fine login Rollback ms query p f w = absurd (cc)
-answer_fine login ForgetTransaction ms query p f w = absurd (cc)
-answer_fine login CleanForPool ms query p f w = absurd (cc)
-answer_fine login ResetForPool ms query p f w = absurd (cc)
-answer_fine login Quit ms query p f w = absurd (cc)
+fresh_kept : (p : Place) → IsFresh p.talk p.end_left → KeptAt p (Some [])
+fresh_kept p f = inr (record { terms = f.terms; command = f.command; sets = f.sets; talk_is = f.talk_is; share_is = ap Some (sym f.none); lone = f.lone })
 
-pub pass_fine : (login : Login) (c : Call) (ms : List Made) (part : Part) (p : Place) (o : Option (List Group)) → IsPassing c part → GaveAt ms p o → KeptAt p o → IsFine c ms (step_of login c (part ∷ []) p)
+answered_fine : (login : Login) (c : Call) (ms : List Made) → is_query c ≡ true → (p : Place) → IsFresh p.talk p.end_left → GaveAt false ms p None → IsFine c ms (step_of login c [] p)
+answered_fine login Connect ms query p f w = absurd (cc)
+answered_fine login (Query text) ms query p f w = record { share = Some []; gave = fresh_gave (returned_so (Query text) ToldReady ms) ms p refl f w; kept = λ _. fresh_kept p f }
+answered_fine login (Prepare text) ms query p f w = absurd (cc)
+answered_fine login (Execute statement params) ms query p f w = record { share = Some []; gave = fresh_gave (returned_so (Execute statement params) ToldReady ms) ms p refl f w; kept = λ _. fresh_kept p f }
+answered_fine login (Batch statement lists) ms query p f w = absurd (cc)
+answered_fine login (CloseStmt id) ms query p f w = absurd (cc)
+answered_fine login NextRow ms query p f w = absurd (cc)
+answered_fine login DropResult ms query p f w = absurd (cc)
+answered_fine login TakeSet ms query p f w = absurd (cc)
+answered_fine login SkipTaken ms query p f w = absurd (cc)
+answered_fine login Ping ms query p f w = absurd (cc)
+answered_fine login Reset ms query p f w = absurd (cc)
+answered_fine login (ChangeUser change) ms query p f w = absurd (cc)
+answered_fine login (Begin opts) ms query p f w = absurd (cc)
+answered_fine login Commit ms query p f w = absurd (cc)
+answered_fine login Rollback ms query p f w = absurd (cc)
+answered_fine login ForgetTransaction ms query p f w = absurd (cc)
+answered_fine login CleanForPool ms query p f w = absurd (cc)
+answered_fine login ResetForPool ms query p f w = absurd (cc)
+answered_fine login Quit ms query p f w = absurd (cc)
+
+-- the columns of the rows of an execution are learned before it is answered
+learned_fresh : (c : Call) (ms : List Made) → is_query c ≡ true → (p : Place) (b : Bool) (st : Statements) → IsFresh p.talk p.end_left → GaveAt false ms p None → IsFine c ms (Goes [] (cond b (with_statements st p) p))
+learned_fresh c ms query p true st f w = (ms, NonePassed, Answering [] (with_statements st p) query refl f w)
+learned_fresh c ms query p false st f w = (ms, NonePassed, Answering [] p query refl f w)
+
+pub answer_fine : (login : Login) (c : Call) (ms : List Made) → is_query c ≡ true → (parts : List Part) → is_tail parts ≡ true → (p : Place) → IsFresh p.talk p.end_left → GaveAt false ms p None → IsFine c ms (step_of login c parts p)
+answer_fine login c ms query [] tail p f w = answered_fine login c ms query p f w
+answer_fine login c ms query (Learn ∷ []) tail p f w = learned_fresh c ms query p (is_rows (context_of p.talk).spot) (with_columns (id_in c) (facts_at login p).columns p.statements) f w
+answer_fine login c ms query parts tail p f w = absurd (cc)
+
+pub pass_fine : (login : Login) (c : Call) (ms : List Made) (part : Part) (p : Place) (o : Option (List Group)) → IsPassing c part → GaveAt false ms p o → KeptAt p o → IsFine c ms (step_of login c (part ∷ []) p)
 pass_fine login c ms part p o Drops w k = drop_fine login ms p o w k
 pass_fine login c ms part p o Skips w k = skip_fine login ms p o w k
 
@@ -382,5 +392,9 @@ over_same CleanForPool passes gs = absurd (cc)
 over_same ResetForPool passes gs = absurd (cc)
 over_same Quit passes gs = absurd (cc)
 
-pub over_fine : (login : Login) (c : Call) (ms : List Made) → is_known c ≡ true → passes_over c ≡ true → (p : Place) (o : Option (List Group)) → GaveAt ms p o → KeptAt p o → IsFine c ms (step_of login c [] p)
-over_fine login c ms known passes p o w k = record { share = o; gave = told_gave c ms known ToldReady p o (over_same c passes (given ms)) w; kept = λ _. k }
+pub over_fine : (login : Login) (c : Call) (ms : List Made) → passes_over c ≡ true → (p : Place) (o : Option (List Group)) → GaveAt false ms p o → KeptAt p o → IsFine c ms (step_of login c [] p)
+over_fine login c ms passes p o w k = record {
+  share = o;
+  gave = shifted false (closes ToldReady (kind_of c)) (returned_so c ToldReady ms) p.talk p.older p.trial o (λ x. refl) (told_gave c ms false ToldReady p o (over_same c passes (given ms)) w);
+  kept = λ _. k;
+}

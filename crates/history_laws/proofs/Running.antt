@@ -5,7 +5,9 @@ use Rattle.my_reading.specs.declared.call.Call.{Call}
 use Rattle.my_reading.specs.declared.call.Call.TheVariants.{Connect, Query, Prepare, Execute, Batch, CloseStmt, NextRow, DropResult, TakeSet, SkipTaken, Ping, Reset, ChangeUser, Begin, Commit, Rollback, ForgetTransaction, CleanForPool, ResetForPool, Quit}
 use Rattle.my_params.specs.declared.params.Params.{Params}
 use Rattle.my_reading.specs.declared.transaction.TxStatus.TheVariants.{InTransaction}
-use Rattle.my_reading.specs.Calls.{kind_of, is_connect}
+use Rattle.my_reading.specs.declared.error.Error.{Error}
+use Rattle.my_reading.specs.Calls.{kind_of, is_connect, statement_in}
+use Rattle.my_reading.specs.Executions.{values_for}
 use Rattle.my_reading.specs.Commands.{arranging_texts, setup_texts}
 use Rattle.my_reading.specs.Course.{Part, All, Head, Item, Set, Rest, Command, Check, Run, Learn, Flag, Settle, Renew, Clear, Text, Step, Goes, Stops, Stop, Owes, Awaits, Returns, Halt, course, enough, parts_of, parts_of_batch, parts_of_lists, parts_of_queries, parts_of_texts, clean, run, step, step_of, unless_owed}
 use Rattle.my_reading.specs.Endings.{AreCalls, Ends, IsCall, IsCut, IsOpen, IsCancelled, IsLinkFailure, IsLinkEnd, awaits_head, cancelling, closes_cancelled, link_end, link_failure}
@@ -15,13 +17,13 @@ use Rattle.my_reading.specs.Reading.{ReadCall, closed_answer, halt_of, is_closin
 use Rattle.my_reading.specs.Tape.{Span}
 use Rattle.my_reading.specs.Told.{Told, ToldReady, ToldError, Dropped, closes}
 use Rattle.my_reading.specs.Transactions.{begin_texts}
-use Rattle.history_laws.specs.Given.{AreMade, IsGivenOf, connects, Passed, PrefixesAreGiven, are_known, have_ended, is_known, passes_over, with_ending}
+use Rattle.history_laws.specs.Given.{AreMade, IsGivenOf, connects, Passed, PrefixesAreGiven, have_ended, passes_over, with_ending}
 use Rattle.history_laws.specs.Given.{NonePassed, MorePassed}
 use Rattle.history_laws.specs.Given.{NoCalls, OneCall}
 use Rattle.history_laws.specs.Groups.{Group, Made, given, given_after}
-use Rattle.history_laws.proofs.Phases.{Answering, Gave, GaveAt, Heading, IsFine, IsHalted, KeptAt, Over, Passing, Drops, Skips, Phase, Reading, Rests, Safely, Stopped, Taking, is_query, is_safe, reads_sets, returned_so}
+use Rattle.history_laws.proofs.Phases.{Answering, Backing, Gave, GaveAt, Heading, Replying, IsFine, IsHalted, KeptAt, Over, Passing, Drops, Skips, Phase, Reading, Rests, Safely, Stopped, Taking, is_fitting, is_query, is_safe, reads_sets, returned_so, shifted}
 use Rattle.history_laws.proofs.Giving.{answer_fine, heading_fine, item_fine, over_fine, pass_fine, set_fine}
-use Rattle.history_laws.proofs.Stepping.{both, safe_fine, told_gave}
+use Rattle.history_laws.proofs.Stepping.{back_fine, both, or_right, reply_fine, safe_fine, told_gave}
 
 -- what was passed over, and then more
 then_passed : (c : Call) (ms mid more : List Made) → Passed c ms mid → Passed c mid more → Passed c ms more
@@ -50,82 +52,101 @@ query_plain CleanForPool e = refl
 query_plain ResetForPool e = refl
 query_plain Quit e = refl
 
-step_part : (login : Login) (c : Call) (known : is_known c ≡ true) (ms : List Made) (parts : List Part) (p : Place) → Phase c ms parts p → IsFine c ms (step_of login c parts p)
-step_part login c known ms parts p (Safely kept ps q o plain e w k) = safe_fine login ms c known plain kept ps q o e w k
-step_part login c known ms parts p (Heading q query none f w) = heading_fine login c ms known query (query_plain c query) q w none f
-step_part login c known ms parts p (Answering q query f w) = answer_fine login c ms query q f w
-step_part login c known ms parts p (Reading q o is w k) = subst (λ d. IsFine d ms (step_of login d (Item ∷ []) q)) (sym is) (item_fine login ms q o w k)
-step_part login c known ms parts p (Taking q o is w k) = subst (λ d. IsFine d ms (step_of login d (Set ∷ []) q)) (sym is) (set_fine login ms q o w k)
-step_part login c known ms parts p (Passing part q o does w k) = pass_fine login c ms part q o does w k
-step_part login c known ms parts p (Over q o passes w k) = over_fine login c ms known passes q o w k
+step_part : (login : Login) (c : Call) (ms : List Made) (parts : List Part) (p : Place) → Phase c ms parts p → IsFine c ms (step_of login c parts p)
+step_part login c ms parts p (Safely kept trying ps q o plain e w k) = safe_fine login ms c plain kept trying ps q o e w k
+step_part login c ms parts p (Heading ps q query tail none f w) = heading_fine login c ms query (query_plain c query) ps tail q w none f
+step_part login c ms parts p (Answering ps q query tail f w) = answer_fine login c ms query ps tail q f w
+step_part login c ms parts p (Replying q o plain none w) = reply_fine login c ms plain q o none w
+step_part login c ms parts p (Backing ps first q o plain back none is w) = back_fine login c ms plain first ps q o back none is w
+step_part login c ms parts p (Reading q o is w k) = subst (λ d. IsFine d ms (step_of login d (Item ∷ []) q)) (sym is) (item_fine login ms q o w k)
+step_part login c ms parts p (Taking q o is w k) = subst (λ d. IsFine d ms (step_of login d (Set ∷ []) q)) (sym is) (set_fine login ms q o w k)
+step_part login c ms parts p (Passing part q o does w k) = pass_fine login c ms part q o does w k
+step_part login c ms parts p (Over q o passes w k) = over_fine login c ms passes q o w k
 
 -- where bytes are owed or awaited
-phase_halted : (c : Call) (ms : List Made) (parts : List Part) (p : Place) → Phase c ms parts p → IsHalted c ms p
-phase_halted c ms parts p (Safely kept ps q o plain e w k) = record { share = o; gave = w; kept = λ x. absurd (let no : not (reads_sets c) ≡ true = ap not plain in cc) }
-phase_halted c ms parts p (Heading q query none f w) = record { share = None; gave = w; kept = λ x. absurd (let no : not (reads_sets c) ≡ true = ap not (query_plain c query) in cc) }
-phase_halted c ms parts p (Answering q query f w) = record { share = None; gave = w; kept = λ x. absurd (let no : not (reads_sets c) ≡ true = ap not (query_plain c query) in cc) }
-phase_halted c ms parts p (Reading q o is w k) = record { share = o; gave = w; kept = λ _. k }
-phase_halted c ms parts p (Taking q o is w k) = record { share = o; gave = w; kept = λ _. k }
-phase_halted c ms parts p (Passing part q o does w k) = record { share = o; gave = w; kept = λ _. k }
-phase_halted c ms parts p (Over q o passes w k) = record { share = o; gave = w; kept = λ _. k }
+-- of a call that closes the session where it is cancelled
+halted : (c : Call) (ms : List Made) (trying : Bool) (p : Place) (o : Option (List Group)) → reads_sets c ≡ false → GaveAt trying ms p o → IsHalted c ms p
+halted c ms trying p o plain w =
+    let closed : not (reads_sets c) ≡ true = ap not plain in
+    record { share = o; gave = shifted trying (not (reads_sets c)) ms p.talk p.older p.trial o (λ x. absurd (cc)) w; kept = λ x. absurd (cc) }
 
-step_fine : (login : Login) (c : Call) (known : is_known c ≡ true) (ms : List Made) (parts : List Part) (p : Place) → Phase c ms parts p → IsFine c ms (step login c parts p)
+-- of one that may leave it open
+rested : (c : Call) (ms : List Made) (p : Place) (o : Option (List Group)) → GaveAt false ms p o → KeptAt p o → IsHalted c ms p
+rested c ms p o w k = record { share = o; gave = shifted false (not (reads_sets c)) ms p.talk p.older p.trial o (λ x. refl) w; kept = λ _. k }
+
+phase_halted : (c : Call) (ms : List Made) (parts : List Part) (p : Place) → Phase c ms parts p → IsHalted c ms p
+phase_halted c ms parts p (Safely kept trying ps q o plain e w k) = halted c ms trying q o plain w
+phase_halted c ms parts p (Heading ps q query tail none f w) = halted c ms false q None (query_plain c query) w
+phase_halted c ms parts p (Answering ps q query tail f w) = halted c ms false q None (query_plain c query) w
+phase_halted c ms parts p (Replying q o plain none w) = halted c ms false q o plain w
+phase_halted c ms parts p (Backing ps first q o plain back none is w) = halted c ms true q o plain w
+phase_halted c ms parts p (Reading q o is w k) = rested c ms q o w k
+phase_halted c ms parts p (Taking q o is w k) = rested c ms q o w k
+phase_halted c ms parts p (Passing part q o does w k) = rested c ms q o w k
+phase_halted c ms parts p (Over q o passes w k) = rested c ms q o w k
+
+step_fine : (login : Login) (c : Call) (ms : List Made) (parts : List Part) (p : Place) → Phase c ms parts p → IsFine c ms (step login c parts p)
 unfolding step
-step_fine login c known ms parts p w = by_owed (owed_at p)
+step_fine login c ms parts p w = by_owed (owed_at p)
   where
     by_owed : (x : List ℕ) → IsFine c ms (unless_owed x p (step_of login c parts p))
     by_owed (b ∷ bytes) = phase_halted c ms parts p w
-    by_owed [] = step_part login c known ms parts p w
+    by_owed [] = step_part login c ms parts p w
 
 -- a call that stopped, with what it passed over
 abbrev Ran : Call → List Made → Halt → Type 0
 Ran c ms h = (more : List Made) × Passed c ms more × Stopped c more h.place h.stop
 
-run_fine : (n : ℕ) (login : Login) (c : Call) (known : is_known c ≡ true) (ms mid : List Made) → Passed c ms mid → (s : Step) → IsFine c mid s → Ran c ms (run n login c s)
+run_fine : (n : ℕ) (login : Login) (c : Call) (ms mid : List Made) → Passed c ms mid → (s : Step) → IsFine c mid s → Ran c ms (run n login c s)
 unfolding run
-run_fine zero login c known ms mid a (Stops p s) w = (mid, a, w)
-run_fine (suc n) login c known ms mid a (Stops p s) w = (mid, a, w)
-run_fine zero login c known ms mid a (Goes parts p) w = (w.0, then_passed c ms mid w.0 a w.1, phase_halted c w.0 parts p w.2)
-run_fine (suc n) login c known ms mid a (Goes parts p) w = run_fine n login c known ms w.0 (then_passed c ms mid w.0 a w.1) (step login c parts p) (step_fine login c known w.0 parts p w.2)
+run_fine zero login c ms mid a (Stops p s) w = (mid, a, w)
+run_fine (suc n) login c ms mid a (Stops p s) w = (mid, a, w)
+run_fine zero login c ms mid a (Goes parts p) w = (w.0, then_passed c ms mid w.0 a w.1, phase_halted c w.0 parts p w.2)
+run_fine (suc n) login c ms mid a (Goes parts p) w = run_fine n login c ms w.0 (then_passed c ms mid w.0 a w.1) (step login c parts p) (step_fine login c w.0 parts p w.2)
 
 -- the parts of calls are safe
-texts_safe : (texts : List (List ℕ)) → is_safe Connect true (parts_of_texts texts) ≡ true
+texts_safe : (texts : List (List ℕ)) → is_safe Connect true false (parts_of_texts texts) ≡ true
 texts_safe [] = refl
 texts_safe (text ∷ texts) = texts_safe texts
 
-lists_safe : (c : Call) → is_query c ≡ false → (lists : List Params) → is_safe c true (parts_of_lists lists) ≡ true
+lists_safe : (c : Call) → is_query c ≡ false → (lists : List Params) → is_safe c true false (parts_of_lists lists) ≡ true
 lists_safe c other [] = ap not other
-lists_safe c other (params ∷ lists) = lists_safe c other lists
+lists_safe c other (params ∷ lists) = or_right (not (is_fitting (values_for (statement_in c) params))) _ (lists_safe c other lists)
 
-batch_safe : (c : Call) → is_query c ≡ false → (lists : List Params) → is_safe c true (parts_of_batch lists) ≡ true
+batch_safe : (c : Call) → is_query c ≡ false → (lists : List Params) → is_safe c true false (parts_of_batch lists) ≡ true
 batch_safe c other [] = ap not other
-batch_safe c other (params ∷ lists) = lists_safe c other lists
+batch_safe c other (params ∷ lists) = or_right (not (is_fitting (values_for (statement_in c) params))) _ (lists_safe c other lists)
 
-queries_safe : (c : Call) (kept : Bool) (texts : List (List ℕ)) (parts : List Part) → is_safe c true parts ≡ true → is_safe c kept (parts_of_queries texts parts) ≡ true
+queries_safe : (c : Call) (kept : Bool) (texts : List (List ℕ)) (parts : List Part) → is_safe c true false parts ≡ true → is_safe c kept false (parts_of_queries texts parts) ≡ true
 queries_safe c kept [] parts e = e
 queries_safe c kept (text ∷ texts) parts e = queries_safe c false texts parts e
 
-begins_fine : (login : Login) (c : Call) (known : is_known c ≡ true) (ms : List Made) (p : Place) (o : Option (List Group)) → GaveAt ms p o → (is_connect (kind_of c) ≡ false → KeptAt p o) → Phase c ms (parts_of login c) p
-begins_fine login Connect known ms p o w k = Safely false (parts_of login Connect) p o refl (texts_safe (arranging_texts login)) w (λ e. absurd (cc))
-begins_fine login (Batch statement lists) known ms p o w k = Safely true (parts_of_batch lists) p o refl (batch_safe (Batch statement lists) refl lists) w (λ _. k refl)
-begins_fine login Reset known ms p o w k = Safely true (parts_of login Reset) p o refl (queries_safe Reset true (setup_texts login) (Flag true ∷ []) refl) w (λ _. k refl)
-begins_fine login (ChangeUser change) known ms p o w k = Safely true (parts_of login (ChangeUser change)) p o refl (queries_safe (ChangeUser change) true (setup_texts login) [] refl) w (λ _. k refl)
-begins_fine login ResetForPool known ms p o w k = Safely true (parts_of login ResetForPool) p o refl (queries_safe ResetForPool true (setup_texts login) [] refl) w (λ _. k refl)
-begins_fine login (Begin opts) known ms p o w k = Safely true (parts_of login (Begin opts)) p o refl (queries_safe (Begin opts) true (begin_texts opts) (Settle InTransaction ∷ []) refl) w (λ _. k refl)
-begins_fine login NextRow known ms p o w k = Reading p o refl w (k refl)
-begins_fine login TakeSet known ms p o w k = Taking p o refl w (k refl)
-begins_fine login DropResult known ms p o w k = Passing All p o Drops w (k refl)
-begins_fine login SkipTaken known ms p o w k = Passing Rest p o Skips w (k refl)
-begins_fine login (Prepare text) known ms p o w k = absurd (cc)
-begins_fine login (Execute statement params) known ms p o w k = absurd (cc)
-begins_fine login Commit known ms p o w k = absurd (cc)
-begins_fine login (Query text) known ms p o w k = Safely true (parts_of login (Query text)) p o refl refl w (λ _. k refl)
-begins_fine login (CloseStmt id) known ms p o w k = Safely true (parts_of login (CloseStmt id)) p o refl refl w (λ _. k refl)
-begins_fine login Ping known ms p o w k = Safely true (parts_of login Ping) p o refl refl w (λ _. k refl)
-begins_fine login Rollback known ms p o w k = Safely true (parts_of login Rollback) p o refl refl w (λ _. k refl)
-begins_fine login ForgetTransaction known ms p o w k = Safely true (parts_of login ForgetTransaction) p o refl refl w (λ _. k refl)
-begins_fine login CleanForPool known ms p o w k = Safely true (parts_of login CleanForPool) p o refl refl w (λ _. k refl)
-begins_fine login Quit known ms p o w k = Safely true (parts_of login Quit) p o refl refl w (λ _. k refl)
+-- an execution goes on only where its values fit
+fits_or_not : (b : Bool) → (not b || (b && true)) ≡ true
+fits_or_not true = refl
+fits_or_not false = refl
+
+begins_fine : (login : Login) (c : Call) (ms : List Made) (p : Place) (o : Option (List Group)) → GaveAt false ms p o → (is_connect (kind_of c) ≡ false → KeptAt p o) → Phase c ms (parts_of login c) p
+begins_fine login Connect ms p o w k = Safely false false (parts_of login Connect) p o refl (texts_safe (arranging_texts login)) w (λ e. absurd (cc))
+begins_fine login (Execute statement params) ms p o w k = Safely true false (parts_of login (Execute statement params)) p o refl (fits_or_not (is_fitting (values_for statement params))) w (λ _. k refl)
+begins_fine login (Batch statement lists) ms p o w k = Safely true false (parts_of_batch lists) p o refl (batch_safe (Batch statement lists) refl lists) w (λ _. k refl)
+begins_fine login Reset ms p o w k = Safely true false (parts_of login Reset) p o refl (queries_safe Reset true (setup_texts login) (Flag true ∷ []) refl) w (λ _. k refl)
+begins_fine login (ChangeUser change) ms p o w k = Safely true false (parts_of login (ChangeUser change)) p o refl (queries_safe (ChangeUser change) true (setup_texts login) [] refl) w (λ _. k refl)
+begins_fine login ResetForPool ms p o w k = Safely true false (parts_of login ResetForPool) p o refl (queries_safe ResetForPool true (setup_texts login) [] refl) w (λ _. k refl)
+begins_fine login (Begin opts) ms p o w k = Safely true false (parts_of login (Begin opts)) p o refl (queries_safe (Begin opts) true (begin_texts opts) (Settle InTransaction ∷ []) refl) w (λ _. k refl)
+begins_fine login NextRow ms p o w k = Reading p o refl w (k refl)
+begins_fine login TakeSet ms p o w k = Taking p o refl w (k refl)
+begins_fine login DropResult ms p o w k = Passing All p o Drops w (k refl)
+begins_fine login SkipTaken ms p o w k = Passing Rest p o Skips w (k refl)
+begins_fine login (Query text) ms p o w k = Safely true false (parts_of login (Query text)) p o refl refl w (λ _. k refl)
+begins_fine login (Prepare text) ms p o w k = Safely true false (parts_of login (Prepare text)) p o refl refl w (λ _. k refl)
+begins_fine login (CloseStmt id) ms p o w k = Safely true false (parts_of login (CloseStmt id)) p o refl refl w (λ _. k refl)
+begins_fine login Ping ms p o w k = Safely true false (parts_of login Ping) p o refl refl w (λ _. k refl)
+begins_fine login Commit ms p o w k = Safely true false (parts_of login Commit) p o refl refl w (λ _. k refl)
+begins_fine login Rollback ms p o w k = Safely true false (parts_of login Rollback) p o refl refl w (λ _. k refl)
+begins_fine login ForgetTransaction ms p o w k = Safely true false (parts_of login ForgetTransaction) p o refl refl w (λ _. k refl)
+begins_fine login CleanForPool ms p o w k = Safely true false (parts_of login CleanForPool) p o refl refl w (λ _. k refl)
+begins_fine login Quit ms p o w k = Safely true false (parts_of login Quit) p o refl refl w (λ _. k refl)
 
 -- what a call on a closed session returns gives nothing
 closed_same : (c : Call) (gs : List (List Group)) → given_after (closed_answer c) (kind_of c) gs ≡ gs
@@ -173,7 +194,7 @@ cancelled_reads CleanForPool p e = absurd (cc)
 cancelled_reads ResetForPool p e = absurd (cc)
 cancelled_reads Quit p e = absurd (cc)
 
-module _ (login : Login) (s : Span) (known : is_known s.call ≡ true) (h : Halt) (mid : List Made) where
+module _ (login : Login) (s : Span) (h : Halt) (mid : List Made) where
   abbrev call : ReadCall
   call = record { span = s; closed = false; halt = h }
 
@@ -184,12 +205,25 @@ module _ (login : Login) (s : Span) (known : is_known s.call ≡ true) (h : Halt
   so : (t : Told) → s.ending ≡ Some t → Rests (closes t (kind_of s.call)) (returned_so s.call t mid) h.place → Ended
   so t e r = inr (subst (λ (x : Option Told). Rests (is_closing s.call x) (with_ending s.call x mid) h.place) (sym e) r)
 
+  -- where the link failed the session is closed
+  lost : (e : Error) → closes (ToldError e) (kind_of s.call) ≡ true → IsHalted s.call mid h.place → Rests (closes (ToldError e) (kind_of s.call)) (returned_so s.call (ToldError e) mid) h.place
+  lost e closing r = record {
+    share = r.share;
+    gave = shifted (not (reads_sets s.call)) (closes (ToldError e) (kind_of s.call)) (returned_so s.call (ToldError e) mid) h.place.talk h.place.older h.place.trial r.share (λ x. absurd (cc)) (told_gave s.call mid (not (reads_sets s.call)) (ToldError e) h.place r.share refl r.gave);
+    kept = λ x. absurd (cc);
+  }
+
   cut_ended : IsHalted s.call mid h.place → IsCut login call → Ended
   cut_ended r (IsOpen e) = inl (e, r)
   cut_ended r (IsCancelled e) = so (Dropped (closes_cancelled (kind_of s.call) h.place)) e
-      (record { share = r.share; gave = told_gave s.call mid known (Dropped (closes_cancelled (kind_of s.call) h.place)) h.place r.share refl r.gave; kept = λ x. r.kept (cancelled_reads s.call h.place x) })
-  cut_ended r (IsLinkFailure e) = so _ e (record { share = r.share; gave = told_gave s.call mid known _ h.place r.share refl r.gave; kept = λ x. absurd (cc) })
-  cut_ended r (IsLinkEnd a e) = so _ e (record { share = r.share; gave = told_gave s.call mid known _ h.place r.share refl r.gave; kept = λ x. absurd (cc) })
+      (record {
+        share = r.share;
+        gave = shifted (not (reads_sets s.call)) (closes_cancelled (kind_of s.call) h.place) (returned_so s.call (Dropped (closes_cancelled (kind_of s.call) h.place)) mid) h.place.talk h.place.older h.place.trial r.share (cancelled_reads s.call h.place)
+            (told_gave s.call mid (not (reads_sets s.call)) (Dropped (closes_cancelled (kind_of s.call) h.place)) h.place r.share refl r.gave);
+        kept = λ x. r.kept (cancelled_reads s.call h.place x);
+      })
+  cut_ended r (IsLinkFailure e) = so _ e (lost _ refl r)
+  cut_ended r (IsLinkEnd a e) = so _ e (lost _ refl r)
 
   call_ended : (stop : Stop) → Stopped s.call mid h.place stop → Ends login call stop → Ended
   call_ended Owes w e = cut_ended w e
@@ -201,10 +235,10 @@ record Stood (ms : List Made) (ss : List Span) (p : Place) : Type 0 where
   pub made : List Made
   pub of_calls : AreMade ms ss made
   pub share : Option (List Group)
-  pub gave : GaveAt made p share
+  pub gave : GaveAt true made p share
 
-here_stood : (ms : List Made) (p : Place) (o : Option (List Group)) → GaveAt ms p o → Stood ms [] p
-here_stood ms p o w = record { made = ms; of_calls = NoCalls ms; share = o; gave = w }
+here_stood : (closed : Bool) (ms : List Made) (p : Place) (o : Option (List Group)) → GaveAt closed ms p o → Stood ms [] p
+here_stood closed ms p o w = record { made = ms; of_calls = NoCalls ms; share = o; gave = shifted closed true ms p.talk p.older p.trial o (λ x. absurd (cc)) w }
 
 before_stood : (ms mid : List Made) (s : Span) (ss : List Span) (p : Place) → Passed s.call ms mid → Stood (with_ending s.call s.ending mid) ss p → Stood ms (s ∷ ss) p
 before_stood ms mid s ss p passed w = record { made = w.made; of_calls = OneCall ms mid w.made s ss passed w.of_calls; share = w.share; gave = w.gave }
@@ -217,14 +251,14 @@ rest_ended s (t ∷ ss) e = (both (is_some s.ending) (have_ended (t ∷ ss)) e).
 open_stood : (login : Login) (s : Span) (ss : List Span) (closed : Bool) (ms mid : List Made) (p : Place) → have_ended (s ∷ ss) ≡ true → s.ending ≡ None → Passed s.call ms mid → IsHalted s.call mid p → Stood ms (s ∷ ss) (read_calls login ss closed p).place
 unfolding read_calls
 open_stood login s [] closed ms mid p ended none passed r = before_stood ms mid s [] p passed
-    (subst (λ (x : Option Told). Stood (with_ending s.call x mid) [] p) (sym none) (here_stood mid p r.share r.gave))
+    (subst (λ (x : Option Told). Stood (with_ending s.call x mid) [] p) (sym none) (here_stood (not (reads_sets s.call)) mid p r.share r.gave))
 open_stood login s (t ∷ ss) closed ms mid p ended none passed r =
     let some : is_some s.ending ≡ true = (both (is_some s.ending) (have_ended (t ∷ ss)) ended).0 in
     let no : is_some s.ending ≡ false = ap is_some none in
     absurd (cc)
 
-closed_gave : (s : Span) (ms : List Made) (p : Place) (o : Option (List Group)) → is_known s.call ≡ true → s.ending ≡ Some (closed_answer s.call) → GaveAt ms p o → GaveAt (with_ending s.call s.ending ms) p o
-closed_gave s ms p o known e w = subst (λ (x : Option Told). GaveAt (with_ending s.call x ms) p o) (sym e) (told_gave s.call ms known (closed_answer s.call) p o (closed_same s.call (given ms)) w)
+closed_gave : (s : Span) (ms : List Made) (p : Place) (o : Option (List Group)) → s.ending ≡ Some (closed_answer s.call) → GaveAt true ms p o → GaveAt true (with_ending s.call s.ending ms) p o
+closed_gave s ms p o e w = subst (λ (x : Option Told). GaveAt true (with_ending s.call x ms) p o) (sym e) (told_gave s.call ms true (closed_answer s.call) p o (closed_same s.call (given ms)) w)
 
 -- after one call
 ended_stood : (login : Login) (s : Span) (ss : List Span) (ms : List Made) (h : Halt) (mid : List Made) → have_ended (s ∷ ss) ≡ true → Passed s.call ms mid
@@ -234,25 +268,22 @@ ended_stood : (login : Login) (s : Span) (ss : List Span) (ms : List Made) (h : 
 ended_stood login s ss ms h mid ended passed go (inl cut) = open_stood login s ss (is_closing s.call s.ending) ms mid h.place ended cut.0 passed cut.1
 ended_stood login s ss ms h mid ended passed go (inr r) = before_stood ms mid s ss _ passed (go r)
 
-calls_stood : (login : Login) (ss : List Span) (closed : Bool) (ms : List Made) (p : Place) (o : Option (List Group)) → GaveAt ms p o → (closed ≡ false → connects ss ≡ false → KeptAt p o)
-    → have_ended ss ≡ true → are_known ss ≡ true → AreCalls login (read_calls login ss closed p).calls → Stood ms ss (read_calls login ss closed p).place
+calls_stood : (login : Login) (ss : List Span) (closed : Bool) (ms : List Made) (p : Place) (o : Option (List Group)) → GaveAt closed ms p o → (closed ≡ false → connects ss ≡ false → KeptAt p o)
+    → have_ended ss ≡ true → AreCalls login (read_calls login ss closed p).calls → Stood ms ss (read_calls login ss closed p).place
 unfolding read_calls
-calls_stood login [] closed ms p o w k ended known calls = here_stood ms p o w
-calls_stood login (s ∷ ss) true ms p o w k ended known calls =
-    let knows = both (is_known s.call) (are_known ss) known in
-    before_stood ms ms s ss _ NonePassed
-    (calls_stood login ss true (with_ending s.call s.ending ms) (with_bytes s.sent s.taken p) o (closed_gave s ms (with_bytes s.sent s.taken p) o knows.0 calls.0.ends w) (λ e _. absurd (cc)) (rest_ended s ss ended) knows.1 calls.1)
-calls_stood login (s ∷ ss) false ms p o w k ended known calls =
-    let knows = both (is_known s.call) (are_known ss) known in
+calls_stood login [] closed ms p o w k ended calls = here_stood closed ms p o w
+calls_stood login (s ∷ ss) true ms p o w k ended calls = before_stood ms ms s ss _ NonePassed
+    (calls_stood login ss true (with_ending s.call s.ending ms) (with_bytes s.sent s.taken p) o (closed_gave s ms (with_bytes s.sent s.taken p) o calls.0.ends w) (λ e _. absurd (cc)) (rest_ended s ss ended) calls.1)
+calls_stood login (s ∷ ss) false ms p o w k ended calls =
     let q : Place = with_bytes s.sent s.taken p in
     let h : Halt = course login s.call q in
-    let ran = run_fine (enough login s.call q) login s.call knows.0 ms ms NonePassed (Goes (parts_of login s.call) q) (ms, NonePassed, begins_fine login s.call knows.0 ms q o w (k refl)) in
+    let ran = run_fine (enough login s.call q) login s.call ms ms NonePassed (Goes (parts_of login s.call) q) (ms, NonePassed, begins_fine login s.call ms q o w (k refl)) in
     ended_stood login s ss ms h ran.0 ended ran.1
-    (λ r. calls_stood login ss (is_closing s.call s.ending) (with_ending s.call s.ending ran.0) h.place r.share r.gave (λ e _. r.kept e) (rest_ended s ss ended) knows.1 calls.1)
-    (call_ended login s knows.0 h ran.0 h.stop ran.2 calls.0.ends)
+    (λ r. calls_stood login ss (is_closing s.call s.ending) (with_ending s.call s.ending ran.0) h.place r.share r.gave (λ e _. r.kept e) (rest_ended s ss ended) calls.1)
+    (call_ended login s h ran.0 h.stop ran.2 calls.0.ends)
 
 pub prefixes_are_given : PrefixesAreGiven
-prefixes_are_given login ss ended known first calls =
-    let w = calls_stood login ss false [] (first_place login) None (record { olds = []; given_is = refl; newest = tt; each = tt; fits = record { kinds = tt; within = tt }; off = refl })
-    (λ _ e. absurd (let no : connects ss ≡ true = first in cc)) ended known calls in
+prefixes_are_given login ss ended first calls =
+    let w = calls_stood login ss false [] (first_place login) None (record { olds = []; given_is = refl; newest = tt; each = tt; fits = record { kinds = tt; within = tt }; off = λ x. refl })
+    (λ _ e. absurd (let no : connects ss ≡ true = first in cc)) ended calls in
     record { made = w.made; of_calls = w.of_calls; shares = w.share ∷ w.gave.olds; given_is = w.gave.given_is; each = (w.gave.newest, w.gave.each) }

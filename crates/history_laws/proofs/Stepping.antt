@@ -10,7 +10,9 @@ use Rattle.my_grammar.specs.declared.spot.Kind.TheVariants as kinds
 use Rattle.my_grammar.specs.declared.spot.Terms.{Terms}
 use Rattle.my_grammar.specs.Cut.{is_over, kind_of as payload_kind}
 use Rattle.my_grammar.specs.Growth.{Grows, grow}
-use Rattle.my_grammar.specs.Talk.{Talk, Queried, Silent, Fits, context_of}
+use Rattle.my_grammar.specs.Sets.{Asking, ByStatement, ByText, NoSets}
+use Rattle.my_grammar.specs.Prepares.{Unanswered}
+use Rattle.my_grammar.specs.Talk.{Talk, Preparing, Queried, Silent, Fits, context_of}
 use Rattle.my_handshake.specs.Version.{version_of}
 use Rattle.my_reading.specs.declared.call.Call.{Call}
 use Rattle.my_reading.specs.declared.call.Call.TheVariants.{Connect, Query, Prepare, Execute, Batch, CloseStmt, NextRow, DropResult, TakeSet, SkipTaken, Ping, Reset, ChangeUser, Begin, Commit, Rollback, ForgetTransaction, CleanForPool, ResetForPool, Quit}
@@ -21,54 +23,59 @@ use Rattle.my_reading.specs.declared.error.Error.TheVariants.{Driver, Io, Server
 use Rattle.my_reading.specs.declared.error.IoError.{IoError}
 use Rattle.my_reading.specs.declared.error.ServerError.{ServerError}
 use Rattle.my_reading.specs.declared.transaction.Trial.{Trial}
-use Rattle.my_reading.specs.declared.transaction.Trial.TheVariants.{Off}
+use Rattle.my_reading.specs.declared.transaction.Trial.TheVariants.{Off, On, Refused}
+use Rattle.my_reading.specs.declared.transaction.TxStatus.TheVariants.{RequiresRollback}
 use Rattle.my_reply.specs.declared.err.ErrPacket.{ErrPacket}
 use Rattle.my_params.specs.declared.params.Params.{Params}
+use Rattle.my_params.specs.LongData.{ahead_of}
+use Rattle.my_params.specs.Parameters.{body_of}
 use Rattle.my_reading.specs.Accounts.{changed}
-use Rattle.my_reading.specs.Calls.{id_in, kind_of, statement_in}
+use Rattle.my_reading.specs.Calls.{id_in, kind_of, statement_in, text_in}
 use Rattle.my_reading.specs.Commands.{arranging, arranging_texts, closing, execution, opening, queried}
-use Rattle.my_reading.specs.Course.{Part, All, Head, Item, Set, Rest, Command, Find, Check, Run, Reply, Keep, Give, Learn, Forget, Offered, Clear, Text, Flag, Adopt, Renew, Drain, Undo, Undone, Refuse, Settle, GiveUp, Try, Back, Step, Goes, Stops, Stop, Owes, Awaits, Returns, after_kind, checked, executed, failure, is_rows, learned, offered, reads, refused_at, renewing, step, step_of, undone, unless_owed, unless_refused, with_command}
-use Rattle.my_reading.specs.Errors.{server_error}
+use Rattle.my_reading.specs.Course.{Part, All, Head, Item, Set, Rest, Command, Find, Check, Run, Reply, Keep, Give, Learn, Forget, Offered, Clear, Text, Flag, Adopt, Renew, Drain, Undo, Undone, Refuse, Settle, GiveUp, Try, Back, Step, Goes, Stops, Stop, Owes, Awaits, Returns, after_kind, checked, closing_of, executed, failure, found, is_rows, kept, learned, looked_for, offered, reads, refused_at, renewing, returned, step, step_of, undone, unless_owed, unless_refused, with_command}
+use Rattle.my_reading.specs.Errors.{mixed_params, server_error}
+use Rattle.my_reading.specs.Facts.{prepared_by}
 use Rattle.my_reading.specs.Executions.{Values, Fitting, Unfitting, values_for}
 use Rattle.my_reading.specs.Place.{Place, connects_in, exchanges, facts_at, next_exchange, owed, terms_of, with_account, with_end, with_exchange, with_statements, with_status, with_talk, with_trial, without_end}
-use Rattle.my_reading.specs.Statements.{Statements, cleared, with_columns, without_statement}
-use Rattle.my_reading.specs.Told.{Told, ToldReady, ToldRow, ToldEnd, ToldNone, ToldStatement, ToldFlag, ToldError}
+use Rattle.my_reading.specs.Statements.{Statements, cleared, held_in, is_mixed_text, known_in, leaving, names_of, query_of, statement_with, with_columns, with_fetched, with_prepared, without_statement}
+use Rattle.my_statements.specs.Cache.{Held}
+use Rattle.my_reading.specs.Told.{Told, ToldReady, ToldRow, ToldEnd, ToldNone, ToldStatement, ToldFlag, ToldError, closes}
 use Rattle.my_reading.specs.Transactions.{begin_refusal, given_up, is_given_up, rollback_text, rolled_back}
 use Rattle.my_reading.specs.Versions.{can_reset}
 use Rattle.my_opts_parts.specs.TransactionOptions.{TxView}
-use Rattle.history_laws.specs.Given.{IsGiven, Passed, givens, onto, is_known}
+use Rattle.history_laws.specs.Given.{IsGiven, Passed, givens, onto}
 use Rattle.history_laws.specs.Given.{NonePassed}
 use Rattle.history_laws.specs.Groups.{Group, Made, given, given_after, groups, ready_given}
 use Rattle.history_laws.proofs.Growing.{failed_over, given_on}
 use Rattle.history_laws.proofs.Having.{Comes, begun_has, command_has, drains_have, either, reads_have, row_at}
-use Rattle.history_laws.proofs.Phases.{Gave, GaveAt, IsFine, IsFresh, IsHalted, IsKept, KeptAt, Phase, Rests, Stopped, Safely, Heading, Answering, after_command, is_head, is_query, is_safe, reads_sets, returned_so}
+use Rattle.history_laws.proofs.Phases.{Gave, GaveAt, IsFine, IsFresh, IsHalted, IsKept, KeptAt, Phase, Rests, Stopped, Safely, Heading, Answering, Replying, Backing, after_command, is_back, is_fitting, is_head, is_query, is_reply, is_safe, is_tail, may_return, reads_sets, returned_so, settled, shifted}
 
 pub both : (a b : Bool) → (a && b) ≡ true → (a ≡ true) × (b ≡ true)
 both true b e = (refl, e)
 both false b e = cc
 
 -- what returns nothing of a set gives nothing
-ready_same : (c : Call) → is_known c ≡ true → is_query c ≡ false → (gs : List (List Group)) → ready_given (kind_of c) gs ≡ gs
-ready_same Connect known other gs = refl
-ready_same (Query text) known other gs = cc
-ready_same (Prepare text) known other gs = refl
-ready_same (Execute statement params) known other gs = cc
-ready_same (Batch statement lists) known other gs = refl
-ready_same (CloseStmt id) known other gs = refl
-ready_same NextRow known other gs = refl
-ready_same DropResult known other gs = refl
-ready_same TakeSet known other gs = refl
-ready_same SkipTaken known other gs = refl
-ready_same Ping known other gs = refl
-ready_same Reset known other gs = refl
-ready_same (ChangeUser change) known other gs = refl
-ready_same (Begin opts) known other gs = refl
-ready_same Commit known other gs = refl
-ready_same Rollback known other gs = refl
-ready_same ForgetTransaction known other gs = refl
-ready_same CleanForPool known other gs = refl
-ready_same ResetForPool known other gs = refl
-ready_same Quit known other gs = refl
+ready_same : (c : Call) → is_query c ≡ false → (gs : List (List Group)) → ready_given (kind_of c) gs ≡ gs
+ready_same Connect other gs = refl
+ready_same (Query text) other gs = cc
+ready_same (Prepare text) other gs = refl
+ready_same (Execute statement params) other gs = cc
+ready_same (Batch statement lists) other gs = refl
+ready_same (CloseStmt id) other gs = refl
+ready_same NextRow other gs = refl
+ready_same DropResult other gs = refl
+ready_same TakeSet other gs = refl
+ready_same SkipTaken other gs = refl
+ready_same Ping other gs = refl
+ready_same Reset other gs = refl
+ready_same (ChangeUser change) other gs = refl
+ready_same (Begin opts) other gs = refl
+ready_same Commit other gs = refl
+ready_same Rollback other gs = refl
+ready_same ForgetTransaction other gs = refl
+ready_same CleanForPool other gs = refl
+ready_same ResetForPool other gs = refl
+ready_same Quit other gs = refl
 
 -- exchanges that begin are ones that the protocol has
 some_same : (u t : Talk) → Some u ≡ Some t → u ≡ t
@@ -109,8 +116,8 @@ opened_fits login terms st ResetForPool n t e = cc
 opened_fits login terms st Quit n t e = some_fits _ t (record { kinds = tt; within = tt }) e
 
 -- more is read of the newest exchange
-pub grown_gave : (ms : List Made) (p : Place) (o : Option (List Group)) (k : Kind) (q : List ℕ) → Comes p k q → GaveAt ms p o → Gave ms (grow k p.talk q) p.older p.trial o
-grown_gave ms p o k q c w = record {
+pub grown_gave : (trying : Bool) (ms : List Made) (p : Place) (o : Option (List Group)) (k : Kind) (q : List ℕ) → Comes p k q → GaveAt trying ms p o → Gave trying ms (grow k p.talk q) p.older p.trial o
+grown_gave trying ms p o k q c w = record {
   olds = w.olds;
   given_is = w.given_is;
   newest = given_on o p.talk k q w.newest;
@@ -120,183 +127,307 @@ grown_gave ms p o k q c w = record {
 }
 
 -- an exchange more
-begun_gave : (ms : List Made) (p : Place) (o : Option (List Group)) (t : Talk) → Fits t → GaveAt ms p o → Gave ms t (exchanges p) p.trial None
-begun_gave ms p o t f w = record { olds = o ∷ w.olds; given_is = w.given_is; newest = tt; each = (w.newest, w.each); fits = f; off = w.off }
+begun_gave : (trying : Bool) (ms : List Made) (p : Place) (o : Option (List Group)) (t : Talk) → Fits t → GaveAt trying ms p o → Gave trying ms t (exchanges p) p.trial None
+begun_gave trying ms p o t f w = record { olds = o ∷ w.olds; given_is = w.given_is; newest = tt; each = (w.newest, w.each); fits = f; off = w.off }
 
-module _ (c : Call) (ms : List Made) (known : is_known c ≡ true) where
+module _ (c : Call) (ms : List Made) where
   -- what is told gives nothing more
-  pub told_gave : (t : Told) (p : Place) (o : Option (List Group)) → given_after t (kind_of c) (given ms) ≡ given ms → GaveAt ms p o → GaveAt (returned_so c t ms) p o
-  told_gave t p o e w = record { olds = w.olds; given_is = e ∙ w.given_is; newest = w.newest; each = w.each; fits = w.fits; off = w.off }
+  pub told_gave : (trying : Bool) (t : Told) (p : Place) (o : Option (List Group)) → given_after t (kind_of c) (given ms) ≡ given ms → GaveAt trying ms p o → GaveAt trying (returned_so c t ms) p o
+  told_gave trying t p o e w = record { olds = w.olds; given_is = e ∙ w.given_is; newest = w.newest; each = w.each; fits = w.fits; off = w.off }
 
-  pub faults_fine : (p : Place) (o : Option (List Group)) → GaveAt ms p o → (e : IoError) → IsFine c ms (failure p (Io e))
-  faults_fine p o w e = record { share = o; gave = told_gave (ToldError (Io e)) p o refl w; kept = λ x. absurd (cc) }
+  pub faults_fine : (trying : Bool) (p : Place) (o : Option (List Group)) → GaveAt trying ms p o → (e : IoError) → IsFine c ms (failure p (Io e))
+  faults_fine trying p o w e = record {
+    share = o;
+    gave = shifted trying true (returned_so c (ToldError (Io e)) ms) p.talk p.older p.trial o (λ x. absurd (cc)) (told_gave trying (ToldError (Io e)) p o refl w);
+    kept = λ x. absurd (cc);
+  }
 
-  error_fine : (p : Place) (o : Option (List Group)) → GaveAt ms p o → KeptAt p o → (e : Error) → IsFine c ms (failure p e)
-  error_fine p o w k e = record { share = o; gave = told_gave (ToldError e) p o refl w; kept = λ x. k }
+  -- an error that leaves a session open, if it does, as it was
+  pub error_fine : (p : Place) (o : Option (List Group)) → GaveAt false ms p o → KeptAt p o → (e : Error) → IsFine c ms (failure p e)
+  error_fine p o w k e = record {
+    share = o;
+    gave = shifted false (closes (ToldError e) (kind_of c)) (returned_so c (ToldError e) ms) p.talk p.older p.trial o (λ x. refl) (told_gave false (ToldError e) p o refl w);
+    kept = λ x. k;
+  }
 
-  pub refused_fine : (x : Trial) (new : Place) (o : Option (List Group)) (e : ServerError) → x ≡ Off → GaveAt ms new o → is_over new.talk ≡ true → new.end_left ≡ false → IsFine c ms (refused_at x new e)
+  pub refused_fine : (x : Trial) (new : Place) (o : Option (List Group)) (e : ServerError) → x ≡ Off → GaveAt false ms new o → is_over new.talk ≡ true → new.end_left ≡ false → IsFine c ms (refused_at x new e)
   refused_fine x new o e off w over none = subst (λ (y : Trial). IsFine c ms (refused_at y new e)) (sym off) (error_fine new o w (inl (over, none)) (Server e))
 
-module _ (login : Login) (c : Call) (ms : List Made) (known : is_known c ≡ true) (plain : reads_sets c ≡ false) where
-  at : (kept : Bool) (parts : List Part) (p : Place) (o : Option (List Group)) → is_safe c kept parts ≡ true → GaveAt ms p o → (kept ≡ true → KeptAt p o) → IsFine c ms (Goes parts p)
-  at kept parts p o e w k = (ms, NonePassed, Safely kept parts p o plain e w k)
+  -- an ERR while a transaction is being committed, or none is
+  pub tried_fine : reads_sets c ≡ false → (trying : Bool) (x : Trial) (new : Place) (o : Option (List Group)) (e : ServerError) → x ≡ new.trial → GaveAt trying ms new o → is_over new.talk ≡ true → new.end_left ≡ false → IsFine c ms (refused_at x new e)
+  tried_fine plain trying Off new o e is w over none = error_fine new o (settled trying false ms new.talk new.older new.trial o (sym is) w) (inl (over, none)) (Server e)
+  tried_fine plain trying On new o e is w over none = (
+    ms,
+    NonePassed,
+    Backing (Undo ∷ Back ∷ []) e (with_trial (Refused e) (with_status RequiresRollback new)) o plain refl none refl
+        (record { olds = w.olds; given_is = w.given_is; newest = w.newest; each = w.each; fits = w.fits; off = λ x. absurd (cc) }),
+  )
+  tried_fine plain trying (Refused first) new o e is w over none =
+      error_fine (with_trial Off new) o (record { olds = w.olds; given_is = w.given_is; newest = w.newest; each = w.each; fits = w.fits; off = λ x. refl }) (inl (over, none)) (Server first)
 
-  loose : (parts : List Part) (p : Place) (o : Option (List Group)) → is_safe c false parts ≡ true → GaveAt ms p o → IsFine c ms (Goes parts p)
-  loose parts p o e w = at false parts p o e w (λ x. absurd (cc))
+not_true : (b : Bool) → not b ≡ true → b ≡ false
+not_true true e = cc
+not_true false e = refl
 
-  halted : (p : Place) (o : Option (List Group)) → GaveAt ms p o → IsHalted c ms p
-  halted p o w = record { share = o; gave = w; kept = λ x. absurd (cc) }
+pub or_right : (a b : Bool) → b ≡ true → (a || b) ≡ true
+or_right true b e = refl
+or_right false b e = e
 
-  told_fine : (t : Told) (p : Place) (o : Option (List Group)) → given_after t (kind_of c) (given ms) ≡ given ms → GaveAt ms p o → KeptAt p o → Stopped c ms p (Returns t)
-  told_fine t p o e w k = record { share = o; gave = told_gave c ms known t p o e w; kept = λ x. k }
+-- what may return rests, and nothing is being committed
+rests : (kept trying : Bool) → may_return kept trying ≡ true → (kept ≡ true) × (trying ≡ false)
+rests kept trying e = let x = both kept (not trying) e in (x.0, not_true trying x.1)
 
-  ready_fine : (kept : Bool) (p : Place) (o : Option (List Group)) → is_safe c kept [] ≡ true → GaveAt ms p o → (kept ≡ true → KeptAt p o) → Stopped c ms p (Returns ToldReady)
-  ready_fine kept p o e w k = let x = both kept (not (is_query c)) e in told_fine ToldReady p o (ready_same c known (not_true (is_query c) x.1) (given ms)) w (k x.0)
-    where
-      not_true : (b : Bool) → not b ≡ true → b ≡ false
-      not_true true e = cc
-      not_true false e = refl
+module _ (login : Login) (c : Call) (ms : List Made) (plain : reads_sets c ≡ false) where
+  at : (kept trying : Bool) (parts : List Part) (p : Place) (o : Option (List Group)) → is_safe c kept trying parts ≡ true → GaveAt trying ms p o → (kept ≡ true → KeptAt p o) → IsFine c ms (Goes parts p)
+  at kept trying parts p o e w k = (ms, NonePassed, Safely kept trying parts p o plain e w k)
+
+  loose : (trying : Bool) (parts : List Part) (p : Place) (o : Option (List Group)) → is_safe c false trying parts ≡ true → GaveAt trying ms p o → IsFine c ms (Goes parts p)
+  loose trying parts p o e w = at false trying parts p o e w (λ x. absurd (cc))
+
+  halted : (trying : Bool) (p : Place) (o : Option (List Group)) → GaveAt trying ms p o → IsHalted c ms p
+  halted trying p o w =
+      let closed : not (reads_sets c) ≡ true = ap not plain in
+      record { share = o; gave = shifted trying (not (reads_sets c)) ms p.talk p.older p.trial o (λ x. absurd (cc)) w; kept = λ x. absurd (cc) }
+
+  of_trying : (trying : Bool) (p : Place) (o : Option (List Group)) → trying ≡ false → GaveAt trying ms p o → GaveAt false ms p o
+  of_trying trying p o none w = shifted trying false ms p.talk p.older p.trial o (λ x. none) w
+
+  told_fine : (t : Told) (p : Place) (o : Option (List Group)) → given_after t (kind_of c) (given ms) ≡ given ms → GaveAt false ms p o → KeptAt p o → Stopped c ms p (Returns t)
+  told_fine t p o e w k = record {
+    share = o;
+    gave = shifted false (closes t (kind_of c)) (returned_so c t ms) p.talk p.older p.trial o (λ x. refl) (told_gave c ms false t p o e w);
+    kept = λ x. k;
+  }
+
+  ready_fine : (kept trying : Bool) (p : Place) (o : Option (List Group)) → is_safe c kept trying [] ≡ true → GaveAt trying ms p o → (kept ≡ true → KeptAt p o) → Stopped c ms p (Returns ToldReady)
+  ready_fine kept trying p o e w k =
+      let x = both (may_return kept trying) (not (is_query c)) e in
+      let r = rests kept trying x.0 in
+      told_fine ToldReady p o (ready_same c (not_true (is_query c) x.1) (given ms)) (of_trying trying p o r.1 w) (k r.0)
 
   -- the rest of an exchange is read
-  stays_fine : (part : Part) (parts : List Part) (p : Place) (o : Option (List Group)) → is_safe c false (part ∷ parts) ≡ true → GaveAt ms p o
+  stays_fine : (trying : Bool) (part : Part) (parts : List Part) (p : Place) (o : Option (List Group)) → is_safe c false trying (part ∷ parts) ≡ true → GaveAt trying ms p o
       → (k : Kind) (q rest : List ℕ) → Comes p k q → IsFine c ms (Goes (part ∷ parts) (with_talk p (grow k p.talk q) rest))
-  stays_fine part parts p o e w k q rest come = loose (part ∷ parts) (with_talk p (grow k p.talk q) rest) o e (grown_gave ms p o k q come w)
+  stays_fine trying part parts p o e w k q rest come = loose trying (part ∷ parts) (with_talk p (grow k p.talk q) rest) o e (grown_gave trying ms p o k q come w)
 
-  errs_fine : (p : Place) (o : Option (List Group)) → GaveAt ms p o → (q rest : List ℕ) → Comes p kinds.Failed q → (e : ErrPacket) → IsFine c ms (refused_at p.trial (with_talk p (grow kinds.Failed p.talk q) rest) (server_error e))
-  errs_fine p o w q rest come e = refused_fine c ms known p.trial (with_talk p (grow kinds.Failed p.talk q) rest) o (server_error e) w.off (grown_gave ms p o kinds.Failed q come w) (failed_over p.talk q) refl
+  errs_fine : (trying : Bool) (p : Place) (o : Option (List Group)) → GaveAt trying ms p o → (q rest : List ℕ) → Comes p kinds.Failed q → (e : ErrPacket) → IsFine c ms (refused_at p.trial (with_talk p (grow kinds.Failed p.talk q) rest) (server_error e))
+  errs_fine trying p o w q rest come e =
+      tried_fine c ms plain trying p.trial (with_talk p (grow kinds.Failed p.talk q) rest) o (server_error e) refl (grown_gave trying ms p o kinds.Failed q come w) (failed_over p.talk q) refl
 
-  all_fine : (parts : List Part) (p : Place) (o : Option (List Group)) → is_safe c true parts ≡ true → GaveAt ms p o → IsFine c ms (step_of login c (All ∷ parts) p)
-  all_fine parts p o e w = either (IsFine c ms) p.end_left _ _ (λ _. loose (All ∷ parts) (without_end p) o e w)
-      (λ none. either (IsFine c ms) (is_over p.talk) _ _ (λ over. at true parts p o e w (λ _. inl (over, none)))
-      (λ _. reads_have (IsFine c ms) p (faults_fine c ms known p o w) login All parts refl (halted p o w) (λ k _. stays_fine All parts p o e w k) (stays_fine All parts p o e w) (errs_fine p o w)))
+  all_fine : (trying : Bool) (parts : List Part) (p : Place) (o : Option (List Group)) → is_safe c true trying parts ≡ true → GaveAt trying ms p o → IsFine c ms (step_of login c (All ∷ parts) p)
+  all_fine trying parts p o e w = either (IsFine c ms) p.end_left _ _ (λ _. loose trying (All ∷ parts) (without_end p) o e w)
+      (λ none. either (IsFine c ms) (is_over p.talk) _ _ (λ over. at true trying parts p o e w (λ _. inl (over, none)))
+      (λ _. reads_have (IsFine c ms) p (faults_fine c ms trying p o w) login All parts refl (halted trying p o w) (λ k _. stays_fine trying All parts p o e w k) (stays_fine trying All parts p o e w) (errs_fine trying p o w)))
 
-  drain_fine : (parts : List Part) (p : Place) (o : Option (List Group)) → is_safe c true parts ≡ true → GaveAt ms p o → IsFine c ms (step_of login c (Drain ∷ parts) p)
-  drain_fine parts p o e w = either (IsFine c ms) p.end_left _ _ (λ _. loose (Drain ∷ parts) (without_end p) o e w)
-      (λ none. either (IsFine c ms) (is_over p.talk) _ _ (λ over. at true parts p o e w (λ _. inl (over, none)))
-      (λ _. drains_have (IsFine c ms) p (faults_fine c ms known p o w) login parts (halted p o w) (stays_fine Drain parts p o e w)))
+  drain_fine : (trying : Bool) (parts : List Part) (p : Place) (o : Option (List Group)) → is_safe c true trying parts ≡ true → GaveAt trying ms p o → IsFine c ms (step_of login c (Drain ∷ parts) p)
+  drain_fine trying parts p o e w = either (IsFine c ms) p.end_left _ _ (λ _. loose trying (Drain ∷ parts) (without_end p) o e w)
+      (λ none. either (IsFine c ms) (is_over p.talk) _ _ (λ over. at true trying parts p o e w (λ _. inl (over, none)))
+      (λ _. drains_have (IsFine c ms) p (faults_fine c ms trying p o w) login parts (halted trying p o w) (stays_fine trying Drain parts p o e w)))
 
-  head_stays : (parts : List Part) (p : Place) (o : Option (List Group)) → is_safe c false parts ≡ true → GaveAt ms p o
+  head_stays : (trying : Bool) (parts : List Part) (p : Place) (o : Option (List Group)) → is_safe c false trying parts ≡ true → GaveAt trying ms p o
       → (k : Kind) (q rest : List ℕ) → Comes p k q → IsFine c ms (after_kind Head parts k (with_talk p (grow k p.talk q) rest) (row_at login p q))
-  head_stays parts p o e w (kinds.Good s) q rest come = loose parts (with_end (with_talk p (grow (kinds.Good s) p.talk q) rest)) o e (grown_gave ms p o (kinds.Good s) q come w)
-  head_stays parts p o e w (kinds.Greets n) q rest come = stays_fine Head parts p o e w (kinds.Greets n) q rest come
-  head_stays parts p o e w kinds.Failed q rest come = stays_fine Head parts p o e w kinds.Failed q rest come
-  head_stays parts p o e w (kinds.Count n) q rest come = stays_fine Head parts p o e w (kinds.Count n) q rest come
-  head_stays parts p o e w kinds.Column q rest come = stays_fine Head parts p o e w kinds.Column q rest come
-  head_stays parts p o e w kinds.ColumnsDone q rest come = stays_fine Head parts p o e w kinds.ColumnsDone q rest come
-  head_stays parts p o e w kinds.Row q rest come = stays_fine Head parts p o e w kinds.Row q rest come
-  head_stays parts p o e w (kinds.End s) q rest come = stays_fine Head parts p o e w (kinds.End s) q rest come
-  head_stays parts p o e w (kinds.Prepared m n) q rest come = stays_fine Head parts p o e w (kinds.Prepared m n) q rest come
-  head_stays parts p o e w kinds.Parameter q rest come = stays_fine Head parts p o e w kinds.Parameter q rest come
-  head_stays parts p o e w kinds.Field q rest come = stays_fine Head parts p o e w kinds.Field q rest come
-  head_stays parts p o e w kinds.Bad q rest come = stays_fine Head parts p o e w kinds.Bad q rest come
+  head_stays trying parts p o e w (kinds.Good s) q rest come = loose trying parts (with_end (with_talk p (grow (kinds.Good s) p.talk q) rest)) o e (grown_gave trying ms p o (kinds.Good s) q come w)
+  head_stays trying parts p o e w (kinds.Greets n) q rest come = stays_fine trying Head parts p o e w (kinds.Greets n) q rest come
+  head_stays trying parts p o e w kinds.Failed q rest come = stays_fine trying Head parts p o e w kinds.Failed q rest come
+  head_stays trying parts p o e w (kinds.Count n) q rest come = stays_fine trying Head parts p o e w (kinds.Count n) q rest come
+  head_stays trying parts p o e w kinds.Column q rest come = stays_fine trying Head parts p o e w kinds.Column q rest come
+  head_stays trying parts p o e w kinds.ColumnsDone q rest come = stays_fine trying Head parts p o e w kinds.ColumnsDone q rest come
+  head_stays trying parts p o e w kinds.Row q rest come = stays_fine trying Head parts p o e w kinds.Row q rest come
+  head_stays trying parts p o e w (kinds.End s) q rest come = stays_fine trying Head parts p o e w (kinds.End s) q rest come
+  head_stays trying parts p o e w (kinds.Prepared m n) q rest come = stays_fine trying Head parts p o e w (kinds.Prepared m n) q rest come
+  head_stays trying parts p o e w kinds.Parameter q rest come = stays_fine trying Head parts p o e w kinds.Parameter q rest come
+  head_stays trying parts p o e w kinds.Field q rest come = stays_fine trying Head parts p o e w kinds.Field q rest come
+  head_stays trying parts p o e w kinds.Bad q rest come = stays_fine trying Head parts p o e w kinds.Bad q rest come
 
-  head_fine : (parts : List Part) (p : Place) (o : Option (List Group)) → is_safe c false parts ≡ true → GaveAt ms p o → IsFine c ms (step_of login c (Head ∷ parts) p)
-  head_fine parts p o e w = either (IsFine c ms) (is_rows (context_of p.talk).spot) _ _ (λ _. loose parts p o e w)
-      (λ _. reads_have (IsFine c ms) p (faults_fine c ms known p o w) login Head parts refl (halted p o w) (λ k _. stays_fine Head parts p o e w k) (head_stays parts p o e w) (errs_fine p o w))
+  head_fine : (trying : Bool) (parts : List Part) (p : Place) (o : Option (List Group)) → is_safe c false trying parts ≡ true → GaveAt trying ms p o → IsFine c ms (step_of login c (Head ∷ parts) p)
+  head_fine trying parts p o e w = either (IsFine c ms) (is_rows (context_of p.talk).spot) _ _ (λ _. loose trying parts p o e w)
+      (λ _. reads_have (IsFine c ms) p (faults_fine c ms trying p o w) login Head parts refl (halted trying p o w) (λ k _. stays_fine trying Head parts p o e w k) (head_stays trying parts p o e w) (errs_fine trying p o w))
 
   -- a command is sent
-  begins_fine : (call : Call) (parts : List Part) (p : Place) (o : Option (List Group)) (t : Talk) → Fits t → is_safe c false parts ≡ true → GaveAt ms p o → IsFine c ms (Goes parts (with_exchange p call t))
-  begins_fine call parts p o t f e w = loose parts (with_exchange p call t) None e (begun_gave ms p o t f w)
+  begins_fine : (trying : Bool) (call : Call) (parts : List Part) (p : Place) (o : Option (List Group)) (t : Talk) → Fits t → is_safe c false trying parts ≡ true → GaveAt trying ms p o → IsFine c ms (Goes parts (with_exchange p call t))
+  begins_fine trying call parts p o t f e w = loose trying parts (with_exchange p call t) None e (begun_gave trying ms p o t f w)
 
-  some_fine : (parts : List Part) (p : Place) (o : Option (List Group)) (x : Option Talk) → ((t : Talk) → x ≡ Some t → Fits t) → is_safe c false parts ≡ true → GaveAt ms p o
+  some_fine : (trying : Bool) (parts : List Part) (p : Place) (o : Option (List Group)) (x : Option Talk) → ((t : Talk) → x ≡ Some t → Fits t) → is_safe c false trying parts ≡ true → GaveAt trying ms p o
       → IsFine c ms (with_command c parts p x)
-  some_fine parts p o x f e w = command_has (IsFine c ms) p (faults_fine c ms known p o w) c parts x (loose parts p o e w) (λ t i. begins_fine c parts p o t (f t i) e w)
+  some_fine trying parts p o x f e w = command_has (IsFine c ms) p (faults_fine c ms trying p o w) c parts x (loose trying parts p o e w) (λ t i. begins_fine trying c parts p o t (f t i) e w)
 
-  asked_fine : (parts : List Part) (p : Place) (o : Option (List Group)) (t : Talk) → Fits t → is_safe c false parts ≡ true → GaveAt ms p o → IsFine c ms (with_command c parts p (Some t))
-  asked_fine parts p o t f e w = begun_has (IsFine c ms) p (faults_fine c ms known p o w) c parts t (begins_fine c parts p o t f e w)
+  asked_fine : (trying : Bool) (parts : List Part) (p : Place) (o : Option (List Group)) (t : Talk) → Fits t → is_safe c false trying parts ≡ true → GaveAt trying ms p o → IsFine c ms (with_command c parts p (Some t))
+  asked_fine trying parts p o t f e w = begun_has (IsFine c ms) p (faults_fine c ms trying p o w) c parts t (begins_fine trying c parts p o t f e w)
 
   -- one that no server answers
-  silent_fine : (parts : List Part) (p : Place) (o : Option (List Group)) (t : Talk) → Fits t → is_over t ≡ true → is_safe c true parts ≡ true → GaveAt ms p o → IsFine c ms (with_command c parts p (Some t))
-  silent_fine parts p o t f over e w = begun_has (IsFine c ms) p (faults_fine c ms known p o w) c parts t
-      (at true parts (with_exchange p c t) None e (begun_gave ms p o t f w) (λ _. inl (over, refl)))
+  silent_fine : (trying : Bool) (call : Call) (parts : List Part) (p : Place) (o : Option (List Group)) (t : Talk) → Fits t → is_over t ≡ true → is_safe c true trying parts ≡ true → GaveAt trying ms p o → IsFine c ms (with_command call parts p (Some t))
+  silent_fine trying call parts p o t f over e w = begun_has (IsFine c ms) p (faults_fine c ms trying p o w) call parts t
+      (at true trying parts (with_exchange p call t) None e (begun_gave trying ms p o t f w) (λ _. inl (over, refl)))
 
-  undone_fine : (parts : List Part) (p : Place) (o : Option (List Group)) (b : Bool) → is_safe c false parts ≡ true → GaveAt ms p o → IsFine c ms (undone login c parts p b)
-  undone_fine parts p o true e w = asked_fine parts p o (queried (terms_of login (exchanges p)) rollback_text) (record { kinds = tt; within = tt }) e w
-  undone_fine parts p o false e w = loose parts p o e w
+  undone_fine : (trying : Bool) (parts : List Part) (p : Place) (o : Option (List Group)) (b : Bool) → is_safe c false trying parts ≡ true → GaveAt trying ms p o → IsFine c ms (undone login c parts p b)
+  undone_fine trying parts p o true e w = asked_fine trying parts p o (queried (terms_of login (exchanges p)) rollback_text) (record { kinds = tt; within = tt }) e w
+  undone_fine trying parts p o false e w = loose trying parts p o e w
 
-  checked_fine : (kept : Bool) (parts : List Part) (p : Place) (o : Option (List Group)) (v : Values) → (kept && is_safe c kept parts) ≡ true → GaveAt ms p o → (kept ≡ true → KeptAt p o) → IsFine c ms (checked parts p v)
-  checked_fine kept parts p o (Fitting values) e w k = at kept parts p o (both kept _ e).1 w k
-  checked_fine kept parts p o (Unfitting x) e w k = error_fine c ms known p o w (k (both kept _ e).0) (Driver x)
+  checked_fine : (kept trying : Bool) (parts : List Part) (p : Place) (o : Option (List Group)) (v : Values) → (may_return kept trying && (not (is_fitting v) || is_safe c kept trying parts)) ≡ true → GaveAt trying ms p o → (kept ≡ true → KeptAt p o)
+      → IsFine c ms (checked parts p v)
+  checked_fine kept trying parts p o (Fitting values) e w k = at kept trying parts p o (both (may_return kept trying) _ e).1 w k
+  checked_fine kept trying parts p o (Unfitting x) e w k =
+      let r = rests kept trying (both (may_return kept trying) _ e).0 in error_fine c ms p o (of_trying trying p o r.1 w) (k r.0) (Driver x)
 
-  offered_fine : (kept : Bool) (parts : List Part) (p : Place) (o : Option (List Group)) (b : Bool) → (kept && is_safe c kept parts) ≡ true → GaveAt ms p o → (kept ≡ true → KeptAt p o) → IsFine c ms (offered parts p b)
-  offered_fine kept parts p o true e w k = at kept parts p o (both kept _ e).1 w k
-  offered_fine kept parts p o false e w k = told_fine (ToldFlag false) p o refl w (k (both kept _ e).0)
+  offered_fine : (kept trying : Bool) (parts : List Part) (p : Place) (o : Option (List Group)) (b : Bool) → (may_return kept trying && is_safe c kept trying parts) ≡ true → GaveAt trying ms p o → (kept ≡ true → KeptAt p o) → IsFine c ms (offered parts p b)
+  offered_fine kept trying parts p o true e w k = at kept trying parts p o (both (may_return kept trying) _ e).1 w k
+  offered_fine kept trying parts p o false e w k =
+      let r = rests kept trying (both (may_return kept trying) _ e).0 in told_fine (ToldFlag false) p o refl (of_trying trying p o r.1 w) (k r.0)
 
-  unless_fine : (kept : Bool) (parts : List Part) (p : Place) (o : Option (List Group)) (x : Option DriverError) → (kept && is_safe c kept parts) ≡ true → GaveAt ms p o → (kept ≡ true → KeptAt p o) → IsFine c ms (unless_refused parts p x)
-  unless_fine kept parts p o None e w k = at kept parts p o (both kept _ e).1 w k
-  unless_fine kept parts p o (Some x) e w k = error_fine c ms known p o w (k (both kept _ e).0) (Driver x)
+  unless_fine : (kept trying : Bool) (parts : List Part) (p : Place) (o : Option (List Group)) (x : Option DriverError) → (may_return kept trying && is_safe c kept trying parts) ≡ true → GaveAt trying ms p o → (kept ≡ true → KeptAt p o)
+      → IsFine c ms (unless_refused parts p x)
+  unless_fine kept trying parts p o None e w k = at kept trying parts p o (both (may_return kept trying) _ e).1 w k
+  unless_fine kept trying parts p o (Some x) e w k =
+      let r = rests kept trying (both (may_return kept trying) _ e).0 in error_fine c ms p o (of_trying trying p o r.1 w) (k r.0) (Driver x)
 
-  learned_fine : (kept : Bool) (parts : List Part) (p : Place) (o : Option (List Group)) (b : Bool) (st : Statements) → is_safe c kept parts ≡ true → GaveAt ms p o → (kept ≡ true → KeptAt p o) → IsFine c ms (Goes parts (cond b (with_statements st p) p))
-  learned_fine kept parts p o true st e w k = at kept parts (with_statements st p) o e w k
-  learned_fine kept parts p o false st e w k = at kept parts p o e w k
+  -- a statement is looked for
+  found_fine : (kept trying : Bool) (parts : List Part) (p : Place) (o : Option (List Group)) (text : List ℕ) (h : Option Held) → (may_return kept trying && is_safe c kept trying parts) ≡ true → GaveAt trying ms p o → (kept ≡ true → KeptAt p o)
+      → IsFine c ms (found parts p text h)
+  found_fine kept trying parts p o text None e w k = at kept trying parts p o (both (may_return kept trying) _ e).1 w k
+  found_fine kept trying parts p o text (Some h) e w k =
+      let r = rests kept trying (both (may_return kept trying) _ e).0 in
+      told_fine (ToldStatement (statement_with h.stmt (names_of text))) (with_statements (with_fetched (query_of text) p.statements) p) o refl (of_trying trying p o r.1 w) (k r.0)
+
+  looked_fine : (kept trying : Bool) (parts : List Part) (p : Place) (o : Option (List Group)) (text : List ℕ) → (may_return kept trying && is_safe c kept trying parts) ≡ true → GaveAt trying ms p o → (kept ≡ true → KeptAt p o)
+      → IsFine c ms (looked_for parts p text)
+  looked_fine kept trying parts p o text e w k = either (IsFine c ms) (is_mixed_text text) _ _
+      (λ _. let r = rests kept trying (both (may_return kept trying) _ e).0 in error_fine c ms p o (of_trying trying p o r.1 w) (k r.0) mixed_params)
+      (λ _. found_fine kept trying parts p o text (held_in p.statements (query_of text)) e w k)
+
+  -- the reply to a statement to prepare is read
+  reply_stays : (p : Place) (o : Option (List Group)) → GaveAt false ms p o → (k : Kind) (q rest : List ℕ) → Comes p k q → IsFine c ms (Goes (Reply ∷ Keep ∷ Give ∷ []) (with_talk p (grow k p.talk q) rest))
+  reply_stays p o w k q rest come = (ms, NonePassed, Replying (with_talk p (grow k p.talk q) rest) o plain refl (grown_gave false ms p o k q come w))
+
+  pub reply_fine : (p : Place) (o : Option (List Group)) → p.end_left ≡ false → GaveAt false ms p o → IsFine c ms (step_of login c (Reply ∷ Keep ∷ Give ∷ []) p)
+  reply_fine p o none w = either (IsFine c ms) (is_over p.talk) _ _ (λ over. at true false (Keep ∷ Give ∷ []) p o refl w (λ _. inl (over, none)))
+      (λ _. reads_have (IsFine c ms) p (faults_fine c ms false p o w) login Reply (Keep ∷ Give ∷ []) refl (halted false p o w) (λ k _. reply_stays p o w k) (reply_stays p o w) (errs_fine false p o w))
+
+  -- its statement is kept, and another one closed for it
+  keeping_fine : (kept trying : Bool) (parts : List Part) (q : Place) (o : Option (List Group)) (text : List ℕ) (terms : Terms) (x : Option ℕ) → (kept && is_safe c true trying parts) ≡ true → GaveAt trying ms q o → (kept ≡ true → KeptAt q o)
+      → IsFine c ms (with_command (Prepare text) parts q (closing_of terms x))
+  keeping_fine kept trying parts q o text terms None e w k = let r = both kept _ e in at true trying parts q o r.1 w (λ _. k r.0)
+  keeping_fine kept trying parts q o text terms (Some id) e w k = silent_fine trying (Prepare text) parts q o (closing terms id) (record { kinds = tt; within = tt }) refl (both kept _ e).1 w
+
+  -- a commit that was refused is rolled back, and the first ERR returned
+  undoing_fine : (first : ServerError) (p : Place) (o : Option (List Group)) (b : Bool) → p.end_left ≡ false → p.trial ≡ Refused first → GaveAt true ms p o → IsFine c ms (undone login c (Back ∷ []) p b)
+  undoing_fine first p o true none is w =
+      let t : Talk = queried (terms_of login (exchanges p)) rollback_text in
+      begun_has (IsFine c ms) p (faults_fine c ms true p o w) c (Back ∷ []) t (ms, NonePassed, Backing (Back ∷ []) first (with_exchange p c t) None plain refl refl is (begun_gave true ms p o t (record { kinds = tt; within = tt }) w))
+  undoing_fine first p o false none is w = (ms, NonePassed, Backing (Back ∷ []) first p o plain refl none is w)
+
+  back_stays : (first : ServerError) (p : Place) (o : Option (List Group)) → p.trial ≡ Refused first → GaveAt true ms p o → (k : Kind) (q rest : List ℕ) → Comes p k q → IsFine c ms (Goes (Back ∷ []) (with_talk p (grow k p.talk q) rest))
+  back_stays first p o is w k q rest come = (ms, NonePassed, Backing (Back ∷ []) first (with_talk p (grow k p.talk q) rest) o plain refl refl is (grown_gave true ms p o k q come w))
+
+  returned_fine : (first : ServerError) (x : Trial) (p : Place) (o : Option (List Group)) → x ≡ Refused first → is_over p.talk ≡ true → p.end_left ≡ false → GaveAt true ms p o → IsFine c ms (returned p x)
+  returned_fine first x p o is over none w =
+      let q : Place = with_trial Off (with_status (rolled_back p.status) p) in
+      subst (λ (y : Trial). IsFine c ms (returned p y)) (sym is)
+      (error_fine c ms q o (record { olds = w.olds; given_is = w.given_is; newest = w.newest; each = w.each; fits = w.fits; off = λ x. refl }) (inl (over, none)) (Server first))
+
+  pub back_fine : (first : ServerError) (parts : List Part) (p : Place) (o : Option (List Group)) → is_back parts ≡ true → p.end_left ≡ false → p.trial ≡ Refused first → GaveAt true ms p o → IsFine c ms (step_of login c parts p)
+  back_fine first (Undo ∷ Back ∷ []) p o e none is w = undoing_fine first p o (is_given_up p.status) none is w
+  back_fine first (Back ∷ []) p o e none is w = either (IsFine c ms) (is_over p.talk) _ _ (λ over. returned_fine first p.trial p o is over none w)
+      (λ _. reads_have (IsFine c ms) p (faults_fine c ms true p o w) login Back [] refl (halted true p o w) (λ k _. back_stays first p o is w k) (back_stays first p o is w) (errs_fine true p o w))
+  back_fine first parts p o e none is w = absurd (cc)
+
+  learned_fine : (kept trying : Bool) (parts : List Part) (p : Place) (o : Option (List Group)) (b : Bool) (st : Statements) → is_safe c kept trying parts ≡ true → GaveAt trying ms p o → (kept ≡ true → KeptAt p o) → IsFine c ms (Goes parts (cond b (with_statements st p) p))
+  learned_fine kept trying parts p o true st e w k = at kept trying parts (with_statements st p) o e w k
+  learned_fine kept trying parts p o false st e w k = at kept trying parts p o e w k
 
 module _ (login : Login) (ms : List Made) where
+  -- the head of the response of a query, or of an execution, is awaited
+  heads : (c : Call) → is_query c ≡ true → (parts : List Part) (p : Place) (o : Option (List Group)) (t : Talk) (terms : Terms) (command : List ℕ) (asking : Asking) → t ≡ Queried terms command (NoSets asking) → Fits t → is_head parts ≡ true → GaveAt false ms p o
+      → IsFine c ms (with_command c parts p (Some t))
+  heads c query [] p o t terms command asking is f h w = absurd (cc)
+  heads c query (Head ∷ parts) p o t terms command asking is f h w = begun_has (IsFine c ms) p (faults_fine c ms false p o w) c (Head ∷ parts) t (
+    ms,
+    NonePassed,
+    Heading parts (with_exchange p c t) query h refl (record { terms = terms; command = command; sets = NoSets asking; talk_is = is; none = refl; lone = λ x. absurd (cc) }) (begun_gave false ms p o t f w),
+  )
+  heads c query (x ∷ more) p o t terms command asking is f h w = absurd (cc)
+
+  -- an execution whose values fit
+  executes : (c : Call) → is_query c ≡ true → (parts : List Part) (p : Place) (o : Option (List Group)) (terms : Terms) (st : Statements) (id : ℕ) (v : Values) → (is_fitting v && is_head parts) ≡ true → GaveAt false ms p o
+      → IsFine c ms (with_command c parts p (execution terms st id v))
+  executes c query parts p o terms st id (Fitting values) e w =
+      let asking : Asking = ByStatement (ahead_of id values) (known_in st id) in
+      heads c query parts p o (Queried terms (body_of id values) (NoSets asking)) terms (body_of id values) asking refl (record { kinds = tt; within = tt }) e w
+  executes c query parts p o terms st id (Unfitting x) e w = absurd (cc)
+
+  -- a statement is to be prepared
+  prepares : (c : Call) → reads_sets c ≡ false → (parts : List Part) (p : Place) (o : Option (List Group)) (t : Talk) → Fits t → is_reply parts ≡ true → GaveAt false ms p o → IsFine c ms (with_command c parts p (Some t))
+  prepares c plain (Reply ∷ Keep ∷ Give ∷ []) p o t f r w =
+      begun_has (IsFine c ms) p (faults_fine c ms false p o w) c (Reply ∷ Keep ∷ Give ∷ []) t (ms, NonePassed, Replying (with_exchange p c t) None plain refl (begun_gave false ms p o t f w))
+  prepares c plain parts p o t f r w = absurd (cc)
+
   -- the command of a call, by its kind
-  commands_fine : (c : Call) (known : is_known c ≡ true) (plain : reads_sets c ≡ false) (kept : Bool) (parts : List Part) (p : Place) (o : Option (List Group)) → is_safe c kept (Command ∷ parts) ≡ true → GaveAt ms p o
+  commands_fine : (c : Call) (plain : reads_sets c ≡ false) (kept trying : Bool) (parts : List Part) (p : Place) (o : Option (List Group)) → is_safe c kept trying (Command ∷ parts) ≡ true → GaveAt trying ms p o
       → IsFine c ms (with_command c parts p (next_exchange login c p))
-  commands_fine (Query text) known plain kept parts p o e w = query_fine parts e
-    where
-      query_fine : (parts : List Part) → is_head parts ≡ true → IsFine (Query text) ms (with_command (Query text) parts p (Some (queried (terms_of login (exchanges p)) text)))
-      query_fine [] h = absurd (cc)
-      query_fine (Head ∷ []) h =
-          let t : Talk = queried (terms_of login (exchanges p)) text in
-          begun_has (IsFine (Query text) ms) p (faults_fine (Query text) ms known p o w) (Query text) (Head ∷ []) t (
-            ms,
-            NonePassed,
-            Heading (with_exchange p (Query text) t) refl refl (record { terms = terms_of login (exchanges p); command = packet_bytes (packets.Query text); sets = _; talk_is = refl; none = refl; lone = λ x. absurd (cc) })
-                (begun_gave ms p o t (record { kinds = tt; within = tt }) w),
-          )
-      query_fine (x ∷ more) h = absurd (cc)
-  commands_fine (CloseStmt id) known plain kept parts p o e w = silent_fine login (CloseStmt id) ms known plain parts p o (closing (terms_of login (exchanges p)) id) (record { kinds = tt; within = tt }) refl e w
-  commands_fine Quit known plain kept parts p o e w = silent_fine login Quit ms known plain parts p o (Silent (terms_of login (exchanges p)) (packet_bytes packets.Quit)) (record { kinds = tt; within = tt }) refl e w
-  commands_fine Connect known plain kept parts p o e w = some_fine login Connect ms known plain parts p o (next_exchange login Connect p) (opened_fits login (terms_of login (exchanges p)) p.statements Connect (connects_in (exchanges p))) e w
-  commands_fine (Prepare text) known plain kept parts p o e w = absurd (cc)
-  commands_fine (Execute statement params) known plain kept parts p o e w = absurd (cc)
-  commands_fine (Batch statement lists) known plain kept parts p o e w = some_fine login (Batch statement lists) ms known plain parts p o (next_exchange login (Batch statement lists) p) (opened_fits login (terms_of login (exchanges p)) p.statements (Batch statement lists) (connects_in (exchanges p))) e w
-  commands_fine NextRow known plain kept parts p o e w = absurd (cc)
-  commands_fine DropResult known plain kept parts p o e w = absurd (cc)
-  commands_fine TakeSet known plain kept parts p o e w = absurd (cc)
-  commands_fine SkipTaken known plain kept parts p o e w = absurd (cc)
-  commands_fine Ping known plain kept parts p o e w = some_fine login Ping ms known plain parts p o (next_exchange login Ping p) (opened_fits login (terms_of login (exchanges p)) p.statements Ping (connects_in (exchanges p))) e w
-  commands_fine Reset known plain kept parts p o e w = some_fine login Reset ms known plain parts p o (next_exchange login Reset p) (opened_fits login (terms_of login (exchanges p)) p.statements Reset (connects_in (exchanges p))) e w
-  commands_fine (ChangeUser change) known plain kept parts p o e w = some_fine login (ChangeUser change) ms known plain parts p o (next_exchange login (ChangeUser change) p) (opened_fits login (terms_of login (exchanges p)) p.statements (ChangeUser change) (connects_in (exchanges p))) e w
-  commands_fine (Begin opts) known plain kept parts p o e w = some_fine login (Begin opts) ms known plain parts p o (next_exchange login (Begin opts) p) (opened_fits login (terms_of login (exchanges p)) p.statements (Begin opts) (connects_in (exchanges p))) e w
-  commands_fine Commit known plain kept parts p o e w = absurd (cc)
-  commands_fine Rollback known plain kept parts p o e w = some_fine login Rollback ms known plain parts p o (next_exchange login Rollback p) (opened_fits login (terms_of login (exchanges p)) p.statements Rollback (connects_in (exchanges p))) e w
-  commands_fine ForgetTransaction known plain kept parts p o e w = some_fine login ForgetTransaction ms known plain parts p o (next_exchange login ForgetTransaction p) (opened_fits login (terms_of login (exchanges p)) p.statements ForgetTransaction (connects_in (exchanges p))) e w
-  commands_fine CleanForPool known plain kept parts p o e w = some_fine login CleanForPool ms known plain parts p o (next_exchange login CleanForPool p) (opened_fits login (terms_of login (exchanges p)) p.statements CleanForPool (connects_in (exchanges p))) e w
-  commands_fine ResetForPool known plain kept parts p o e w = some_fine login ResetForPool ms known plain parts p o (next_exchange login ResetForPool p) (opened_fits login (terms_of login (exchanges p)) p.statements ResetForPool (connects_in (exchanges p))) e w
+  commands_fine (Query text) plain kept trying parts p o e w =
+      let x = both (not trying) _ e in
+      heads (Query text) refl parts p o (queried (terms_of login (exchanges p)) text) (terms_of login (exchanges p)) (packet_bytes (packets.Query text)) ByText refl (record { kinds = tt; within = tt }) x.1
+      (of_trying login (Query text) ms plain trying p o (not_true trying x.0) w)
+  commands_fine (Execute statement params) plain kept trying parts p o e w =
+      let x = both (not trying) _ e in
+      executes (Execute statement params) refl parts p o (terms_of login (exchanges p)) p.statements statement.inner.id (values_for statement params) x.1
+      (of_trying login (Execute statement params) ms plain trying p o (not_true trying x.0) w)
+  commands_fine (Prepare text) plain kept trying parts p o e w =
+      let x = both (not trying) _ e in
+      prepares (Prepare text) plain parts p o (Preparing (terms_of login (exchanges p)) (packet_bytes (packets.Prepare (query_of text))) Unanswered) (record { kinds = tt; within = tt }) x.1 (of_trying login (Prepare text) ms plain trying p o (not_true trying x.0) w)
+  commands_fine (CloseStmt id) plain kept trying parts p o e w = silent_fine login (CloseStmt id) ms plain trying (CloseStmt id) parts p o (closing (terms_of login (exchanges p)) id) (record { kinds = tt; within = tt }) refl e w
+  commands_fine Quit plain kept trying parts p o e w = silent_fine login Quit ms plain trying Quit parts p o (Silent (terms_of login (exchanges p)) (packet_bytes packets.Quit)) (record { kinds = tt; within = tt }) refl e w
+  commands_fine Connect plain kept trying parts p o e w = some_fine login Connect ms plain trying parts p o (next_exchange login Connect p) (opened_fits login (terms_of login (exchanges p)) p.statements Connect (connects_in (exchanges p))) e w
+  commands_fine (Batch statement lists) plain kept trying parts p o e w = some_fine login (Batch statement lists) ms plain trying parts p o (next_exchange login (Batch statement lists) p) (opened_fits login (terms_of login (exchanges p)) p.statements (Batch statement lists) (connects_in (exchanges p))) e w
+  commands_fine Ping plain kept trying parts p o e w = some_fine login Ping ms plain trying parts p o (next_exchange login Ping p) (opened_fits login (terms_of login (exchanges p)) p.statements Ping (connects_in (exchanges p))) e w
+  commands_fine Reset plain kept trying parts p o e w = some_fine login Reset ms plain trying parts p o (next_exchange login Reset p) (opened_fits login (terms_of login (exchanges p)) p.statements Reset (connects_in (exchanges p))) e w
+  commands_fine (ChangeUser change) plain kept trying parts p o e w = some_fine login (ChangeUser change) ms plain trying parts p o (next_exchange login (ChangeUser change) p) (opened_fits login (terms_of login (exchanges p)) p.statements (ChangeUser change) (connects_in (exchanges p))) e w
+  commands_fine (Begin opts) plain kept trying parts p o e w = some_fine login (Begin opts) ms plain trying parts p o (next_exchange login (Begin opts) p) (opened_fits login (terms_of login (exchanges p)) p.statements (Begin opts) (connects_in (exchanges p))) e w
+  commands_fine Commit plain kept trying parts p o e w = some_fine login Commit ms plain trying parts p o (next_exchange login Commit p) (opened_fits login (terms_of login (exchanges p)) p.statements Commit (connects_in (exchanges p))) e w
+  commands_fine Rollback plain kept trying parts p o e w = some_fine login Rollback ms plain trying parts p o (next_exchange login Rollback p) (opened_fits login (terms_of login (exchanges p)) p.statements Rollback (connects_in (exchanges p))) e w
+  commands_fine ForgetTransaction plain kept trying parts p o e w = some_fine login ForgetTransaction ms plain trying parts p o (next_exchange login ForgetTransaction p) (opened_fits login (terms_of login (exchanges p)) p.statements ForgetTransaction (connects_in (exchanges p))) e w
+  commands_fine CleanForPool plain kept trying parts p o e w = some_fine login CleanForPool ms plain trying parts p o (next_exchange login CleanForPool p) (opened_fits login (terms_of login (exchanges p)) p.statements CleanForPool (connects_in (exchanges p))) e w
+  commands_fine ResetForPool plain kept trying parts p o e w = some_fine login ResetForPool ms plain trying parts p o (next_exchange login ResetForPool p) (opened_fits login (terms_of login (exchanges p)) p.statements ResetForPool (connects_in (exchanges p))) e w
+  commands_fine NextRow plain kept trying parts p o e w = absurd (cc)
+  commands_fine DropResult plain kept trying parts p o e w = absurd (cc)
+  commands_fine TakeSet plain kept trying parts p o e w = absurd (cc)
+  commands_fine SkipTaken plain kept trying parts p o e w = absurd (cc)
 
   -- a step of a call that is safe
-  pub safe_fine : (c : Call) (known : is_known c ≡ true) (plain : reads_sets c ≡ false) (kept : Bool) (parts : List Part) (p : Place) (o : Option (List Group)) → is_safe c kept parts ≡ true → GaveAt ms p o → (kept ≡ true → KeptAt p o)
+  pub safe_fine : (c : Call) (plain : reads_sets c ≡ false) (kept trying : Bool) (parts : List Part) (p : Place) (o : Option (List Group)) → is_safe c kept trying parts ≡ true → GaveAt trying ms p o → (kept ≡ true → KeptAt p o)
       → IsFine c ms (step_of login c parts p)
-  safe_fine c known plain kept [] p o e w k = ready_fine login c ms known plain kept p o e w k
-  safe_fine c known plain kept (All ∷ parts) p o e w k = all_fine login c ms known plain parts p o e w
-  safe_fine c known plain kept (Head ∷ parts) p o e w k = head_fine login c ms known plain parts p o e w
-  safe_fine c known plain kept (Item ∷ parts) p o e w k = absurd (cc)
-  safe_fine c known plain kept (Set ∷ parts) p o e w k = absurd (cc)
-  safe_fine c known plain kept (Rest ∷ parts) p o e w k = absurd (cc)
-  safe_fine c known plain kept (Command ∷ parts) p o e w k = commands_fine c known plain kept parts p o e w
-  safe_fine c known plain kept (Find ∷ parts) p o e w k = absurd (cc)
-  safe_fine c known plain kept (Check params ∷ parts) p o e w k = checked_fine login c ms known plain kept parts p o (values_for (statement_in c) params) e w k
-  safe_fine c known plain kept (Run params ∷ parts) p o e w k = some_fine login c ms known plain parts p o (executed login c p params) (executed_fits (terms_of login (exchanges p)) p.statements (id_in c) (values_for (statement_in c) params)) e w
-  safe_fine c known plain kept (Reply ∷ parts) p o e w k = absurd (cc)
-  safe_fine c known plain kept (Keep ∷ parts) p o e w k = absurd (cc)
-  safe_fine c known plain kept (Give ∷ parts) p o e w k = absurd (cc)
-  safe_fine c known plain kept (Learn ∷ parts) p o e w k = learned_fine login c ms known plain kept parts p o (is_rows (context_of p.talk).spot) (with_columns (id_in c) (facts_at login p).columns p.statements) e w k
-  safe_fine c known plain kept (Forget ∷ parts) p o e w k = at login c ms known plain kept parts (with_statements (without_statement (id_in c) p.statements) p) o e w k
-  safe_fine c known plain kept (Offered ∷ parts) p o e w k = offered_fine login c ms known plain kept parts p o (can_reset (version_of (facts_at login p).version)) e w k
-  safe_fine c known plain kept (Clear ∷ parts) p o e w k = at login c ms known plain kept parts (with_statements (cleared p.statements) p) o e w k
-  safe_fine c known plain kept (Text text ∷ parts) p o e w k = asked_fine login c ms known plain parts p o (queried (terms_of login (exchanges p)) text) (record { kinds = tt; within = tt }) e w
-  safe_fine c known plain kept (Flag flag ∷ parts) p o e w k = told_fine login c ms known plain (ToldFlag flag) p o refl w (k e)
-  safe_fine c known plain kept (Adopt change ∷ parts) p o e w k = at login c ms known plain kept parts (with_account (changed change p.account) p) o e w k
-  safe_fine c known plain kept (Renew ∷ parts) p o e w k = asked_fine login c ms known plain parts p o (renewing login c p (facts_at login p)) (record { kinds = tt; within = tt }) e w
-  safe_fine c known plain kept (Drain ∷ parts) p o e w k = drain_fine login c ms known plain parts p o e w
-  safe_fine c known plain kept (Undo ∷ parts) p o e w k = undone_fine login c ms known plain parts p o (is_given_up p.status) e w
-  safe_fine c known plain kept (Undone ∷ parts) p o e w k = at login c ms known plain kept parts (with_status (rolled_back p.status) p) o e w k
-  safe_fine c known plain kept (Refuse opts ∷ parts) p o e w k = unless_fine login c ms known plain kept parts p o (begin_refusal opts (version_of (facts_at login p).version) p.status) e w k
-  safe_fine c known plain kept (Settle status ∷ parts) p o e w k =
-      at login c ms known plain kept parts (with_trial Off (with_status status p)) o e (record { olds = w.olds; given_is = w.given_is; newest = w.newest; each = w.each; fits = w.fits; off = refl }) k
-  safe_fine c known plain kept (GiveUp ∷ parts) p o e w k = at login c ms known plain kept parts (with_status (given_up p.status) p) o e w k
-  safe_fine c known plain kept (Try ∷ parts) p o e w k = absurd (cc)
-  safe_fine c known plain kept (Back ∷ parts) p o e w k = absurd (cc)
+  safe_fine c plain kept trying [] p o e w k = ready_fine login c ms plain kept trying p o e w k
+  safe_fine c plain kept trying (All ∷ parts) p o e w k = all_fine login c ms plain trying parts p o e w
+  safe_fine c plain kept trying (Head ∷ parts) p o e w k = head_fine login c ms plain trying parts p o e w
+  safe_fine c plain kept trying (Item ∷ parts) p o e w k = absurd (cc)
+  safe_fine c plain kept trying (Set ∷ parts) p o e w k = absurd (cc)
+  safe_fine c plain kept trying (Rest ∷ parts) p o e w k = absurd (cc)
+  safe_fine c plain kept trying (Command ∷ parts) p o e w k = commands_fine c plain kept trying parts p o e w
+  safe_fine c plain kept trying (Find ∷ parts) p o e w k = looked_fine login c ms plain kept trying parts p o (text_in c) e w k
+  safe_fine c plain kept trying (Check params ∷ parts) p o e w k = checked_fine login c ms plain kept trying parts p o (values_for (statement_in c) params) e w k
+  safe_fine c plain kept trying (Run params ∷ parts) p o e w k = some_fine login c ms plain trying parts p o (executed login c p params) (executed_fits (terms_of login (exchanges p)) p.statements (id_in c) (values_for (statement_in c) params)) e w
+  safe_fine c plain kept trying (Reply ∷ parts) p o e w k = absurd (cc)
+  safe_fine c plain kept trying (Keep ∷ parts) p o e w k =
+      let f = facts_at login p in
+      let st : Statements = with_prepared (query_of (text_in c)) (prepared_by f) f.reply.fields p.statements in
+      keeping_fine login c ms plain kept trying parts (with_statements st p) o (text_in c) (terms_of login (exchanges p)) (leaving (query_of (text_in c)) (prepared_by f) p.statements) e w k
+  safe_fine c plain kept trying (Give ∷ parts) p o e w k =
+      let r = rests kept trying e in
+      told_fine login c ms plain (ToldStatement (statement_with (prepared_by (facts_at login p)) (names_of (text_in c)))) p o refl (of_trying login c ms plain trying p o r.1 w) (k r.0)
+  safe_fine c plain kept trying (Learn ∷ parts) p o e w k = learned_fine login c ms plain kept trying parts p o (is_rows (context_of p.talk).spot) (with_columns (id_in c) (facts_at login p).columns p.statements) e w k
+  safe_fine c plain kept trying (Forget ∷ parts) p o e w k = at login c ms plain kept trying parts (with_statements (without_statement (id_in c) p.statements) p) o e w k
+  safe_fine c plain kept trying (Offered ∷ parts) p o e w k = offered_fine login c ms plain kept trying parts p o (can_reset (version_of (facts_at login p).version)) e w k
+  safe_fine c plain kept trying (Clear ∷ parts) p o e w k = at login c ms plain kept trying parts (with_statements (cleared p.statements) p) o e w k
+  safe_fine c plain kept trying (Text text ∷ parts) p o e w k = asked_fine login c ms plain trying parts p o (queried (terms_of login (exchanges p)) text) (record { kinds = tt; within = tt }) e w
+  safe_fine c plain kept trying (Flag flag ∷ parts) p o e w k = let r = rests kept trying e in told_fine login c ms plain (ToldFlag flag) p o refl (of_trying login c ms plain trying p o r.1 w) (k r.0)
+  safe_fine c plain kept trying (Adopt change ∷ parts) p o e w k = at login c ms plain kept trying parts (with_account (changed change p.account) p) o e w k
+  safe_fine c plain kept trying (Renew ∷ parts) p o e w k = asked_fine login c ms plain trying parts p o (renewing login c p (facts_at login p)) (record { kinds = tt; within = tt }) e w
+  safe_fine c plain kept trying (Drain ∷ parts) p o e w k = drain_fine login c ms plain trying parts p o e w
+  safe_fine c plain kept trying (Undo ∷ parts) p o e w k = undone_fine login c ms plain trying parts p o (is_given_up p.status) e w
+  safe_fine c plain kept trying (Undone ∷ parts) p o e w k = at login c ms plain kept trying parts (with_status (rolled_back p.status) p) o e w k
+  safe_fine c plain kept trying (Refuse opts ∷ parts) p o e w k = unless_fine login c ms plain kept trying parts p o (begin_refusal opts (version_of (facts_at login p).version) p.status) e w k
+  safe_fine c plain kept trying (Settle status ∷ parts) p o e w k =
+      at login c ms plain kept false parts (with_trial Off (with_status status p)) o e (record { olds = w.olds; given_is = w.given_is; newest = w.newest; each = w.each; fits = w.fits; off = λ x. refl }) k
+  safe_fine c plain kept trying (GiveUp ∷ parts) p o e w k = at login c ms plain kept trying parts (with_status (given_up p.status) p) o e w k
+  safe_fine c plain kept trying (Try ∷ parts) p o e w k =
+      at login c ms plain kept true parts (with_trial On p) o e (record { olds = w.olds; given_is = w.given_is; newest = w.newest; each = w.each; fits = w.fits; off = λ x. absurd (cc) }) k
+  safe_fine c plain kept trying (Back ∷ parts) p o e w k = absurd (cc)

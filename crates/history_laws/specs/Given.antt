@@ -6,7 +6,7 @@ use Rattle.my_grammar.specs.FitSets.{FitSets}
 use Rattle.my_grammar.specs.Sets.{Sets, NoSets, ByText}
 use Rattle.my_grammar.specs.Talk.{Talk, Queried}
 use Rattle.my_reading.specs.declared.call.Call.{Call}
-use Rattle.my_reading.specs.declared.call.Call.TheVariants.{Execute, Prepare, Commit, DropResult, SkipTaken}
+use Rattle.my_reading.specs.declared.call.Call.TheVariants.{DropResult, SkipTaken}
 use Rattle.my_reading.specs.Calls.{is_connect, kind_of}
 use Rattle.my_reading.specs.Endings.{AreCalls}
 use Rattle.my_reading.specs.Place.{Place, Exchange, exchanges, first_place}
@@ -74,17 +74,6 @@ have_ended [] = true
 have_ended (s ∷ []) = true
 have_ended (s ∷ t ∷ ss) = is_some s.ending && have_ended (t ∷ ss)
 
--- the calls of which the law speaks: all but those that prepare or execute one statement, and a commit
-abbrev pub is_known : Call → Bool
-is_known (Execute statement params) = false
-is_known (Prepare text) = false
-is_known Commit = false
-is_known c = true
-
-abbrev pub are_known : List Span → Bool
-are_known [] = true
-are_known (s ∷ ss) = is_known s.call && are_known ss
-
 -- the first of these calls connects
 abbrev pub connects : List Span → Bool
 connects [] = true
@@ -100,5 +89,5 @@ pub record IsGivenOf (ss : List Span) (p : Place) : Type 0 where
 
 -- so it is of each list of calls that ended as the reading has it
 abbrev pub PrefixesAreGiven : Type 0
-PrefixesAreGiven = (login : Login) (ss : List Span) → have_ended ss ≡ true → are_known ss ≡ true → connects ss ≡ true
+PrefixesAreGiven = (login : Login) (ss : List Span) → have_ended ss ≡ true → connects ss ≡ true
     → AreCalls login (read_calls login ss false (first_place login)).calls → IsGivenOf ss (read_calls login ss false (first_place login)).place

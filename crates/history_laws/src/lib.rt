@@ -5,8 +5,7 @@
 ghost use Rattle.history_laws.specs.Given.{PrefixesAreGiven};
 ghost use Rattle.history_laws.specs.Order.{EachIsOrderly};
 
-/// What calls returned and passed over of the sets of a response is, set by set, what the response was at some moment. It
-/// is proved of tapes without a call that prepares or executes one statement, and without a commit (`are_known`).
+/// What calls returned and passed over of the sets of a response is, set by set, what the response was at some moment.
 pub fn prefixes_are_given()
     ensures { PrefixesAreGiven }
 {}
