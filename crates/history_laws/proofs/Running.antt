@@ -1,5 +1,5 @@
 -- Calls one after another give callers what is in the sets.
-use Rattle.std.proofs.Common.{◌≡◌, ◌⊎◌, inl, inr, ℕ, suc, zero, List, [], ◌∷◌, Bool, true, false, not, ◌&&◌, ◌||◌, Option, Some, None, is_some, refl, sym, ap, ◌∙◌, subst}
+use Rattle.std.proofs.Common.{◌≡◌, ◌⊎◌, inl, inr, ℕ, suc, zero, nat_le, List, [], ◌∷◌, Bool, true, false, not, ◌&&◌, ◌||◌, Option, Some, None, is_some, refl, sym, ap, ◌∙◌, subst}
 use Rattle.my_grammar.specs.declared.login.Login.{Login}
 use Rattle.my_reading.specs.declared.call.Call.{Call}
 use Rattle.my_reading.specs.declared.call.Call.TheVariants.{Connect, Query, Prepare, Execute, Batch, CloseStmt, NextRow, DropResult, TakeSet, SkipTaken, Ping, Reset, ChangeUser, Begin, Commit, Rollback, ForgetTransaction, CleanForPool, ResetForPool, Quit}
@@ -10,14 +10,15 @@ use Rattle.my_reading.specs.Calls.{kind_of, is_connect, statement_in}
 use Rattle.my_reading.specs.Executions.{values_for}
 use Rattle.my_reading.specs.Commands.{arranging_texts, setup_texts}
 use Rattle.my_reading.specs.Course.{Part, All, Head, Item, Set, Rest, Command, Check, Run, Learn, Flag, Settle, Renew, Clear, Text, Step, Goes, Stops, Stop, Owes, Awaits, Returns, Halt, course, enough, parts_of, parts_of_batch, parts_of_lists, parts_of_queries, parts_of_texts, clean, run, step, step_of, unless_owed}
-use Rattle.my_reading.specs.Endings.{AreCalls, Ends, IsCall, IsCut, IsOpen, IsCancelled, IsLinkFailure, IsLinkEnd, awaits_head, cancelling, closes_cancelled, link_end, link_failure}
+use Rattle.my_reading.specs.Endings.{AreCalls, Ends, IsCall, IsCut, IsOpen, IsCancelled, IsLinkFailure, IsLinkEnd, awaits_head, cancelling, closes_cancelled, connects_first, link_end, link_failure}
 use Rattle.my_reading.specs.Errors.{io_error, unexpected_eof}
 use Rattle.my_reading.specs.Place.{Place, exchanges, first_place, owed as owed_at, with_bytes}
-use Rattle.my_reading.specs.Reading.{ReadCall, closed_answer, halt_of, is_closing, read_calls}
-use Rattle.my_reading.specs.Tape.{Span}
+use Rattle.my_reading.specs.Reading.{ReadCall, closed_answer, halt_of, is_closing, read_calls, reading}
+use Rattle.my_reading.specs.Order.{are_in_order, is_within, leads_to}
+use Rattle.my_reading.specs.Tape.{Span, Tape, TapeCall, spans, spans_from}
 use Rattle.my_reading.specs.Told.{Told, ToldReady, ToldError, Dropped, closes}
 use Rattle.my_reading.specs.Transactions.{begin_texts}
-use Rattle.history_laws.specs.Given.{AreMade, IsGivenOf, connects, Passed, PrefixesAreGiven, have_ended, passes_over, with_ending}
+use Rattle.history_laws.specs.Given.{AreMade, IsGivenOf, connects, Passed, EachTapeGives, PrefixesAreGiven, have_ended, passes_over, with_ending}
 use Rattle.history_laws.specs.Given.{NonePassed, MorePassed}
 use Rattle.history_laws.specs.Given.{NoCalls, OneCall}
 use Rattle.history_laws.specs.Groups.{Group, Made, given, given_after}
@@ -287,3 +288,26 @@ prefixes_are_given login ss ended first calls =
     let w = calls_stood login ss false [] (first_place login) None (record { olds = []; given_is = refl; newest = tt; each = tt; fits = record { kinds = tt; within = tt }; off = λ x. refl })
     (λ _ e. absurd (let no : connects ss ≡ true = first in cc)) ended calls in
     record { made = w.made; of_calls = w.of_calls; shares = w.share ∷ w.gave.olds; given_is = w.gave.given_is; each = (w.gave.newest, w.gave.each) }
+
+-- the calls of a tape that the reading accepts
+ended_from : (t : Tape) (cs : List TapeCall) → are_in_order t cs ≡ true → have_ended (spans_from t cs) ≡ true
+ended_from t [] e = refl
+ended_from t (c ∷ []) e = refl
+ended_from t (c ∷ d ∷ cs) e =
+    let x = both (is_within t c && leads_to c (d ∷ cs)) _ e in
+    let y = both (is_within t c) _ x.0 in
+    let z = both (is_some c.ending && nat_le c.sent_from d.sent_from) _ y.1 in
+    both_hold _ _ (both (is_some c.ending) _ z.0).0 (ended_from t (d ∷ cs) x.1)
+  where
+    both_hold : (a b : Bool) → a ≡ true → b ≡ true → (a && b) ≡ true
+    both_hold true b x y = y
+    both_hold false b x y = cc
+
+first_connects : (login : Login) (ss : List Span) (p : Place) → connects_first (read_calls login ss false p).calls ≡ true → connects ss ≡ true
+unfolding read_calls
+first_connects login [] p e = refl
+first_connects login (s ∷ ss) p e = (both (is_connect (kind_of s.call)) _ e).0
+
+pub each_tape_gives : EachTapeGives
+unfolding reading
+each_tape_gives login t w = prefixes_are_given login (spans t) (ended_from t t.calls w.order.order) (first_connects login (spans t) (first_place login) w.first) w.calls

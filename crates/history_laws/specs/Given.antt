@@ -8,10 +8,10 @@ use Rattle.my_grammar.specs.Talk.{Talk, Queried}
 use Rattle.my_reading.specs.declared.call.Call.{Call}
 use Rattle.my_reading.specs.declared.call.Call.TheVariants.{DropResult, SkipTaken}
 use Rattle.my_reading.specs.Calls.{is_connect, kind_of}
-use Rattle.my_reading.specs.Endings.{AreCalls}
+use Rattle.my_reading.specs.Endings.{AreCalls, IsTape}
 use Rattle.my_reading.specs.Place.{Place, Exchange, exchanges, first_place}
-use Rattle.my_reading.specs.Reading.{ReadCall, read_calls}
-use Rattle.my_reading.specs.Tape.{Span}
+use Rattle.my_reading.specs.Reading.{ReadCall, read_calls, reading}
+use Rattle.my_reading.specs.Tape.{Span, Tape, spans}
 use Rattle.my_reading.specs.Told.{Told, ToldRow, ToldEnd}
 use Rattle.history_laws.specs.Groups.{Group, Made, given, groups, IsEarlier}
 
@@ -91,3 +91,7 @@ pub record IsGivenOf (ss : List Span) (p : Place) : Type 0 where
 abbrev pub PrefixesAreGiven : Type 0
 PrefixesAreGiven = (login : Login) (ss : List Span) → have_ended ss ≡ true → connects ss ≡ true
     → AreCalls login (read_calls login ss false (first_place login)).calls → IsGivenOf ss (read_calls login ss false (first_place login)).place
+
+-- and of each tape that the reading accepts
+abbrev pub EachTapeGives : Type 0
+EachTapeGives = (login : Login) (t : Tape) → IsTape login t → IsGivenOf (spans t) (reading login t).place

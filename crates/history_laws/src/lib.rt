@@ -2,12 +2,13 @@
 //! No session is named: the laws are of bytes and calls alone.
 #![tactic(auto)]
 
-ghost use Rattle.history_laws.specs.Given.{PrefixesAreGiven};
+ghost use Rattle.history_laws.specs.Given.{EachTapeGives, PrefixesAreGiven};
 ghost use Rattle.history_laws.specs.Order.{EachIsOrderly};
 
 /// What calls returned and passed over of the sets of a response is, set by set, what the response was at some moment.
 pub fn prefixes_are_given()
-    ensures { PrefixesAreGiven }
+    ensures calls { PrefixesAreGiven }
+    ensures tapes { EachTapeGives }
 {}
 
 /// Each exchange of a tape is one that the protocol has, and all but the newest are over.
