@@ -5,3 +5,6 @@ pub mod Stepping
 pub mod Giving
 pub mod Running
 pub mod Ordering
+pub mod Moving
+pub mod Keeping
+pub mod Spelling

@@ -1,3 +1,4 @@
 pub mod Groups
 pub mod Given
 pub mod Order
+pub mod Taken

@@ -4,6 +4,7 @@
 
 ghost use Rattle.history_laws.specs.Given.{EachTapeGives, PrefixesAreGiven};
 ghost use Rattle.history_laws.specs.Order.{EachIsOrderly};
+ghost use Rattle.history_laws.specs.Taken.{EachIsSpelled};
 
 /// What calls returned and passed over of the sets of a response is, set by set, what the response was at some moment.
 pub fn prefixes_are_given()
@@ -14,4 +15,10 @@ pub fn prefixes_are_given()
 /// Each exchange of a tape is one that the protocol has, and all but the newest are over.
 pub fn each_is_orderly()
     ensures { EachIsOrderly }
+{}
+
+/// What was received on a connection is what the server sent in its exchanges, one after another, and then bytes that
+/// weren't read.
+pub fn each_is_spelled()
+    ensures { EachIsSpelled }
 {}
