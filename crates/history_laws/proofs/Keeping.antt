@@ -8,7 +8,7 @@ use Rattle.my_reading.specs.Course.{Step, Goes, Stops, Halt, enough, parts_of, r
 use Rattle.my_reading.specs.Order.{IsInOrder, are_in_order, begins_first, is_within, leads_to}
 use Rattle.my_reading.specs.Place.{Place, first_place, with_bytes}
 use Rattle.my_reading.specs.Reading.{halt_of, is_closing, read_calls, reading}
-use Rattle.my_reading.specs.Tape.{Span, Tape, TapeCall, between, spans, spans_from, taken_to}
+use Rattle.my_reading.specs.Tape.{Span, Tape, TapeCall, between, sent_to, spans, spans_from, taken_to}
 use Rattle.history_laws.proofs.Moving.{Moved, place_of, step_moves}
 use Rattle.history_laws.proofs.Stepping.{both}
 
@@ -67,15 +67,37 @@ taken_whole t (c ∷ d ∷ cs) e =
     let le : c.taken_from ≤ d.taken_from = leb-true c.taken_from d.taken_from (both (is_some c.ending && nat_le c.sent_from d.sent_from) _ leads).1 in
     ap (λ b. taken_after b (spans_from t (d ∷ cs))) (take_on c.taken_from d.taken_from t.taken le) ∙ taken_whole t (d ∷ cs) x.1
 
-empty_taken : (xs : List ℕ) → length xs ≡ 0 → [] ≡ xs
-empty_taken [] e = refl
-empty_taken (x ∷ xs) e = absurd (omega arith)
+empty_bytes : (xs : List ℕ) → length xs ≡ 0 → [] ≡ xs
+empty_bytes [] e = refl
+empty_bytes (x ∷ xs) e = absurd (omega arith)
 
 taken_from_start : (t : Tape) (cs : List TapeCall) → begins_first t cs ≡ true → are_in_order t cs ≡ true → taken_after [] (spans_from t cs) ≡ t.taken
-taken_from_start t [] f e = empty_taken t.taken (eqb-true (length t.taken) 0 (both _ _ f).1)
+taken_from_start t [] f e = empty_bytes t.taken (eqb-true (length t.taken) 0 (both _ _ f).1)
 taken_from_start t (c ∷ cs) f e =
     let none : c.taken_from ≡ 0 = eqb-true c.taken_from 0 (both _ _ f).1 in
     ap (λ b. taken_after b (spans_from t (c ∷ cs))) (sym (ap (λ k. take k t.taken) none)) ∙ taken_whole t (c ∷ cs) e
 
 pub all_taken : (t : Tape) → IsInOrder t → taken_after [] (spans t) ≡ t.taken
 all_taken t w = taken_from_start t t.calls w.first w.order
+
+-- and those that were sent
+sent_whole : (t : Tape) (cs : List TapeCall) → are_in_order t cs ≡ true → sent_after (take (sent_to t cs) t.sent) (spans_from t cs) ≡ t.sent
+sent_whole t [] e = take-length t.sent
+sent_whole t (c ∷ []) e =
+    let within = both (is_within t c) _ (both (is_within t c && true) _ e).0 in
+    let le : c.sent_from ≤ length t.sent = leb-true c.sent_from (length t.sent) (both (nat_le c.sent_from (length t.sent)) _ within.0).0 in
+    take_on c.sent_from (length t.sent) t.sent le ∙ take-length t.sent
+sent_whole t (c ∷ d ∷ cs) e =
+    let x = both (is_within t c && leads_to c (d ∷ cs)) _ e in
+    let leads = (both (is_within t c) _ x.0).1 in
+    let le : c.sent_from ≤ d.sent_from = leb-true c.sent_from d.sent_from (both (is_some c.ending) _ (both (is_some c.ending && nat_le c.sent_from d.sent_from) _ leads).0).1 in
+    ap (λ b. sent_after b (spans_from t (d ∷ cs))) (take_on c.sent_from d.sent_from t.sent le) ∙ sent_whole t (d ∷ cs) x.1
+
+sent_from_start : (t : Tape) (cs : List TapeCall) → begins_first t cs ≡ true → are_in_order t cs ≡ true → sent_after [] (spans_from t cs) ≡ t.sent
+sent_from_start t [] f e = empty_bytes t.sent (eqb-true (length t.sent) 0 (both _ _ f).0)
+sent_from_start t (c ∷ cs) f e =
+    let none : c.sent_from ≡ 0 = eqb-true c.sent_from 0 (both _ _ f).0 in
+    ap (λ b. sent_after b (spans_from t (c ∷ cs))) (sym (ap (λ k. take k t.sent) none)) ∙ sent_whole t (c ∷ cs) e
+
+pub all_sent : (t : Tape) → IsInOrder t → sent_after [] (spans t) ≡ t.sent
+all_sent t w = sent_from_start t t.calls w.first w.order

@@ -8,3 +8,4 @@ pub mod Ordering
 pub mod Moving
 pub mod Keeping
 pub mod Spelling
+pub mod Sending

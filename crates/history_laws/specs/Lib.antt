@@ -2,3 +2,4 @@ pub mod Groups
 pub mod Given
 pub mod Order
 pub mod Taken
+pub mod Sent

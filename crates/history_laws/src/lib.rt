@@ -4,6 +4,7 @@
 
 ghost use Rattle.history_laws.specs.Given.{EachTapeGives, PrefixesAreGiven};
 ghost use Rattle.history_laws.specs.Order.{EachIsOrderly};
+ghost use Rattle.history_laws.specs.Sent.{EachIsSent};
 ghost use Rattle.history_laws.specs.Taken.{EachIsSpelled};
 
 /// What calls returned and passed over of the sets of a response is, set by set, what the response was at some moment.
@@ -18,7 +19,8 @@ pub fn each_is_orderly()
 {}
 
 /// What was received on a connection is what the server sent in its exchanges, one after another, and then bytes that
-/// weren't read.
-pub fn each_is_spelled()
-    ensures { EachIsSpelled }
+/// weren't read (`received`). What was sent is a beginning of what the client says in them (`sent`).
+pub fn bytes_are_of_exchanges()
+    ensures received { EachIsSpelled }
+    ensures sent { EachIsSent }
 {}
