@@ -9,3 +9,4 @@ pub mod Moving
 pub mod Keeping
 pub mod Spelling
 pub mod Sending
+pub mod Finding

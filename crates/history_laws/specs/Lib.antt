@@ -3,3 +3,4 @@ pub mod Given
 pub mod Order
 pub mod Taken
 pub mod Sent
+pub mod Found

@@ -2,6 +2,7 @@
 //! No session is named: the laws are of bytes and calls alone.
 #![tactic(auto)]
 
+ghost use Rattle.history_laws.specs.Found.{EachIsFound};
 ghost use Rattle.history_laws.specs.Given.{EachTapeGives, PrefixesAreGiven};
 ghost use Rattle.history_laws.specs.Order.{EachIsOrderly};
 ghost use Rattle.history_laws.specs.Sent.{EachIsSent};
@@ -23,4 +24,10 @@ pub fn each_is_orderly()
 pub fn bytes_are_of_exchanges()
     ensures received { EachIsSpelled }
     ensures sent { EachIsSent }
+{}
+
+/// What calls of a tape returned and passed over is, exchange by exchange and set by set, what was at some moment in the
+/// exchanges that the grammar finds in the bytes that were received.
+pub fn callers_are_given_what_is_found()
+    ensures { EachIsFound }
 {}
