@@ -7,3 +7,4 @@ pub mod Asked
 pub mod Placed
 pub mod Replaying
 pub mod Nexting
+pub mod Refuted

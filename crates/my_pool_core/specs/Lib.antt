@@ -8,3 +8,4 @@ pub mod Owners
 pub mod Moves
 pub mod Wakes
 pub mod Counted
+pub mod Refuted

@@ -16,6 +16,7 @@ ghost use Rattle.my_pool_core.specs.declared.event.PoolEvent.TheVariants as even
 ghost use Rattle.my_pool_core.specs.Counted.{room, due, idle};
 ghost use Rattle.my_pool_core.specs.Events.{new_pool, poll_request, takes_place, is_gone, is_at_end, request, request_age, take_returned, decide, done};
 ghost use Rattle.my_pool_core.specs.Moves.{token_after, PlacesMove, home_after, lease_after, verdict_place, is_ending_place, is_verdict_on, IsKeeping};
+ghost use Rattle.my_pool_core.specs.Refuted.{Does, gives_wake_up, wake_given_up, gives_check_up, check_given_up};
 ghost use Rattle.my_pool_core.specs.Owners.{Token, Free, token, number_in, is_home, is_lease, Making, Looking, place_at, is_working, mark_at};
 ghost use Rattle.my_pool_core.specs.Sound.{IsSound, IsCovered};
 ghost use Rattle.my_pool_core.specs.State.{State};
@@ -219,4 +220,14 @@ pub fn numbers_rise()
         → (step s (events.PollRequest age now)).next_number ≡ number + 1 }
     ensures others { (s : State) (event : PoolEvent) → ((number : ℕ) → answer s event ≡ Poll (Dial number) → ⊥)
         → (step s event).next_number ≡ s.next_number }
+{}
+
+/// A woken request that is given up hands its wake on: the next one that waits takes the idle connection, and in no pool
+/// goes on waiting. A request that is given up while it looks at its connection lets it go: the next one makes a connection, and
+/// in no pool waits since the first one is still counted.
+pub fn given_up_leaves_nothing()
+    ensures handed_on { Does gives_wake_up (wake_given_up (Take 7)) }
+    ensures lost { Does gives_wake_up (wake_given_up Wait) → ⊥ }
+    ensures let_go { Does gives_check_up (check_given_up (Dial 8)) }
+    ensures leaked { Does gives_check_up (check_given_up Wait) → ⊥ }
 {}
