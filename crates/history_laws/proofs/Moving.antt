@@ -66,27 +66,27 @@ place_of (Goes parts q) = q
 place_of (Stops q s) = q
 
 -- the exchanges that begin
-queried_new : (terms : Terms) (text : List ℕ) → IsNew (queried terms text)
+pub queried_new : (terms : Terms) (text : List ℕ) → IsNew (queried terms text)
 queried_new terms text = record { fits = record { kinds = tt; within = tt }; silent = refl; origin_is = refl }
 
-some_new : (u t : Talk) → IsNew u → Some u ≡ Some t → IsNew t
+pub some_new : (u t : Talk) → IsNew u → Some u ≡ Some t → IsNew t
 some_new u t n e = let same : u ≡ t = cc in subst IsNew same n
 
 arranged_new : (terms : Terms) (o : Option (List ℕ)) (t : Talk) → arranging terms o ≡ Some t → IsNew t
 arranged_new terms None t e = cc
 arranged_new terms (Some text) t e = some_new (queried terms text) t (queried_new terms text) e
 
-executed_new : (terms : Terms) (st : Statements) (id : ℕ) (v : Values) (t : Talk) → execution terms st id v ≡ Some t → IsNew t
+pub executed_new : (terms : Terms) (st : Statements) (id : ℕ) (v : Values) (t : Talk) → execution terms st id v ≡ Some t → IsNew t
 executed_new terms st id (Fitting values) t e =
     let asking : Asking = ByStatement (ahead_of id values) (known_in st id) in
     some_new (Queried terms (body_of id values) (NoSets asking)) t (record { fits = record { kinds = tt; within = tt }; silent = commands_silent (body_of id values) asking; origin_is = refl }) e
 executed_new terms st id (Unfitting x) t e = cc
 
-closing_new : (terms : Terms) (x : Option ℕ) (t : Talk) → closing_of terms x ≡ Some t → IsNew t
+pub closing_new : (terms : Terms) (x : Option ℕ) (t : Talk) → closing_of terms x ≡ Some t → IsNew t
 closing_new terms None t e = cc
 closing_new terms (Some id) t e = some_new (closing terms id) t (record { fits = record { kinds = tt; within = tt }; silent = refl; origin_is = refl }) e
 
-opened_new : (login : Login) (terms : Terms) (st : Statements) (c : Call) (n : ℕ) (t : Talk) → opening login terms st c n ≡ Some t → IsNew t
+pub opened_new : (login : Login) (terms : Terms) (st : Statements) (c : Call) (n : ℕ) (t : Talk) → opening login terms st c n ≡ Some t → IsNew t
 opened_new login terms st Connect zero t e = some_new _ t (record { fits = record { kinds = tt; within = tt }; silent = refl; origin_is = refl }) e
 opened_new login terms st Connect (suc n) t e = arranged_new terms (slice_get (arranging_texts login) n) t e
 opened_new login terms st (Execute statement params) n t e = executed_new terms st statement.inner.id (values_for statement params) t e

@@ -173,7 +173,7 @@ closed_same ResetForPool gs = refl
 closed_same Quit gs = refl
 
 -- a call that may be cancelled without closing the session keeps what is left
-cancelled_reads : (c : Call) (p : Place) → closes_cancelled (kind_of c) p ≡ false → not (reads_sets c) ≡ false
+pub cancelled_reads : (c : Call) (p : Place) → closes_cancelled (kind_of c) p ≡ false → not (reads_sets c) ≡ false
 cancelled_reads Connect p e = absurd (cc)
 cancelled_reads (Query text) p e = absurd (cc)
 cancelled_reads (Prepare text) p e = absurd (cc)
@@ -244,7 +244,7 @@ here_stood closed ms p o w = record { made = ms; of_calls = NoCalls ms; share = 
 before_stood : (ms mid : List Made) (s : Span) (ss : List Span) (p : Place) → Passed s.call ms mid → Stood (with_ending s.call s.ending mid) ss p → Stood ms (s ∷ ss) p
 before_stood ms mid s ss p passed w = record { made = w.made; of_calls = OneCall ms mid w.made s ss passed w.of_calls; share = w.share; gave = w.gave }
 
-rest_ended : (s : Span) (ss : List Span) → have_ended (s ∷ ss) ≡ true → have_ended ss ≡ true
+pub rest_ended : (s : Span) (ss : List Span) → have_ended (s ∷ ss) ≡ true → have_ended ss ≡ true
 rest_ended s [] e = refl
 rest_ended s (t ∷ ss) e = (both (is_some s.ending) (have_ended (t ∷ ss)) e).1
 
@@ -290,7 +290,7 @@ prefixes_are_given login ss ended first calls =
     record { made = w.made; of_calls = w.of_calls; shares = w.share ∷ w.gave.olds; given_is = w.gave.given_is; each = (w.gave.newest, w.gave.each) }
 
 -- the calls of a tape that the reading accepts
-ended_from : (t : Tape) (cs : List TapeCall) → are_in_order t cs ≡ true → have_ended (spans_from t cs) ≡ true
+pub ended_from : (t : Tape) (cs : List TapeCall) → are_in_order t cs ≡ true → have_ended (spans_from t cs) ≡ true
 ended_from t [] e = refl
 ended_from t (c ∷ []) e = refl
 ended_from t (c ∷ d ∷ cs) e =

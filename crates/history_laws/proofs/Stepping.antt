@@ -165,7 +165,7 @@ module _ (c : Call) (ms : List Made) where
   tried_fine plain trying (Refused first) new o e is w over none =
       error_fine (with_trial Off new) o (record { olds = w.olds; given_is = w.given_is; newest = w.newest; each = w.each; fits = w.fits; off = λ x. refl }) (inl (over, none)) (Server first)
 
-not_true : (b : Bool) → not b ≡ true → b ≡ false
+pub not_true : (b : Bool) → not b ≡ true → b ≡ false
 not_true true e = cc
 not_true false e = refl
 
