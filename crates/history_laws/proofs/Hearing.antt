@@ -1,5 +1,5 @@
 -- Each step of a call has callers hear the ERRs of its exchanges.
-use Rattle.std.proofs.Common.{◌≡◌, ◌⊎◌, inl, inr, ℕ, ◌≤◌, suc, zero, length, nat_lt, List, [], ◌∷◌, ◌++◌, Bool, true, false, cond, not, ◌&&◌, ◌||◌, Option, Some, None, refl, sym, ap, ◌∙◌, subst, arith}
+use Rattle.std.proofs.Common.{◌≡◌, ℕ, ◌≤◌, length, nat_lt, List, [], ◌∷◌, ◌++◌, Bool, true, false, cond, not, ◌&&◌, ◌||◌, Option, Some, None, refl, sym, ap, ◌∙◌, subst, arith}
 use Rattle.my_frame.specs.Front.{Front, Waiting, Broken, Whole}
 use Rattle.my_reply.specs.declared.err.ErrPacket.{ErrPacket}
 use Rattle.my_reply.specs.ErrPacket.{err_at}
@@ -25,7 +25,6 @@ use Rattle.my_handshake.specs.Version.{version_of}
 use Rattle.my_reading.specs.declared.call.Call.{Call}
 use Rattle.my_reading.specs.declared.call.Call.TheVariants.{Connect, Query, Prepare, Execute, Batch, CloseStmt, NextRow, DropResult, TakeSet, SkipTaken, Ping, Reset, ChangeUser, Begin, Commit, Rollback, ForgetTransaction, CleanForPool, ResetForPool, Quit}
 use Rattle.my_reading.specs.declared.error.DriverError.{DriverError}
-use Rattle.my_reading.specs.declared.error.Error.{Error}
 use Rattle.my_reading.specs.declared.error.Error.TheVariants.{Driver, Io, Server}
 use Rattle.my_reading.specs.declared.error.IoError.{IoError}
 use Rattle.my_reading.specs.declared.error.ServerError.{ServerError}
@@ -34,8 +33,8 @@ use Rattle.my_reading.specs.declared.transaction.Trial.TheVariants.{Off, On, Ref
 use Rattle.my_reading.specs.declared.transaction.TxStatus.TheVariants.{RequiresRollback}
 use Rattle.my_reading.specs.Accounts.{changed}
 use Rattle.my_reading.specs.Calls.{id_in, kind_of, statement_in, text_in}
-use Rattle.my_reading.specs.Commands.{closing, queried}
-use Rattle.my_reading.specs.Course.{Part, All, Head, Item, Set, Rest, Command, Find, Check, Run, Reply, Keep, Give, Learn, Forget, Offered, Clear, Text, Flag, Adopt, Renew, Drain, Undo, Undone, Refuse, Settle, GiveUp, Try, Back, Step, Goes, Stops, Stop, Owes, Awaits, Returns, after_err, after_kind, after_payload, checked, closing_of, dropped_at, executed, failed_at, failure, first_above, found, is_drain, is_greeting, is_rows, kept, learned, looked_for, offered, reads, refused_at, renewing, returned, step, step_of, undone, unfit, unless_cached, unless_long, unless_owed, unless_refused, with_command, with_front}
+use Rattle.my_reading.specs.Commands.{queried}
+use Rattle.my_reading.specs.Course.{Part, All, Head, Item, Set, Rest, Command, Find, Check, Run, Reply, Keep, Give, Learn, Forget, Offered, Clear, Text, Flag, Adopt, Renew, Drain, Undo, Undone, Refuse, Settle, GiveUp, Try, Back, Step, Goes, Stops, Stop, Owes, Awaits, Returns, after_kind, after_payload, checked, closing_of, executed, failed_at, failure, first_above, found, is_drain, is_greeting, is_rows, offered, reads, refused_at, renewing, returned, step, step_of, undone, unfit, unless_cached, unless_long, unless_owed, unless_refused, with_command, with_front}
 use Rattle.my_reading.specs.Errors.{mixed_params, server_error}
 use Rattle.my_reading.specs.Executions.{Values, Fitting, Unfitting, values_for}
 use Rattle.my_reading.specs.Facts.{prepared_by}
@@ -46,7 +45,7 @@ use Rattle.my_reading.specs.Told.{Told, ToldReady, ToldRow, ToldEnd, ToldNone, T
 use Rattle.my_reading.specs.Transactions.{begin_refusal, given_up, is_given_up, rollback_text, rolled_back}
 use Rattle.my_reading.specs.Versions.{can_reset}
 use Rattle.my_statements.specs.Cache.{Held}
-use Rattle.history_laws.specs.Errors.{AreHushed, EndedBy, error_onto, IsHushed, PassedErrors, NoErrors, MoreErrors, errors_in, errors_of, errors_told, passes_errors, unless_hushed, with_told, with_unheard}
+use Rattle.history_laws.specs.Errors.{AreHushed, EndedBy, error_onto, PassedErrors, NoErrors, MoreErrors, errors_in, errors_of, errors_told, passes_errors, unless_hushed, with_told, with_unheard}
 use Rattle.history_laws.specs.Groups.{Made}
 use Rattle.history_laws.proofs.Blaming.{calm_blames, failed_blames, is_failed}
 use Rattle.history_laws.proofs.Growing.{failed_over}

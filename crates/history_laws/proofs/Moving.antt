@@ -1,7 +1,5 @@
 -- What a step of a call does to the exchanges and to the bytes: nothing, it reads a payload, or it begins an exchange.
-use Rattle.std.proofs.Common.{◌≡◌, ℕ, suc, zero, length, nat_lt, List, [], ◌∷◌, ◌++◌, Bool, true, false, cond, ◌||◌, Option, Some, None, slice_get, refl, sym, ap, subst}
-use Rattle.my_command.specs.declared.client.ClientPacket.TheVariants as packets
-use Rattle.my_command.specs.Client.Packet.{client_bytes as packet_bytes}
+use Rattle.std.proofs.Common.{◌≡◌, ℕ, suc, zero, length, nat_lt, List, [], ◌∷◌, Bool, true, false, cond, ◌||◌, Option, Some, None, slice_get, refl, subst}
 use Rattle.my_flags.specs.declared.flags.CapabilityFlags.{CapabilityFlags}
 use Rattle.my_frame.specs.Front.{Front, Waiting, Broken, Whole}
 use Rattle.my_reply.specs.declared.err.ErrPacket.{ErrPacket}
@@ -30,8 +28,8 @@ use Rattle.my_reading.specs.declared.error.ServerError.{ServerError}
 use Rattle.my_reading.specs.declared.transaction.Trial.{Trial}
 use Rattle.my_reading.specs.declared.transaction.Trial.TheVariants as trials
 use Rattle.my_reading.specs.Calls.{id_in, statement_in, text_in}
-use Rattle.my_reading.specs.Commands.{arranging, arranging_texts, closing, execution, opening, queried, renewal}
-use Rattle.my_reading.specs.Course.{Part, All, Head, Item, Set, Rest, Command, Find, Check, Run, Reply, Keep, Give, Learn, Forget, Offered, Clear, Text, Flag, Adopt, Renew, Drain, Undo, Undone, Refuse, Settle, GiveUp, Try, Back, Step, Goes, Stops, after_err, after_kind, after_payload, checked, closing_of, dropped_at, executed, failed_at, failure, first_above, found, is_drain, is_greeting, is_rows, kept, learned, looked_for, offered, reads, refused_at, renewing, returned, run, step, step_of, undone, unfit, unless_cached, unless_long, unless_owed, unless_refused, with_command, with_front}
+use Rattle.my_reading.specs.Commands.{arranging, arranging_texts, closing, execution, opening, queried}
+use Rattle.my_reading.specs.Course.{Part, All, Head, Item, Set, Rest, Command, Find, Check, Run, Reply, Keep, Give, Learn, Forget, Offered, Clear, Text, Flag, Adopt, Renew, Drain, Undo, Undone, Refuse, Settle, GiveUp, Try, Back, Step, Goes, Stops, after_err, after_kind, after_payload, checked, closing_of, dropped_at, executed, failure, first_above, found, is_drain, is_greeting, is_rows, offered, reads, refused_at, renewing, returned, step, step_of, undone, unfit, unless_cached, unless_long, unless_owed, unless_refused, with_command, with_front}
 use Rattle.my_reading.specs.Errors.{server_error}
 use Rattle.my_reading.specs.Executions.{Values, Fitting, Unfitting, values_for}
 use Rattle.my_reading.specs.Facts.{prepared_by}

@@ -1,19 +1,19 @@
 -- Calls one after another have callers hear the ERRs of the exchanges.
-use Rattle.std.proofs.Common.{◌≡◌, ◌⊎◌, inl, inr, ℕ, suc, zero, List, [], ◌∷◌, Bool, true, false, not, ◌&&◌, ◌||◌, Option, Some, None, is_some, refl, sym, ap, ◌∙◌, subst}
+use Rattle.std.proofs.Common.{◌≡◌, ◌⊎◌, inl, inr, ℕ, suc, zero, List, [], ◌∷◌, Bool, true, false, not, Option, Some, None, is_some, refl, sym, ap, ◌∙◌, subst}
 use Rattle.my_grammar.specs.declared.login.Login.{Login}
 use Rattle.my_params.specs.declared.params.Params.{Params}
 use Rattle.my_reading.specs.declared.call.Call.{Call}
 use Rattle.my_reading.specs.declared.call.Call.TheVariants.{Connect, Query, Prepare, Execute, Batch, CloseStmt, NextRow, DropResult, TakeSet, SkipTaken, Ping, Reset, ChangeUser, Begin, Commit, Rollback, ForgetTransaction, CleanForPool, ResetForPool, Quit}
 use Rattle.my_reading.specs.declared.error.Error.{Error}
 use Rattle.my_reading.specs.declared.error.ServerError.{ServerError}
-use Rattle.my_reading.specs.declared.transaction.Trial.TheVariants.{Off, Refused}
+use Rattle.my_reading.specs.declared.transaction.Trial.TheVariants.{Off}
 use Rattle.my_reading.specs.declared.transaction.TxStatus.TheVariants.{InTransaction}
 use Rattle.my_reading.specs.Calls.{kind_of}
 use Rattle.my_reading.specs.Commands.{arranging_texts, setup_texts}
 use Rattle.my_reading.specs.Course.{Part, Flag, Settle, Step, Goes, Stops, Stop, Owes, Awaits, Returns, Halt, course, enough, parts_of, parts_of_batch, parts_of_lists, parts_of_queries, parts_of_texts, run, step}
 use Rattle.my_reading.specs.Endings.{AreCalls, Ends, IsCut, IsOpen, IsCancelled, IsLinkFailure, IsLinkEnd, closes_cancelled}
 use Rattle.my_reading.specs.Place.{Place, exchanges, first_place, with_bytes}
-use Rattle.my_reading.specs.Reading.{ReadCall, closed_answer, halt_of, is_closing, read_calls, reading}
+use Rattle.my_reading.specs.Reading.{ReadCall, closed_answer, is_closing, read_calls, reading}
 use Rattle.my_reading.specs.Tape.{Span, spans}
 use Rattle.my_reading.specs.Told.{Told, ToldError, Dropped, closes}
 use Rattle.my_reading.specs.Transactions.{begin_texts}
