@@ -2,15 +2,12 @@
 use Rattle.std.proofs.Common.{◌≡◌, ℕ, suc, zero, List, [], ◌∷◌, ◌++◌, length, Bool, true, false, cond, Option, refl, sym, ap, ◌∙◌, subst, append_assoc}
 use Rattle.my_frame.specs.Front.{Front, Waiting, Broken, Whole}
 use Rattle.my_grammar.proofs.Sound.{exchange_is_cut, over_is_cut}
-use Rattle.my_grammar.specs.declared.login.Login.{Login}
-use Rattle.my_grammar.specs.declared.spot.Kind.{Kind}
 use Rattle.my_grammar.specs.Contexts.{is_bad}
 use Rattle.my_grammar.specs.Cut.{Cut, Read, cut, cut_after, front_of, is_over, kind_of, onto, read_from, read_front, read_within, rest_of}
 use Rattle.my_grammar.specs.Growth.{grow}
 use Rattle.my_grammar.specs.Talk.{Talk, Fits, origin, server_bytes, turns}
 use Rattle.my_reading.specs.Place.{Exchange, Place, exchanges}
 use Rattle.my_reading.specs.Reading.{reading}
-use Rattle.my_reading.specs.Tape.{Tape}
 use Rattle.history_laws.specs.Found.{AreGivenIn, EachIsFound, in_order, origins}
 use Rattle.history_laws.specs.Given.{AreGiven, IsGiven}
 use Rattle.history_laws.specs.Groups.{Group}

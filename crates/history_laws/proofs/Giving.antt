@@ -1,5 +1,5 @@
 -- Calls that read sets, and the head of a query's first one.
-use Rattle.std.proofs.Common.{◌≡◌, ◌⊎◌, inl, inr, ℕ, List, [], ◌∷◌, Bool, true, false, cond, not, ◌||◌, Option, Some, None, refl, sym, ap, ◌∙◌, subst}
+use Rattle.std.proofs.Common.{◌≡◌, inl, inr, ℕ, List, [], ◌∷◌, Bool, true, false, cond, not, ◌||◌, Option, Some, None, refl, sym, ap, ◌∙◌, subst}
 use Rattle.my_flags.specs.declared.flags.StatusFlags.{StatusFlags}
 use Rattle.my_flags.specs.Sets.{deprecates_eof}
 use Rattle.my_grammar.proofs.Growth.{grows}
@@ -12,26 +12,25 @@ use Rattle.my_grammar.specs.declared.spot.Spot.TheVariants as spots
 use Rattle.my_grammar.specs.declared.spot.Spot.{Spot}
 use Rattle.my_grammar.specs.Cut.{is_idle, is_over}
 use Rattle.my_grammar.specs.Growth.{grow}
-use Rattle.my_grammar.specs.Sets.{Sets, SetHead, NoSets, Lone, Failed, Heading, Headed, Begun, Ended, Broken, grow_sets, packets_in, head_columns}
+use Rattle.my_grammar.specs.Sets.{Sets, NoSets, Lone, Failed, Heading, Headed, Begun, Ended, Broken, grow_sets, packets_in, head_columns}
 use Rattle.my_grammar.specs.Talk.{Talk, Queried, context_of, packets_of, described, Fits}
-use Rattle.my_reply.specs.declared.column.Column.{Column}
 use Rattle.my_reply.specs.declared.err.ErrPacket.{ErrPacket}
 use Rattle.my_reading.proofs.Described.{at_rows}
 use Rattle.my_reading.specs.declared.call.Call.{Call}
 use Rattle.my_reading.specs.declared.call.Call.TheVariants.{Connect, Query, Prepare, Execute, Batch, CloseStmt, NextRow, DropResult, TakeSet, SkipTaken, Ping, Reset, ChangeUser, Begin, Commit, Rollback, ForgetTransaction, CleanForPool, ResetForPool, Quit}
 use Rattle.my_reading.specs.Calls.{id_in, kind_of}
 use Rattle.my_reading.specs.Statements.{Statements, with_columns}
-use Rattle.my_reading.specs.Course.{Part, All, Head, Item, Set, Rest, Learn, Goes, Stops, Awaits, Returns, after_kind, is_rows, refused_at, step_of}
+use Rattle.my_reading.specs.Course.{Part, All, Head, Item, Set, Rest, Learn, Goes, Returns, after_kind, is_rows, refused_at, step_of}
 use Rattle.my_reading.specs.Errors.{server_error}
-use Rattle.my_reading.specs.Place.{Place, facts_at, facts_of, with_end as ending, with_statements, with_taken, with_talk, without_end}
+use Rattle.my_reading.specs.Place.{Place, facts_at, facts_of, with_end as ending, with_statements, with_talk, without_end}
 use Rattle.my_reading.specs.Rows.{row_of}
-use Rattle.my_reading.specs.Told.{Told, ToldReady, ToldRow, ToldEnd, ToldNone, closes}
-use Rattle.history_laws.specs.Given.{IsGiven, IsItem, Passed, passes_over, givens, onto}
+use Rattle.my_reading.specs.Told.{Told, ToldReady, ToldEnd, ToldNone, closes}
+use Rattle.history_laws.specs.Given.{IsGiven, IsItem, passes_over, givens, onto}
 use Rattle.history_laws.specs.Given.{NonePassed, MorePassed}
-use Rattle.history_laws.specs.Groups.{Group, Made, given, given_after, groups, item_given, stop_given, with_item, with_stop}
+use Rattle.history_laws.specs.Groups.{Group, Made, given, given_after, groups, with_item, with_stop}
 use Rattle.history_laws.proofs.Growing.{InRows, end_in_rows, failed_over, is_quiet, quiet_groups, row_in_rows}
 use Rattle.history_laws.proofs.Having.{Comes, either, reads_have, row_at}
-use Rattle.history_laws.proofs.Phases.{Answering, Gave, GaveAt, Heading as HeadingAt, IsFine, IsFresh, IsHalted, IsKept, IsPassing, Drops, Skips, KeptAt, Left, Over, Passing, Phase, Reading, Rests, Stopped, Taking, is_lone, is_query, is_tail, known_part, reads_sets, returned_so, shifted}
+use Rattle.history_laws.proofs.Phases.{Answering, Gave, GaveAt, Heading as HeadingAt, IsFine, IsFresh, IsHalted, IsPassing, Drops, Skips, KeptAt, Left, Over, Passing, Reading, Stopped, Taking, is_lone, is_query, is_tail, known_part, reads_sets, returned_so, shifted}
 use Rattle.history_laws.proofs.Stepping.{faults_fine, grown_gave, refused_fine, told_gave}
 
 all_given : (t : Talk) (terms : Terms) (command : List ℕ) (x : Sets) → t ≡ Queried terms command x → IsGiven (Some (groups x)) t

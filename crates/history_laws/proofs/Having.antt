@@ -1,6 +1,5 @@
 -- Properties of steps that read a payload or begin an exchange: one has it where each of its outcomes has.
 use Rattle.std.proofs.Common.{◌≡◌, ℕ, ◌≤◌, length, nat_lt, Bool, true, false, cond, Option, Some, None, List, ◌∷◌, refl, sym, subst, arith}
-use Rattle.my_frame.specs.declared.fault.CodecFault.{CodecFault}
 use Rattle.my_frame.specs.Front.{Front, Waiting, Broken, Whole}
 use Rattle.my_reply.specs.declared.err.ErrPacket.{ErrPacket}
 use Rattle.my_reply.specs.ErrPacket.{err_at}
@@ -16,10 +15,9 @@ use Rattle.my_grammar.specs.Growth.{grow}
 use Rattle.my_grammar.specs.Response.{response}
 use Rattle.my_grammar.specs.Talk.{Talk, commands_in, context_of, limit_of, number_of, turns}
 use Rattle.my_reading.specs.declared.call.Call.{Call}
-use Rattle.my_reading.specs.declared.error.Error.{Error}
 use Rattle.my_reading.specs.declared.error.Error.TheVariants.{Io}
 use Rattle.my_reading.specs.declared.error.IoError.{IoError}
-use Rattle.my_reading.specs.Course.{Part, Drain, Stop, Awaits, Step, Goes, Stops, failure, with_front, reads, after_payload, after_kind, after_err, dropped_at, failed_at, is_drain, refused_at, unfit, unless_cached, unless_long, with_command, first_above, is_greeting}
+use Rattle.my_reading.specs.Course.{Part, Drain, Awaits, Step, Goes, Stops, failure, with_front, reads, after_payload, after_kind, after_err, dropped_at, failed_at, is_drain, refused_at, unless_cached, unless_long, with_command, first_above, is_greeting}
 use Rattle.my_reading.specs.Errors.{server_error}
 use Rattle.my_reading.specs.Place.{Place, facts_at, with_exchange, with_talk}
 use Rattle.my_reading.specs.Rows.{row_of}

@@ -1,14 +1,14 @@
 -- A property of places with the bytes so far holds after each tape, where it stays as a call moves and as bytes arrive.
-use Rattle.std.proofs.Common.{◌≡◌, ℕ, suc, zero, ◌-◌, ◌≤◌, List, [], ◌∷◌, ◌++◌, length, take, drop, Bool, true, false, ◌&&◌, ◌||◌, nat_le, is_some, refl, sym, ap, ◌∙◌, subst, arith}
+use Rattle.std.proofs.Common.{◌≡◌, ℕ, suc, zero, ◌-◌, ◌≤◌, List, [], ◌∷◌, ◌++◌, length, take, drop, Bool, true, false, ◌&&◌, ◌||◌, nat_le, is_some, refl, sym, ap, ◌∙◌, arith}
 use Rattle.std.proofs.Math.Seq.{take-length}
 use Rattle.std.proofs.lemmas.Bool.{eqb-true, leb-true}
 use Rattle.my_grammar.specs.declared.login.Login.{Login}
 use Rattle.my_reading.specs.declared.call.Call.{Call}
-use Rattle.my_reading.specs.Course.{Step, Goes, Stops, Halt, enough, parts_of, run, step}
+use Rattle.my_reading.specs.Course.{Step, Goes, Stops, enough, parts_of, run, step}
 use Rattle.my_reading.specs.Order.{IsInOrder, are_in_order, begins_first, is_within, leads_to}
-use Rattle.my_reading.specs.Place.{Place, first_place, with_bytes}
-use Rattle.my_reading.specs.Reading.{halt_of, is_closing, read_calls, reading}
-use Rattle.my_reading.specs.Tape.{Span, Tape, TapeCall, between, sent_to, spans, spans_from, taken_to}
+use Rattle.my_reading.specs.Place.{Place, with_bytes}
+use Rattle.my_reading.specs.Reading.{halt_of, is_closing, read_calls}
+use Rattle.my_reading.specs.Tape.{Span, Tape, TapeCall, sent_to, spans, spans_from, taken_to}
 use Rattle.history_laws.proofs.Moving.{Moved, place_of, step_moves}
 use Rattle.history_laws.proofs.Stepping.{both}
 

@@ -10,3 +10,6 @@ pub mod Keeping
 pub mod Spelling
 pub mod Sending
 pub mod Finding
+pub mod Blaming
+pub mod Hearing
+pub mod Telling

@@ -1,7 +1,5 @@
 -- What a step of a call does to the exchanges and to the bytes: nothing, it reads a payload, or it begins an exchange.
-use Rattle.std.proofs.Common.{◌≡◌, ℕ, suc, zero, length, nat_lt, List, [], ◌∷◌, ◌++◌, Bool, true, false, cond, ◌||◌, Option, Some, None, slice_get, refl, sym, ap, subst}
-use Rattle.my_command.specs.declared.client.ClientPacket.TheVariants as packets
-use Rattle.my_command.specs.Client.Packet.{client_bytes as packet_bytes}
+use Rattle.std.proofs.Common.{◌≡◌, ℕ, suc, zero, length, nat_lt, List, [], ◌∷◌, Bool, true, false, cond, ◌||◌, Option, Some, None, slice_get, refl, subst}
 use Rattle.my_flags.specs.declared.flags.CapabilityFlags.{CapabilityFlags}
 use Rattle.my_frame.specs.Front.{Front, Waiting, Broken, Whole}
 use Rattle.my_reply.specs.declared.err.ErrPacket.{ErrPacket}
@@ -30,8 +28,8 @@ use Rattle.my_reading.specs.declared.error.ServerError.{ServerError}
 use Rattle.my_reading.specs.declared.transaction.Trial.{Trial}
 use Rattle.my_reading.specs.declared.transaction.Trial.TheVariants as trials
 use Rattle.my_reading.specs.Calls.{id_in, statement_in, text_in}
-use Rattle.my_reading.specs.Commands.{arranging, arranging_texts, closing, execution, opening, queried, renewal}
-use Rattle.my_reading.specs.Course.{Part, All, Head, Item, Set, Rest, Command, Find, Check, Run, Reply, Keep, Give, Learn, Forget, Offered, Clear, Text, Flag, Adopt, Renew, Drain, Undo, Undone, Refuse, Settle, GiveUp, Try, Back, Step, Goes, Stops, after_err, after_kind, after_payload, checked, closing_of, dropped_at, executed, failed_at, failure, first_above, found, is_drain, is_greeting, is_rows, kept, learned, looked_for, offered, reads, refused_at, renewing, returned, run, step, step_of, undone, unfit, unless_cached, unless_long, unless_owed, unless_refused, with_command, with_front}
+use Rattle.my_reading.specs.Commands.{arranging, arranging_texts, closing, execution, opening, queried}
+use Rattle.my_reading.specs.Course.{Part, All, Head, Item, Set, Rest, Command, Find, Check, Run, Reply, Keep, Give, Learn, Forget, Offered, Clear, Text, Flag, Adopt, Renew, Drain, Undo, Undone, Refuse, Settle, GiveUp, Try, Back, Step, Goes, Stops, after_err, after_kind, after_payload, checked, closing_of, dropped_at, executed, failure, first_above, found, is_drain, is_greeting, is_rows, offered, reads, refused_at, renewing, returned, step, step_of, undone, unfit, unless_cached, unless_long, unless_owed, unless_refused, with_command, with_front}
 use Rattle.my_reading.specs.Errors.{server_error}
 use Rattle.my_reading.specs.Executions.{Values, Fitting, Unfitting, values_for}
 use Rattle.my_reading.specs.Facts.{prepared_by}
@@ -66,27 +64,27 @@ place_of (Goes parts q) = q
 place_of (Stops q s) = q
 
 -- the exchanges that begin
-queried_new : (terms : Terms) (text : List ℕ) → IsNew (queried terms text)
+pub queried_new : (terms : Terms) (text : List ℕ) → IsNew (queried terms text)
 queried_new terms text = record { fits = record { kinds = tt; within = tt }; silent = refl; origin_is = refl }
 
-some_new : (u t : Talk) → IsNew u → Some u ≡ Some t → IsNew t
+pub some_new : (u t : Talk) → IsNew u → Some u ≡ Some t → IsNew t
 some_new u t n e = let same : u ≡ t = cc in subst IsNew same n
 
 arranged_new : (terms : Terms) (o : Option (List ℕ)) (t : Talk) → arranging terms o ≡ Some t → IsNew t
 arranged_new terms None t e = cc
 arranged_new terms (Some text) t e = some_new (queried terms text) t (queried_new terms text) e
 
-executed_new : (terms : Terms) (st : Statements) (id : ℕ) (v : Values) (t : Talk) → execution terms st id v ≡ Some t → IsNew t
+pub executed_new : (terms : Terms) (st : Statements) (id : ℕ) (v : Values) (t : Talk) → execution terms st id v ≡ Some t → IsNew t
 executed_new terms st id (Fitting values) t e =
     let asking : Asking = ByStatement (ahead_of id values) (known_in st id) in
     some_new (Queried terms (body_of id values) (NoSets asking)) t (record { fits = record { kinds = tt; within = tt }; silent = commands_silent (body_of id values) asking; origin_is = refl }) e
 executed_new terms st id (Unfitting x) t e = cc
 
-closing_new : (terms : Terms) (x : Option ℕ) (t : Talk) → closing_of terms x ≡ Some t → IsNew t
+pub closing_new : (terms : Terms) (x : Option ℕ) (t : Talk) → closing_of terms x ≡ Some t → IsNew t
 closing_new terms None t e = cc
 closing_new terms (Some id) t e = some_new (closing terms id) t (record { fits = record { kinds = tt; within = tt }; silent = refl; origin_is = refl }) e
 
-opened_new : (login : Login) (terms : Terms) (st : Statements) (c : Call) (n : ℕ) (t : Talk) → opening login terms st c n ≡ Some t → IsNew t
+pub opened_new : (login : Login) (terms : Terms) (st : Statements) (c : Call) (n : ℕ) (t : Talk) → opening login terms st c n ≡ Some t → IsNew t
 opened_new login terms st Connect zero t e = some_new _ t (record { fits = record { kinds = tt; within = tt }; silent = refl; origin_is = refl }) e
 opened_new login terms st Connect (suc n) t e = arranged_new terms (slice_get (arranging_texts login) n) t e
 opened_new login terms st (Execute statement params) n t e = executed_new terms st statement.inner.id (values_for statement params) t e

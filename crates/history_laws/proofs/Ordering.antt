@@ -1,53 +1,43 @@
 -- Each step of a call leaves its exchanges in order.
-use Rattle.std.proofs.Common.{◌≡◌, ◌⊎◌, inl, inr, ℕ, suc, zero, List, [], ◌∷◌, Bool, true, false, cond, not, ◌&&◌, ◌||◌, Option, Some, None, slice_get, refl, sym, ap, ◌∙◌, subst}
-use Rattle.my_flags.specs.Sets.{deprecates_eof}
-use Rattle.my_command.specs.declared.client.ClientPacket.TheVariants as packets
-use Rattle.my_command.specs.Client.Packet.{client_bytes as packet_bytes}
+use Rattle.std.proofs.Common.{◌≡◌, ℕ, suc, zero, List, [], ◌∷◌, Bool, true, false, cond, ◌&&◌, ◌||◌, Option, Some, None, refl, sym, ap, ◌∙◌, subst}
 use Rattle.my_grammar.proofs.Growth.{grows}
 use Rattle.my_grammar.specs.declared.login.Login.{Login}
 use Rattle.my_grammar.specs.declared.spot.Kind.{Kind}
 use Rattle.my_grammar.specs.declared.spot.Kind.TheVariants as kinds
 use Rattle.my_grammar.specs.declared.spot.Terms.{Terms}
-use Rattle.my_grammar.specs.Cut.{is_over, kind_of as payload_kind}
-use Rattle.my_grammar.specs.Growth.{Grows, grow}
-use Rattle.my_grammar.specs.Talk.{Talk, Queried, Silent, Fits, context_of}
+use Rattle.my_grammar.specs.Cut.{is_over}
+use Rattle.my_grammar.specs.Growth.{grow}
+use Rattle.my_grammar.specs.Talk.{Talk, Fits, context_of}
 use Rattle.my_handshake.specs.Version.{version_of}
 use Rattle.my_reading.specs.declared.call.Call.{Call}
 use Rattle.my_reading.specs.declared.call.Call.TheVariants.{Connect, Query, Prepare, Execute, Batch, CloseStmt, NextRow, DropResult, TakeSet, SkipTaken, Ping, Reset, ChangeUser, Begin, Commit, Rollback, ForgetTransaction, CleanForPool, ResetForPool, Quit}
-use Rattle.my_reading.specs.declared.call.CallKind.{CallKind}
 use Rattle.my_reading.specs.declared.error.DriverError.{DriverError}
-use Rattle.my_reading.specs.declared.error.Error.{Error}
-use Rattle.my_reading.specs.declared.error.Error.TheVariants.{Driver, Io, Server}
-use Rattle.my_reading.specs.declared.error.IoError.{IoError}
 use Rattle.my_reading.specs.declared.error.ServerError.{ServerError}
 use Rattle.my_reading.specs.declared.transaction.Trial.{Trial}
 use Rattle.my_reading.specs.declared.transaction.Trial.TheVariants as trials
 use Rattle.my_reply.specs.declared.err.ErrPacket.{ErrPacket}
 use Rattle.my_params.specs.declared.params.Params.{Params}
 use Rattle.my_reading.specs.Accounts.{changed}
-use Rattle.my_reading.specs.Calls.{id_in, kind_of, statement_in}
-use Rattle.my_reading.specs.Commands.{arranging, arranging_texts, closing, execution, opening, queried}
-use Rattle.my_reading.specs.Course.{Part, All, Head, Item, Set, Rest, Command, Find, Check, Run, Reply, Keep, Give, Learn, Forget, Offered, Clear, Text, Flag, Adopt, Renew, Drain, Undo, Undone, Refuse, Settle, GiveUp, Try, Back, Step, Goes, Stops, Stop, Owes, Awaits, Returns, after_kind, is_drain, checked, executed, failure, is_rows, learned, offered, reads, refused_at, renewing, step, step_of, undone, parts_of, parts_of_batch, parts_of_lists, parts_of_queries, parts_of_texts, closing_of, course, enough, found, kept, looked_for, returned, run, Halt, unless_owed, unless_refused, with_command}
+use Rattle.my_reading.specs.Calls.{id_in, statement_in}
+use Rattle.my_reading.specs.Commands.{arranging_texts, closing, queried}
+use Rattle.my_reading.specs.Course.{Part, All, Head, Item, Set, Rest, Command, Find, Check, Run, Reply, Keep, Give, Learn, Forget, Offered, Clear, Text, Flag, Adopt, Renew, Drain, Undo, Undone, Refuse, Settle, GiveUp, Try, Back, Step, Goes, Stops, after_kind, is_drain, checked, executed, is_rows, offered, reads, refused_at, renewing, step, step_of, undone, parts_of, parts_of_batch, parts_of_lists, parts_of_queries, parts_of_texts, closing_of, enough, found, returned, run, unless_owed, unless_refused, with_command}
 use Rattle.my_reading.specs.Errors.{server_error}
 use Rattle.my_reading.specs.Executions.{Values, Fitting, Unfitting, values_for}
-use Rattle.my_reading.specs.Place.{Place, connects_in, exchanges, first_place, with_bytes, with_taken, facts_at, next_exchange, owed, terms_of, with_account, with_end, with_exchange, with_statements, with_status, with_talk, with_trial, without_end}
+use Rattle.my_reading.specs.Place.{Place, connects_in, exchanges, first_place, with_bytes, facts_at, next_exchange, owed, terms_of, with_account, with_end, with_exchange, with_statements, with_status, with_talk, with_trial, without_end}
 use Rattle.my_reading.specs.Statements.{Statements, cleared, with_columns, without_statement}
-use Rattle.my_reading.specs.Told.{Told, ToldReady, ToldRow, ToldEnd, ToldNone, ToldStatement, ToldFlag, ToldError}
 use Rattle.my_reading.specs.Transactions.{begin_refusal, given_up, is_given_up, rollback_text, rolled_back}
 use Rattle.my_reading.specs.Versions.{can_reset}
-use Rattle.my_opts_parts.specs.TransactionOptions.{TxView}
 use Rattle.history_laws.proofs.Growing.{failed_over}
 use Rattle.history_laws.proofs.Having.{Comes, begun_has, command_has, drains_have, either, reads_have, row_at}
 use Rattle.history_laws.specs.Order.{AreDone, IsOrderly, EachIsOrderly}
 use Rattle.history_laws.proofs.Stepping.{opened_fits, executed_fits}
-use Rattle.my_reading.specs.declared.facts.Facts.{Facts}
 use Rattle.my_reading.specs.Reading.{halt_of, is_closing, read_calls, reading}
-use Rattle.my_reading.specs.Tape.{Span, Tape, spans}
+use Rattle.my_reading.specs.Tape.{Span, spans}
 use Rattle.my_reading.specs.Commands.{setup_texts}
 use Rattle.my_reading.specs.Transactions.{begin_texts}
 use Rattle.my_reading.specs.Facts.{prepared_by}
 use Rattle.my_reading.specs.Calls.{text_in}
-use Rattle.my_reading.specs.Statements.{held_in, is_mixed_text, leaving, names_of, query_of, with_fetched, with_prepared}
+use Rattle.my_reading.specs.Statements.{held_in, is_mixed_text, leaving, query_of, with_prepared}
 use Rattle.my_statements.specs.Cache.{Held}
 use Rattle.my_reading.specs.declared.transaction.TxStatus.TheVariants.{InTransaction}
 

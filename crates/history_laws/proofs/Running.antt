@@ -1,5 +1,5 @@
 -- Calls one after another give callers what is in the sets.
-use Rattle.std.proofs.Common.{◌≡◌, ◌⊎◌, inl, inr, ℕ, suc, zero, nat_le, List, [], ◌∷◌, Bool, true, false, not, ◌&&◌, ◌||◌, Option, Some, None, is_some, refl, sym, ap, ◌∙◌, subst}
+use Rattle.std.proofs.Common.{◌≡◌, ◌⊎◌, inl, inr, ℕ, suc, zero, nat_le, List, [], ◌∷◌, Bool, true, false, not, ◌&&◌, ◌||◌, Option, Some, None, is_some, refl, sym, ap, subst}
 use Rattle.my_grammar.specs.declared.login.Login.{Login}
 use Rattle.my_reading.specs.declared.call.Call.{Call}
 use Rattle.my_reading.specs.declared.call.Call.TheVariants.{Connect, Query, Prepare, Execute, Batch, CloseStmt, NextRow, DropResult, TakeSet, SkipTaken, Ping, Reset, ChangeUser, Begin, Commit, Rollback, ForgetTransaction, CleanForPool, ResetForPool, Quit}
@@ -9,20 +9,19 @@ use Rattle.my_reading.specs.declared.error.Error.{Error}
 use Rattle.my_reading.specs.Calls.{kind_of, is_connect, statement_in}
 use Rattle.my_reading.specs.Executions.{values_for}
 use Rattle.my_reading.specs.Commands.{arranging_texts, setup_texts}
-use Rattle.my_reading.specs.Course.{Part, All, Head, Item, Set, Rest, Command, Check, Run, Learn, Flag, Settle, Renew, Clear, Text, Step, Goes, Stops, Stop, Owes, Awaits, Returns, Halt, course, enough, parts_of, parts_of_batch, parts_of_lists, parts_of_queries, parts_of_texts, clean, run, step, step_of, unless_owed}
-use Rattle.my_reading.specs.Endings.{AreCalls, Ends, IsCall, IsCut, IsOpen, IsCancelled, IsLinkFailure, IsLinkEnd, awaits_head, cancelling, closes_cancelled, connects_first, link_end, link_failure}
-use Rattle.my_reading.specs.Errors.{io_error, unexpected_eof}
-use Rattle.my_reading.specs.Place.{Place, exchanges, first_place, owed as owed_at, with_bytes}
-use Rattle.my_reading.specs.Reading.{ReadCall, closed_answer, halt_of, is_closing, read_calls, reading}
+use Rattle.my_reading.specs.Course.{Part, All, Item, Set, Rest, Flag, Settle, Step, Goes, Stops, Stop, Owes, Awaits, Returns, Halt, course, enough, parts_of, parts_of_batch, parts_of_lists, parts_of_queries, parts_of_texts, run, step, step_of, unless_owed}
+use Rattle.my_reading.specs.Endings.{AreCalls, Ends, IsCut, IsOpen, IsCancelled, IsLinkFailure, IsLinkEnd, closes_cancelled, connects_first}
+use Rattle.my_reading.specs.Place.{Place, first_place, owed as owed_at, with_bytes}
+use Rattle.my_reading.specs.Reading.{ReadCall, closed_answer, is_closing, read_calls, reading}
 use Rattle.my_reading.specs.Order.{are_in_order, is_within, leads_to}
 use Rattle.my_reading.specs.Tape.{Span, Tape, TapeCall, spans, spans_from}
-use Rattle.my_reading.specs.Told.{Told, ToldReady, ToldError, Dropped, closes}
+use Rattle.my_reading.specs.Told.{Told, ToldError, Dropped, closes}
 use Rattle.my_reading.specs.Transactions.{begin_texts}
-use Rattle.history_laws.specs.Given.{AreMade, IsGivenOf, connects, Passed, EachTapeGives, PrefixesAreGiven, have_ended, passes_over, with_ending}
+use Rattle.history_laws.specs.Given.{AreMade, connects, Passed, EachTapeGives, PrefixesAreGiven, have_ended, with_ending}
 use Rattle.history_laws.specs.Given.{NonePassed, MorePassed}
 use Rattle.history_laws.specs.Given.{NoCalls, OneCall}
 use Rattle.history_laws.specs.Groups.{Group, Made, given, given_after}
-use Rattle.history_laws.proofs.Phases.{Answering, Backing, Gave, GaveAt, Heading, Replying, IsFine, IsHalted, KeptAt, Over, Passing, Drops, Skips, Phase, Reading, Rests, Safely, Stopped, Taking, is_fitting, is_query, is_safe, reads_sets, returned_so, shifted}
+use Rattle.history_laws.proofs.Phases.{Answering, Backing, GaveAt, Heading, Replying, IsFine, IsHalted, KeptAt, Over, Passing, Drops, Skips, Phase, Reading, Rests, Safely, Stopped, Taking, is_fitting, is_query, is_safe, reads_sets, returned_so, shifted}
 use Rattle.history_laws.proofs.Giving.{answer_fine, heading_fine, item_fine, over_fine, pass_fine, set_fine}
 use Rattle.history_laws.proofs.Stepping.{back_fine, both, or_right, reply_fine, safe_fine, told_gave}
 
@@ -173,7 +172,7 @@ closed_same ResetForPool gs = refl
 closed_same Quit gs = refl
 
 -- a call that may be cancelled without closing the session keeps what is left
-cancelled_reads : (c : Call) (p : Place) → closes_cancelled (kind_of c) p ≡ false → not (reads_sets c) ≡ false
+pub cancelled_reads : (c : Call) (p : Place) → closes_cancelled (kind_of c) p ≡ false → not (reads_sets c) ≡ false
 cancelled_reads Connect p e = absurd (cc)
 cancelled_reads (Query text) p e = absurd (cc)
 cancelled_reads (Prepare text) p e = absurd (cc)
@@ -244,7 +243,7 @@ here_stood closed ms p o w = record { made = ms; of_calls = NoCalls ms; share = 
 before_stood : (ms mid : List Made) (s : Span) (ss : List Span) (p : Place) → Passed s.call ms mid → Stood (with_ending s.call s.ending mid) ss p → Stood ms (s ∷ ss) p
 before_stood ms mid s ss p passed w = record { made = w.made; of_calls = OneCall ms mid w.made s ss passed w.of_calls; share = w.share; gave = w.gave }
 
-rest_ended : (s : Span) (ss : List Span) → have_ended (s ∷ ss) ≡ true → have_ended ss ≡ true
+pub rest_ended : (s : Span) (ss : List Span) → have_ended (s ∷ ss) ≡ true → have_ended ss ≡ true
 rest_ended s [] e = refl
 rest_ended s (t ∷ ss) e = (both (is_some s.ending) (have_ended (t ∷ ss)) e).1
 
@@ -290,7 +289,7 @@ prefixes_are_given login ss ended first calls =
     record { made = w.made; of_calls = w.of_calls; shares = w.share ∷ w.gave.olds; given_is = w.gave.given_is; each = (w.gave.newest, w.gave.each) }
 
 -- the calls of a tape that the reading accepts
-ended_from : (t : Tape) (cs : List TapeCall) → are_in_order t cs ≡ true → have_ended (spans_from t cs) ≡ true
+pub ended_from : (t : Tape) (cs : List TapeCall) → are_in_order t cs ≡ true → have_ended (spans_from t cs) ≡ true
 ended_from t [] e = refl
 ended_from t (c ∷ []) e = refl
 ended_from t (c ∷ d ∷ cs) e =

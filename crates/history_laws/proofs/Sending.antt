@@ -1,12 +1,12 @@
 -- What was sent is what the exchanges say, the end of it perhaps cut.
-use Rattle.std.proofs.Common.{◌≡◌, ℕ, List, [], ◌∷◌, ◌++◌, Bool, true, false, ◌||◌, refl, sym, ap, ◌∙◌, subst}
+use Rattle.std.proofs.Common.{◌≡◌, ℕ, List, [], ◌∷◌, ◌++◌, Bool, true, false, ◌||◌, refl, ap, ◌∙◌, subst}
 use Rattle.my_grammar.specs.declared.login.Login.{Login}
 use Rattle.my_reading.specs.Endings.{AreCalls}
-use Rattle.my_reading.specs.Place.{Place, begins_with, client_side, exchanges, first_place, with_bytes}
+use Rattle.my_reading.specs.Place.{Place, begins_with, client_side, exchanges, first_place}
 use Rattle.my_reading.specs.Reading.{halt_of, is_closing, read_calls, reading}
 use Rattle.my_reading.specs.Tape.{Span, spans}
 use Rattle.history_laws.specs.Sent.{EachIsSent}
-use Rattle.history_laws.proofs.Keeping.{all_sent, calls_keep, sent_after}
+use Rattle.history_laws.proofs.Keeping.{all_sent, calls_keep}
 use Rattle.history_laws.proofs.Moving.{Moved, Alters, Takes, Begins}
 
 keeps_sent : (a b : List ℕ) (p q : Place) → p.sent ≡ a → Moved p q → q.sent ≡ a

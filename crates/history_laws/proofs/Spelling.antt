@@ -1,5 +1,5 @@
 -- What was received is what the exchanges have of it, and what wasn't read.
-use Rattle.std.proofs.Common.{◌≡◌, ◌⊎◌, inl, inr, ℕ, ◌+◌, ◌^◌, ◌≤◌, ◌<◌, List, [], ◌∷◌, ◌++◌, length, get_or, Bool, true, false, refl, sym, ap, ◌∙◌, subst, arith, append_assoc}
+use Rattle.std.proofs.Common.{◌≡◌, ◌⊎◌, inl, inr, ℕ, ◌+◌, ◌^◌, ◌≤◌, ◌<◌, List, [], ◌++◌, length, get_or, true, false, refl, sym, ap, ◌∙◌, subst, arith, append_assoc}
 use Rattle.std.proofs.Math.Seq.{get_or-append_right}
 use Rattle.std.proofs.Math.Dec.{leb}
 use Rattle.std.proofs.lemmas.Bool.Decides.{leb_tells}
@@ -9,17 +9,16 @@ use Rattle.my_frame.specs.Front.{Whole}
 use Rattle.my_frame.specs.FrontLaws.{AreBytes}
 use Rattle.my_frame.proofs.Meanings.{whole_stands}
 use Rattle.my_grammar.proofs.Growth.{any_login, grows, reads}
-use Rattle.my_grammar.specs.declared.login.Login.{Login}
 use Rattle.my_grammar.specs.declared.spot.Kind.{Kind}
 use Rattle.my_grammar.specs.Contexts.{is_bad}
 use Rattle.my_grammar.specs.Cut.{front_of, kind_of}
 use Rattle.my_grammar.specs.Growth.{grow}
 use Rattle.my_grammar.specs.Talk.{Talk, Fits, limit_of, login_in, number_of, server_bytes, turns}
-use Rattle.my_reading.specs.Place.{Place, exchanges, first_place, with_bytes, with_exchange, with_talk}
+use Rattle.my_reading.specs.Place.{Place, first_place, with_bytes, with_exchange, with_talk}
 use Rattle.my_reading.specs.Reading.{reading}
-use Rattle.my_reading.specs.Tape.{Tape, spans}
+use Rattle.my_reading.specs.Tape.{spans}
 use Rattle.history_laws.specs.Taken.{EachIsSpelled, taken_by}
-use Rattle.history_laws.proofs.Keeping.{all_taken, calls_keep, taken_after}
+use Rattle.history_laws.proofs.Keeping.{all_taken, calls_keep}
 use Rattle.history_laws.proofs.Moving.{Moved, Alters, Takes, Begins, IsAlike, IsNew}
 
 bytes_after : (a b bytes : List ℕ) → bytes ≡ a ++ b → AreBytes bytes → AreBytes b

@@ -1,6 +1,5 @@
 -- Each step of a call gives callers what is in the sets, by the parts that are left.
-use Rattle.std.proofs.Common.{◌≡◌, ◌⊎◌, inl, inr, ℕ, suc, zero, List, [], ◌∷◌, Bool, true, false, cond, not, ◌&&◌, ◌||◌, Option, Some, None, slice_get, refl, sym, ap, ◌∙◌, subst}
-use Rattle.my_flags.specs.Sets.{deprecates_eof}
+use Rattle.std.proofs.Common.{◌≡◌, inl, ℕ, suc, zero, List, [], ◌∷◌, Bool, true, false, cond, not, ◌&&◌, ◌||◌, Option, Some, None, slice_get, refl, sym, ap, ◌∙◌, subst}
 use Rattle.my_command.specs.declared.client.ClientPacket.TheVariants as packets
 use Rattle.my_command.specs.Client.Packet.{client_bytes as packet_bytes}
 use Rattle.my_grammar.proofs.Growth.{grows}
@@ -8,15 +7,14 @@ use Rattle.my_grammar.specs.declared.login.Login.{Login}
 use Rattle.my_grammar.specs.declared.spot.Kind.{Kind}
 use Rattle.my_grammar.specs.declared.spot.Kind.TheVariants as kinds
 use Rattle.my_grammar.specs.declared.spot.Terms.{Terms}
-use Rattle.my_grammar.specs.Cut.{is_over, kind_of as payload_kind}
-use Rattle.my_grammar.specs.Growth.{Grows, grow}
+use Rattle.my_grammar.specs.Cut.{is_over}
+use Rattle.my_grammar.specs.Growth.{grow}
 use Rattle.my_grammar.specs.Sets.{Asking, ByStatement, ByText, NoSets}
 use Rattle.my_grammar.specs.Prepares.{Unanswered}
 use Rattle.my_grammar.specs.Talk.{Talk, Preparing, Queried, Silent, Fits, context_of}
 use Rattle.my_handshake.specs.Version.{version_of}
 use Rattle.my_reading.specs.declared.call.Call.{Call}
 use Rattle.my_reading.specs.declared.call.Call.TheVariants.{Connect, Query, Prepare, Execute, Batch, CloseStmt, NextRow, DropResult, TakeSet, SkipTaken, Ping, Reset, ChangeUser, Begin, Commit, Rollback, ForgetTransaction, CleanForPool, ResetForPool, Quit}
-use Rattle.my_reading.specs.declared.call.CallKind.{CallKind}
 use Rattle.my_reading.specs.declared.error.DriverError.{DriverError}
 use Rattle.my_reading.specs.declared.error.Error.{Error}
 use Rattle.my_reading.specs.declared.error.Error.TheVariants.{Driver, Io, Server}
@@ -26,29 +24,26 @@ use Rattle.my_reading.specs.declared.transaction.Trial.{Trial}
 use Rattle.my_reading.specs.declared.transaction.Trial.TheVariants.{Off, On, Refused}
 use Rattle.my_reading.specs.declared.transaction.TxStatus.TheVariants.{RequiresRollback}
 use Rattle.my_reply.specs.declared.err.ErrPacket.{ErrPacket}
-use Rattle.my_params.specs.declared.params.Params.{Params}
 use Rattle.my_params.specs.LongData.{ahead_of}
 use Rattle.my_params.specs.Parameters.{body_of}
 use Rattle.my_reading.specs.Accounts.{changed}
 use Rattle.my_reading.specs.Calls.{id_in, kind_of, statement_in, text_in}
 use Rattle.my_reading.specs.Commands.{arranging, arranging_texts, closing, execution, opening, queried}
-use Rattle.my_reading.specs.Course.{Part, All, Head, Item, Set, Rest, Command, Find, Check, Run, Reply, Keep, Give, Learn, Forget, Offered, Clear, Text, Flag, Adopt, Renew, Drain, Undo, Undone, Refuse, Settle, GiveUp, Try, Back, Step, Goes, Stops, Stop, Owes, Awaits, Returns, after_kind, checked, closing_of, executed, failure, found, is_rows, kept, learned, looked_for, offered, reads, refused_at, renewing, returned, step, step_of, undone, unless_owed, unless_refused, with_command}
+use Rattle.my_reading.specs.Course.{Part, All, Head, Item, Set, Rest, Command, Find, Check, Run, Reply, Keep, Give, Learn, Forget, Offered, Clear, Text, Flag, Adopt, Renew, Drain, Undo, Undone, Refuse, Settle, GiveUp, Try, Back, Goes, Returns, after_kind, checked, closing_of, executed, failure, found, is_rows, kept, looked_for, offered, refused_at, renewing, returned, step_of, undone, unless_refused, with_command}
 use Rattle.my_reading.specs.Errors.{mixed_params, server_error}
 use Rattle.my_reading.specs.Facts.{prepared_by}
 use Rattle.my_reading.specs.Executions.{Values, Fitting, Unfitting, values_for}
-use Rattle.my_reading.specs.Place.{Place, connects_in, exchanges, facts_at, next_exchange, owed, terms_of, with_account, with_end, with_exchange, with_statements, with_status, with_talk, with_trial, without_end}
+use Rattle.my_reading.specs.Place.{Place, connects_in, exchanges, facts_at, next_exchange, terms_of, with_account, with_end, with_exchange, with_statements, with_status, with_talk, with_trial, without_end}
 use Rattle.my_reading.specs.Statements.{Statements, cleared, held_in, is_mixed_text, known_in, leaving, names_of, query_of, statement_with, with_columns, with_fetched, with_prepared, without_statement}
 use Rattle.my_statements.specs.Cache.{Held}
-use Rattle.my_reading.specs.Told.{Told, ToldReady, ToldRow, ToldEnd, ToldNone, ToldStatement, ToldFlag, ToldError, closes}
+use Rattle.my_reading.specs.Told.{Told, ToldReady, ToldStatement, ToldFlag, ToldError, closes}
 use Rattle.my_reading.specs.Transactions.{begin_refusal, given_up, is_given_up, rollback_text, rolled_back}
 use Rattle.my_reading.specs.Versions.{can_reset}
-use Rattle.my_opts_parts.specs.TransactionOptions.{TxView}
-use Rattle.history_laws.specs.Given.{IsGiven, Passed, givens, onto}
 use Rattle.history_laws.specs.Given.{NonePassed}
-use Rattle.history_laws.specs.Groups.{Group, Made, given, given_after, groups, ready_given}
+use Rattle.history_laws.specs.Groups.{Group, Made, given, given_after, ready_given}
 use Rattle.history_laws.proofs.Growing.{failed_over, given_on}
 use Rattle.history_laws.proofs.Having.{Comes, begun_has, command_has, drains_have, either, reads_have, row_at}
-use Rattle.history_laws.proofs.Phases.{Gave, GaveAt, IsFine, IsFresh, IsHalted, IsKept, KeptAt, Phase, Rests, Stopped, Safely, Heading, Answering, Replying, Backing, after_command, is_back, is_fitting, is_head, is_query, is_reply, is_safe, is_tail, may_return, reads_sets, returned_so, settled, shifted}
+use Rattle.history_laws.proofs.Phases.{Gave, GaveAt, IsFine, IsHalted, KeptAt, Stopped, Safely, Heading, Replying, Backing, is_back, is_fitting, is_head, is_query, is_reply, is_safe, may_return, reads_sets, returned_so, settled, shifted}
 
 pub both : (a b : Bool) → (a && b) ≡ true → (a ≡ true) × (b ≡ true)
 both true b e = (refl, e)
@@ -165,7 +160,7 @@ module _ (c : Call) (ms : List Made) where
   tried_fine plain trying (Refused first) new o e is w over none =
       error_fine (with_trial Off new) o (record { olds = w.olds; given_is = w.given_is; newest = w.newest; each = w.each; fits = w.fits; off = λ x. refl }) (inl (over, none)) (Server first)
 
-not_true : (b : Bool) → not b ≡ true → b ≡ false
+pub not_true : (b : Bool) → not b ≡ true → b ≡ false
 not_true true e = cc
 not_true false e = refl
 

@@ -1,8 +1,7 @@
 -- What callers were given, as the reading has it: of each exchange a beginning of its sets.
-use Rattle.std.specs.Prelude.{◌≡◌, ℕ, List, [], ◌∷◌, Option, Some, None, is_some, Bool, true, false, ◌&&◌}
+use Rattle.std.specs.Prelude.{◌≡◌, List, [], ◌∷◌, Option, Some, None, is_some, Bool, true, false, ◌&&◌}
 use Rattle.my_flags.specs.Sets.{deprecates_eof}
 use Rattle.my_grammar.specs.declared.login.Login.{Login}
-use Rattle.my_grammar.specs.FitSets.{FitSets}
 use Rattle.my_grammar.specs.Sets.{Sets, NoSets, ByText}
 use Rattle.my_grammar.specs.Talk.{Talk, Queried}
 use Rattle.my_reading.specs.declared.call.Call.{Call}
@@ -10,7 +9,7 @@ use Rattle.my_reading.specs.declared.call.Call.TheVariants.{DropResult, SkipTake
 use Rattle.my_reading.specs.Calls.{is_connect, kind_of}
 use Rattle.my_reading.specs.Endings.{AreCalls, IsTape}
 use Rattle.my_reading.specs.Place.{Place, Exchange, exchanges, first_place}
-use Rattle.my_reading.specs.Reading.{ReadCall, read_calls, reading}
+use Rattle.my_reading.specs.Reading.{read_calls, reading}
 use Rattle.my_reading.specs.Tape.{Span, Tape, spans}
 use Rattle.my_reading.specs.Told.{Told, ToldRow, ToldEnd}
 use Rattle.history_laws.specs.Groups.{Group, Made, given, groups, IsEarlier}

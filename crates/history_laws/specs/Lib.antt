@@ -4,3 +4,4 @@ pub mod Order
 pub mod Taken
 pub mod Sent
 pub mod Found
+pub mod Errors

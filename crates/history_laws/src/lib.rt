@@ -2,6 +2,7 @@
 //! No session is named: the laws are of bytes and calls alone.
 #![tactic(auto)]
 
+ghost use Rattle.history_laws.specs.Errors.{EachIsHeard};
 ghost use Rattle.history_laws.specs.Found.{EachIsFound};
 ghost use Rattle.history_laws.specs.Given.{EachTapeGives, PrefixesAreGiven};
 ghost use Rattle.history_laws.specs.Order.{EachIsOrderly};
@@ -30,4 +31,10 @@ pub fn bytes_are_of_exchanges()
 /// exchanges that the grammar finds in the bytes that were received.
 pub fn callers_are_given_what_is_found()
     ensures { EachIsFound }
+{}
+
+/// Callers of a tape got each ERR of its exchanges, or a call passed over it, once and in order, but perhaps the last; not
+/// those of exchanges by which a commit that the server refused was rolled back.
+pub fn callers_hear_each_error()
+    ensures { EachIsHeard }
 {}

@@ -1,0 +1,653 @@
+-- Each step of a call has callers hear the ERRs of its exchanges.
+use Rattle.std.proofs.Common.{◌≡◌, ℕ, ◌≤◌, length, nat_lt, List, [], ◌∷◌, ◌++◌, Bool, true, false, cond, not, ◌&&◌, ◌||◌, Option, Some, None, refl, sym, ap, ◌∙◌, subst, arith}
+use Rattle.my_frame.specs.Front.{Front, Waiting, Broken, Whole}
+use Rattle.my_reply.specs.declared.err.ErrPacket.{ErrPacket}
+use Rattle.my_reply.specs.ErrPacket.{err_at}
+use Rattle.my_reply.specs.declared.replies.PrepareOk.{PrepareOk}
+use Rattle.my_reply.specs.Replies.{prepare_ok_at}
+use Rattle.my_grammar.proofs.Cutting.Fronts.{takes_whole}
+use Rattle.my_grammar.proofs.Growth.{grows}
+use Rattle.my_grammar.specs.declared.login.Login.{Login}
+use Rattle.my_grammar.specs.declared.spot.Kind.{Kind}
+use Rattle.my_grammar.specs.declared.spot.Kind.TheVariants as kinds
+use Rattle.my_grammar.specs.declared.spot.Spot.{Spot}
+use Rattle.my_grammar.specs.declared.spot.Spot.TheVariants as spots
+use Rattle.my_grammar.specs.declared.spot.RowFormat.{RowFormat}
+use Rattle.my_grammar.specs.declared.spot.Terms.{Terms}
+use Rattle.my_reply.specs.declared.column.Column.{Column as ColumnPacket}
+use Rattle.my_grammar.specs.Contexts.{is_bad}
+use Rattle.my_grammar.specs.Cut.{front_of, is_idle, is_over, kind_of as payload_kind}
+use Rattle.my_grammar.specs.Growth.{grow}
+use Rattle.my_grammar.specs.Kinds.{kind_by}
+use Rattle.my_grammar.specs.Response.{response}
+use Rattle.my_grammar.specs.Talk.{Talk, Start, Unwelcome, Greeted, Settled, Asked, Replied, Queried, Preparing, Silent, Fits, commands_in, context_of, limit_of, number_of, origin, turns}
+use Rattle.my_handshake.specs.Version.{version_of}
+use Rattle.my_reading.specs.declared.call.Call.{Call}
+use Rattle.my_reading.specs.declared.call.Call.TheVariants.{Connect, Query, Prepare, Execute, Batch, CloseStmt, NextRow, DropResult, TakeSet, SkipTaken, Ping, Reset, ChangeUser, Begin, Commit, Rollback, ForgetTransaction, CleanForPool, ResetForPool, Quit}
+use Rattle.my_reading.specs.declared.error.DriverError.{DriverError}
+use Rattle.my_reading.specs.declared.error.Error.TheVariants.{Driver, Io, Server}
+use Rattle.my_reading.specs.declared.error.IoError.{IoError}
+use Rattle.my_reading.specs.declared.error.ServerError.{ServerError}
+use Rattle.my_reading.specs.declared.transaction.Trial.{Trial}
+use Rattle.my_reading.specs.declared.transaction.Trial.TheVariants.{Off, On, Refused}
+use Rattle.my_reading.specs.declared.transaction.TxStatus.TheVariants.{RequiresRollback}
+use Rattle.my_reading.specs.Accounts.{changed}
+use Rattle.my_reading.specs.Calls.{id_in, kind_of, statement_in, text_in}
+use Rattle.my_reading.specs.Commands.{queried}
+use Rattle.my_reading.specs.Course.{Part, All, Head, Item, Set, Rest, Command, Find, Check, Run, Reply, Keep, Give, Learn, Forget, Offered, Clear, Text, Flag, Adopt, Renew, Drain, Undo, Undone, Refuse, Settle, GiveUp, Try, Back, Step, Goes, Stops, Stop, Owes, Awaits, Returns, after_kind, after_payload, checked, closing_of, executed, failed_at, failure, first_above, found, is_drain, is_greeting, is_rows, offered, reads, refused_at, renewing, returned, step, step_of, undone, unfit, unless_cached, unless_long, unless_owed, unless_refused, with_command, with_front}
+use Rattle.my_reading.specs.Errors.{mixed_params, server_error}
+use Rattle.my_reading.specs.Executions.{Values, Fitting, Unfitting, values_for}
+use Rattle.my_reading.specs.Facts.{prepared_by}
+use Rattle.my_reading.specs.Place.{Place, Exchange, connects_in, exchanges, facts_at, next_exchange, owed, terms_of, with_account, with_end, with_exchange, with_statements, with_status, with_talk, with_taken, with_trial, without_end}
+use Rattle.my_reading.specs.Rows.{row_of}
+use Rattle.my_reading.specs.Statements.{Statements, cleared, held_in, is_cached, is_mixed_text, leaving, names_of, query_of, statement_with, with_columns, with_fetched, with_prepared, without_statement}
+use Rattle.my_reading.specs.Told.{Told, ToldReady, ToldRow, ToldEnd, ToldNone, ToldStatement, ToldFlag, ToldError, ToldPassed, closes}
+use Rattle.my_reading.specs.Transactions.{begin_refusal, given_up, is_given_up, rollback_text, rolled_back}
+use Rattle.my_reading.specs.Versions.{can_reset}
+use Rattle.my_statements.specs.Cache.{Held}
+use Rattle.history_laws.specs.Errors.{AreHushed, EndedBy, error_onto, PassedErrors, NoErrors, MoreErrors, errors_in, errors_of, errors_told, passes_errors, unless_hushed, with_told, with_unheard}
+use Rattle.history_laws.specs.Groups.{Made}
+use Rattle.history_laws.proofs.Blaming.{calm_blames, failed_blames, is_failed}
+use Rattle.history_laws.proofs.Growing.{failed_over}
+use Rattle.history_laws.proofs.Moving.{IsNew, closing_new, executed_new, opened_new, queried_new, some_new}
+use Rattle.history_laws.proofs.Phases.{reads_sets, returned_so}
+use Rattle.history_laws.proofs.Stepping.{both, not_true}
+
+-- a payload of this kind comes in its place
+record Comes (p : Place) (k : Kind) (q : List ℕ) : Type 0 where
+  kind_is : payload_kind p.talk q ≡ k
+  good : is_bad k ≡ false
+  short : length q ≤ limit_of p.talk
+
+-- nothing is read of an exchange that is over
+idle_bad : (s : Spot) (rows : RowFormat) (d : Bool) (n : ℕ) (columns : List ColumnPacket) (q : List ℕ) (k : Kind) → kind_by s rows d n columns q ≡ k → is_bad k ≡ false → is_idle s ≡ false
+idle_bad spots.Idle rows d n columns q k e good = let bad : is_bad k ≡ true = ap is_bad (sym e) in cc
+idle_bad spots.Greeting rows d n columns q k e good = refl
+idle_bad spots.Authentication rows d n columns q k e good = refl
+idle_bad spots.Single rows d n columns q k e good = refl
+idle_bad spots.Head rows d n columns q k e good = refl
+idle_bad spots.Further rows d n columns q k e good = refl
+idle_bad (spots.Columns left) rows d n columns q k e good = refl
+idle_bad spots.ColumnsEnd rows d n columns q k e good = refl
+idle_bad spots.Rows rows d n columns q k e good = refl
+idle_bad spots.Prepare rows d n columns q k e good = refl
+idle_bad (spots.Parameters left more) rows d n columns q k e good = refl
+idle_bad (spots.ParametersEnd more) rows d n columns q k e good = refl
+idle_bad (spots.Fields left) rows d n columns q k e good = refl
+idle_bad spots.FieldsEnd rows d n columns q k e good = refl
+
+unread : (p : Place) (k : Kind) (q : List ℕ) → Comes p k q → is_over p.talk ≡ false
+unread p k q c = idle_bad (context_of p.talk).spot _ _ _ _ q k c.kind_is c.good
+
+abbrev is_commits : Call → Bool
+is_commits Commit = true
+is_commits c = false
+
+commits : (c : Call) → is_commits c ≡ true → c ≡ Commit
+commits Connect e = cc
+commits (Query text) e = cc
+commits (Prepare text) e = cc
+commits (Execute statement params) e = cc
+commits (Batch statement lists) e = cc
+commits (CloseStmt id) e = cc
+commits NextRow e = cc
+commits DropResult e = cc
+commits TakeSet e = cc
+commits SkipTaken e = cc
+commits Ping e = cc
+commits Reset e = cc
+commits (ChangeUser change) e = cc
+commits (Begin opts) e = cc
+commits Commit e = refl
+commits Rollback e = cc
+commits ForgetTransaction e = cc
+commits CleanForPool e = cc
+commits ResetForPool e = cc
+commits Quit e = cc
+
+-- a call with these parts returns only where nothing is being committed
+abbrev pub is_tried : Call → Bool → List Part → Bool
+is_tried c trying [] = not trying
+is_tried c trying (All ∷ parts) = is_tried c trying parts
+is_tried c trying (Head ∷ parts) = is_tried c trying parts
+is_tried c trying (Item ∷ parts) = not trying && is_tried c trying parts
+is_tried c trying (Set ∷ parts) = not trying && is_tried c trying parts
+is_tried c trying (Rest ∷ parts) = is_tried c trying parts
+is_tried c trying (Command ∷ parts) = is_tried c trying parts
+is_tried c trying (Find ∷ parts) = not trying && is_tried c trying parts
+is_tried c trying (Check params ∷ parts) = not trying && is_tried c trying parts
+is_tried c trying (Run params ∷ parts) = is_tried c trying parts
+is_tried c trying (Reply ∷ parts) = is_tried c trying parts
+is_tried c trying (Keep ∷ parts) = is_tried c trying parts
+is_tried c trying (Give ∷ parts) = not trying && is_tried c trying parts
+is_tried c trying (Learn ∷ parts) = is_tried c trying parts
+is_tried c trying (Forget ∷ parts) = is_tried c trying parts
+is_tried c trying (Offered ∷ parts) = not trying && is_tried c trying parts
+is_tried c trying (Clear ∷ parts) = is_tried c trying parts
+is_tried c trying (Text text ∷ parts) = is_tried c trying parts
+is_tried c trying (Flag flag ∷ parts) = not trying && is_tried c trying parts
+is_tried c trying (Adopt change ∷ parts) = is_tried c trying parts
+is_tried c trying (Renew ∷ parts) = is_tried c trying parts
+is_tried c trying (Drain ∷ parts) = passes_errors c && is_tried c trying parts
+is_tried c trying (Undo ∷ parts) = is_tried c trying parts
+is_tried c trying (Undone ∷ parts) = is_tried c trying parts
+is_tried c trying (Refuse opts ∷ parts) = not trying && is_tried c trying parts
+is_tried c trying (Settle status ∷ parts) = is_tried c false parts
+is_tried c trying (GiveUp ∷ parts) = is_tried c trying parts
+is_tried c trying (Try ∷ parts) = is_commits c && is_tried c true parts
+is_tried c trying (Back ∷ parts) = false
+
+-- the ERRs of the exchanges were heard, but perhaps one; the newest exchange is hushed or isn't
+pub record Heard (hushed : Bool) (ms : List Made) (talk : Talk) (es : List Exchange) (unheard : Option ServerError) : Type 0 where
+  pub olds : List Bool
+  pub are : AreHushed (hushed ∷ olds) es
+  pub errors : errors_of (hushed ∷ olds) es ≡ with_unheard unheard (errors_told ms)
+  pub fits : Fits talk
+
+abbrev pub HeardAt : Bool → List Made → Place → Option ServerError → Type 0
+HeardAt hushed ms p o = Heard hushed ms p.talk (exchanges p) o
+
+-- where a call is
+pub data Phase (c : Call) (ms : List Made) : List Part → Place → Type 0 where
+  Hearing : (trying hushed : Bool) (parts : List Part) (p : Place) → is_tried c trying parts ≡ true → (trying ≡ true → c ≡ Commit) → (trying ≡ false → p.trial ≡ Off) → (hushed ≡ true → is_over p.talk ≡ true)
+      → HeardAt hushed ms p None → ((first : ServerError) → p.trial ≡ Refused first → ⊥) → Phase c ms parts p
+  Undoing : (first : ServerError) (p : Place) → c ≡ Commit → p.trial ≡ Refused first → is_over p.talk ≡ true → EndedBy first (exchanges p) → HeardAt false ms p (Some first) → Phase c ms (Undo ∷ Back ∷ []) p
+  Backing : (first : ServerError) (hushed : Bool) (p : Place) → c ≡ Commit → p.trial ≡ Refused first → (hushed ≡ false → is_over p.talk ≡ true) → HeardAt hushed ms p (Some first) → Phase c ms (Back ∷ []) p
+
+-- after a call, on a session that is closed or not
+pub record Rests (closed : Bool) (ms : List Made) (p : Place) : Type 0 where
+  pub hushed : Bool
+  pub unheard : Option ServerError
+  pub heard : HeardAt hushed ms p unheard
+  pub clear : closed ≡ false → unheard ≡ None
+  pub over : closed ≡ false → hushed ≡ true → is_over p.talk ≡ true
+  pub off : closed ≡ false → p.trial ≡ Off
+
+abbrev pub IsHalted : Call → List Made → Place → Type 0
+IsHalted c ms p = Rests (not (reads_sets c)) ms p
+
+abbrev pub Stopped : Call → List Made → Place → Stop → Type 0
+Stopped c ms p Owes = IsHalted c ms p
+Stopped c ms p Awaits = IsHalted c ms p
+Stopped c ms p (Returns t) = Rests (closes t (kind_of c)) (returned_so c t ms) p
+
+abbrev pub IsFine : Call → List Made → Step → Type 0
+IsFine c ms (Goes parts q) = (more : List Made) × PassedErrors c ms more × Phase c more parts q
+IsFine c ms (Stops q s) = Stopped c ms q s
+
+either : (R : Step → Type 0) (b : Bool) (x y : Step) → (b ≡ true → R x) → (b ≡ false → R y) → R (cond b x y)
+either R true x y v w = v refl
+either R false x y v w = w refl
+
+-- a call that commits isn't one that may be cancelled and leave the session open
+commit_closes : (c : Call) → c ≡ Commit → not (reads_sets c) ≡ false → ⊥
+commit_closes c e n = let no : not (reads_sets c) ≡ true = ap (λ d. not (reads_sets d)) e in cc
+
+-- payloads, with what an ERR says
+module _ (R : Step → Type 0) (login : Login) (part : Part) (parts : List Part) (p : Place) (waits : R (Stops p Awaits)) (faults : (e : IoError) → R (failure p (Io e)))
+    (again : (k : Kind) → is_failed k ≡ false → (q rest : List ℕ) → Comes p k q → R (Goes (part ∷ parts) (with_talk p (grow k p.talk q) rest)))
+    (other : (k : Kind) → is_failed k ≡ false → (q rest : List ℕ) → Comes p k q → R (after_kind part parts k (with_talk p (grow k p.talk q) rest) (ToldRow (row_of (context_of p.talk).rows (facts_at login p).columns q))))
+    (failed : (q rest : List ℕ) → Comes p kinds.Failed q → (e : ErrPacket) → err_at (is_greeting (context_of p.talk).spot) q ≡ Some e
+    → R (cond (is_drain part) (Goes (Drain ∷ parts) (with_talk p (grow kinds.Failed p.talk q) rest)) (refused_at p.trial (with_talk p (grow kinds.Failed p.talk q) rest) (server_error e)))) where
+  err_has : (q rest : List ℕ) → Comes p kinds.Failed q → (o : Option ErrPacket) → err_at (is_greeting (context_of p.talk).spot) q ≡ o → R (failed_at login part parts p (with_talk p (grow kinds.Failed p.talk q) rest) o)
+  err_has q rest c None is = by_drain (is_drain part)
+    where
+      by_drain : (b : Bool) → R (cond b (unfit login p) (unfit login p))
+      by_drain true = faults _
+      by_drain false = faults _
+  err_has q rest c (Some e) is = failed q rest c e is
+
+  head_has : (q rest : List ℕ) (params columns : ℕ) → Comes p (kinds.Prepared params columns) q → (o : Option PrepareOk)
+      → R (unless_cached login p o (Goes (part ∷ parts) (with_talk p (grow (kinds.Prepared params columns) p.talk q) rest)))
+  head_has q rest params columns c None = again (kinds.Prepared params columns) refl q rest c
+  head_has q rest params columns c (Some ok) = either R (is_cached p.statements ok.id) _ _ (λ _. faults _) (λ _. again (kinds.Prepared params columns) refl q rest c)
+
+  payload_has : (q rest : List ℕ) (k : Kind) → payload_kind p.talk q ≡ k → length q ≤ limit_of p.talk → R (after_payload login part parts p (with_talk p (grow k p.talk q) rest) q k)
+  payload_has q rest kinds.Bad e l = faults _
+  payload_has q rest kinds.Failed e l = err_has q rest (record { kind_is = e; good = refl; short = l }) (err_at (is_greeting (context_of p.talk).spot) q) refl
+  payload_has q rest (kinds.Greets n) e l = either R (nat_lt (limit_of p.talk) (length (response login q))) _ _ (λ _. faults _)
+      (λ _. again (kinds.Greets n) refl q rest (record { kind_is = e; good = refl; short = l }))
+  payload_has q rest (kinds.Prepared params columns) e l = head_has q rest params columns (record { kind_is = e; good = refl; short = l }) (prepare_ok_at q)
+  payload_has q rest (kinds.Good s) e l = other (kinds.Good s) refl q rest (record { kind_is = e; good = refl; short = l })
+  payload_has q rest (kinds.Count n) e l = other (kinds.Count n) refl q rest (record { kind_is = e; good = refl; short = l })
+  payload_has q rest kinds.Column e l = other kinds.Column refl q rest (record { kind_is = e; good = refl; short = l })
+  payload_has q rest kinds.ColumnsDone e l = other kinds.ColumnsDone refl q rest (record { kind_is = e; good = refl; short = l })
+  payload_has q rest kinds.Row e l = other kinds.Row refl q rest (record { kind_is = e; good = refl; short = l })
+  payload_has q rest (kinds.End s) e l = other (kinds.End s) refl q rest (record { kind_is = e; good = refl; short = l })
+  payload_has q rest kinds.Parameter e l = other kinds.Parameter refl q rest (record { kind_is = e; good = refl; short = l })
+  payload_has q rest kinds.Field e l = other kinds.Field refl q rest (record { kind_is = e; good = refl; short = l })
+
+  front_has : (x : Front) → front_of p.talk p.unread ≡ x → R (with_front login part parts p x)
+  front_has Waiting e = waits
+  front_has (Broken fault) e = faults _
+  front_has (Whole q rest next) e =
+      let taken = takes_whole (number_of (turns p.talk)) (limit_of p.talk) p.unread q rest next e in
+      payload_has q rest (payload_kind p.talk q) refl (omega (arith, taken.within))
+
+  payloads_have : R (reads login part parts p)
+  payloads_have = front_has (front_of p.talk p.unread) refl
+
+-- what a payload more does
+grown_calm : (hushed : Bool) (ms : List Made) (p : Place) (o : Option ServerError) (k : Kind) (q rest : List ℕ) → Comes p k q → is_failed k ≡ false → (hushed ≡ true → is_over p.talk ≡ true) → HeardAt hushed ms p o
+    → HeardAt hushed ms (with_talk p (grow k p.talk q) rest) o
+grown_calm hushed ms p o k q rest c calm over w = record {
+  olds = w.olds;
+  are = (λ h. absurd (let yes = over h in let no = unread p k q c in cc), w.are.1);
+  errors = ap (λ es. unless_hushed hushed es ++ errors_of w.olds p.older) (calm_blames k p.talk q calm) ∙ w.errors;
+  fits = (grows p.talk k q c.kind_is c.good c.short w.fits).fits;
+}
+
+-- an ERR of an exchange that isn't hushed
+grown_error : (hushed : Bool) (ms made : List Made) (p : Place) (o : Option ServerError) (q rest : List ℕ) (e : ErrPacket) → Comes p kinds.Failed q → err_at (is_greeting (context_of p.talk).spot) q ≡ Some e → (hushed ≡ true → is_over p.talk ≡ true)
+    → with_unheard o (errors_told made) ≡ server_error e ∷ errors_told ms → HeardAt hushed ms p None → HeardAt false made (with_talk p (grow kinds.Failed p.talk q) rest) o
+grown_error true ms made p o q rest e c is over says w = absurd (let yes = over refl in let no = unread p kinds.Failed q c in cc)
+grown_error false ms made p o q rest e c is over says w =
+    let more : errors_in (grow kinds.Failed p.talk q) ≡ server_error e ∷ errors_in p.talk
+    = failed_blames p.talk q c.kind_is ∙ ap (λ x. error_onto x (errors_in p.talk)) is in
+    record {
+      olds = w.olds;
+      are = (λ h. absurd (cc), w.are.1);
+      errors = ap (λ es. es ++ errors_of w.olds p.older) more ∙ ap (λ es. server_error e ∷ es) w.errors ∙ sym says;
+      fits = (grows p.talk kinds.Failed q c.kind_is c.good c.short w.fits).fits;
+    }
+
+-- the newest exchange of a commit that is rolled back: whatever is read of it is hushed
+hushed_grown : (ms made : List Made) (p : Place) (o x : Option ServerError) (k : Kind) (q rest : List ℕ) → Comes p k q → with_unheard x (errors_told made) ≡ with_unheard o (errors_told ms) → HeardAt true ms p o
+    → HeardAt true made (with_talk p (grow k p.talk q) rest) x
+hushed_grown ms made p o x k q rest c says w =
+    let gr = grows p.talk k q c.kind_is c.good c.short w.fits in
+    record {
+      olds = w.olds;
+      are = (λ h. let x = w.are.0 h in record { commits = x.commits; terms = x.terms; rolls_back = gr.origin_is ∙ x.rolls_back; first = x.first; after = x.after }, w.are.1);
+      errors = w.errors ∙ sym says;
+      fits = gr.fits;
+    }
+
+-- exchanges begin without an ERR
+origin_calm : (t : Talk) → errors_in (origin t) ≡ []
+origin_calm (Start login) = refl
+origin_calm (Unwelcome login p) = refl
+origin_calm (Greeted login p c) = refl
+origin_calm (Settled login p c last kind) = refl
+origin_calm (Asked terms c) = refl
+origin_calm (Replied terms c last kind) = refl
+origin_calm (Queried terms c sets) = refl
+origin_calm (Preparing terms c reply) = refl
+origin_calm (Silent terms c) = refl
+
+new_calm : (t : Talk) → IsNew t → errors_in t ≡ []
+new_calm t n = ap errors_in (sym n.origin_is) ∙ origin_calm t
+
+begun_heard : (hushed : Bool) (ms : List Made) (p : Place) (o : Option ServerError) (call : Call) (t : Talk) → IsNew t → HeardAt hushed ms p o → HeardAt false ms (with_exchange p call t) o
+begun_heard hushed ms p o call t n w = record {
+  olds = hushed ∷ w.olds;
+  are = (λ h. absurd (cc), w.are);
+  errors = ap (λ es. es ++ errors_of (hushed ∷ w.olds) (exchanges p)) (new_calm t n) ∙ w.errors;
+  fits = n.fits;
+}
+
+-- what is told besides a server's error
+told_heard : (hushed : Bool) (c : Call) (ms : List Made) (p : Place) (o : Option ServerError) (t : Told) → ((es : List ServerError) → with_told t es ≡ es) → HeardAt hushed ms p o → HeardAt hushed (returned_so c t ms) p o
+told_heard hushed c ms p o t calm w = record { olds = w.olds; are = w.are; errors = w.errors ∙ ap (with_unheard o) (sym (calm (errors_told ms))); fits = w.fits }
+
+-- nothing is read of an exchange that is hushed, but while it is rolled back
+opened : (hushed : Bool) (p : Place) (k : Kind) (q : List ℕ) → (hushed ≡ true → is_over p.talk ≡ true) → Comes p k q → hushed ≡ false
+opened true p k q over come = absurd (let yes = over refl in let no = unread p k q come in cc)
+opened false p k q over come = refl
+
+module _ (login : Login) (c : Call) (ms : List Made) where
+  -- a call stops where nothing of a commit is open
+  halted : (trying hushed : Bool) (p : Place) → (trying ≡ true → c ≡ Commit) → (trying ≡ false → p.trial ≡ Off) → (hushed ≡ true → is_over p.talk ≡ true) → HeardAt hushed ms p None → IsHalted c ms p
+  halted trying hushed p tries off over w = record { hushed = hushed; unheard = None; heard = w; clear = λ x. refl; over = λ x. over; off = λ x. off (untried trying tries x) }
+    where
+      untried : (b : Bool) → (b ≡ true → c ≡ Commit) → not (reads_sets c) ≡ false → b ≡ false
+      untried true tries x = absurd (commit_closes c (tries refl) x)
+      untried false tries x = refl
+
+  returns : (hushed : Bool) (p : Place) (t : Told) → ((es : List ServerError) → with_told t es ≡ es) → p.trial ≡ Off → (hushed ≡ true → is_over p.talk ≡ true) → HeardAt hushed ms p None → Stopped c ms p (Returns t)
+  returns hushed p t calm off over w = record { hushed = hushed; unheard = None; heard = told_heard hushed c ms p None t calm w; clear = λ x. refl; over = λ x. over; off = λ x. off }
+
+  -- a fault closes the session
+  faulted : (hushed : Bool) (o : Option ServerError) (p : Place) → HeardAt hushed ms p o → (e : IoError) → IsFine c ms (failure p (Io e))
+  faulted hushed o p w e = record {
+    hushed = hushed;
+    unheard = o;
+    heard = told_heard hushed c ms p o (ToldError (Io e)) (λ es. refl) w;
+    clear = λ x. absurd (cc);
+    over = λ x. absurd (cc);
+    off = λ x. absurd (cc);
+  }
+
+  -- the parts of a call, where nothing of a commit was refused
+  module _ (trying : Bool) (tries : trying ≡ true → c ≡ Commit) where
+    goes : (hushed : Bool) (parts : List Part) (p : Place) → is_tried c trying parts ≡ true → (trying ≡ false → p.trial ≡ Off) → (hushed ≡ true → is_over p.talk ≡ true) → HeardAt hushed ms p None
+        → ((first : ServerError) → p.trial ≡ Refused first → ⊥) → IsFine c ms (Goes parts p)
+    goes hushed parts p e off over w unrefused = (ms, NoErrors, Hearing trying hushed parts p e tries off over w unrefused)
+
+    module _ (hushed : Bool) (p : Place) (off : trying ≡ false → p.trial ≡ Off) (over : hushed ≡ true → is_over p.talk ≡ true) (w : HeardAt hushed ms p None) (unrefused : (first : ServerError) → p.trial ≡ Refused first → ⊥) where
+      on : (parts : List Part) → is_tried c trying parts ≡ true → IsFine c ms (Goes parts p)
+      on parts e = goes hushed parts p e off over w unrefused
+
+      tells : (t : Told) → ((es : List ServerError) → with_told t es ≡ es) → trying ≡ false → Stopped c ms p (Returns t)
+      tells t calm none = returns hushed p t calm (off none) over w
+
+      -- a payload that is no ERR
+      calm_here : (k : Kind) → is_failed k ≡ false → (q rest : List ℕ) → Comes p k q → HeardAt false ms (with_talk p (grow k p.talk q) rest) None
+      calm_here k calm q rest come =
+          subst (λ (b : Bool). HeardAt b ms (with_talk p (grow k p.talk q) rest) None) (opened hushed p k q over come) (grown_calm hushed ms p None k q rest come calm over w)
+
+      again : (part : Part) (parts : List Part) → is_tried c trying (part ∷ parts) ≡ true → (k : Kind) → is_failed k ≡ false → (q rest : List ℕ) → Comes p k q → IsFine c ms (Goes (part ∷ parts) (with_talk p (grow k p.talk q) rest))
+      again part parts e k calm q rest come = goes false (part ∷ parts) (with_talk p (grow k p.talk q) rest) e off (λ x. absurd (cc)) (calm_here k calm q rest come) unrefused
+
+      stops : (t : Told) → ((es : List ServerError) → with_told t es ≡ es) → trying ≡ false → (k : Kind) → is_failed k ≡ false → (q rest : List ℕ) → Comes p k q → (r : Place) → r.talk ≡ grow k p.talk q → HeardAt false ms r None → r.trial ≡ p.trial → Stopped c ms r (Returns t)
+      stops t calm none k plain q rest come r is v same = returns false r t calm (same ∙ off none) (λ x. absurd (cc)) v
+
+      after : (part : Part) (parts : List Part) → is_tried c trying (part ∷ parts) ≡ true → (k : Kind) → is_failed k ≡ false → (q rest : List ℕ) → Comes p k q
+          → IsFine c ms (after_kind part parts k (with_talk p (grow k p.talk q) rest) (ToldRow (row_of (context_of p.talk).rows (facts_at login p).columns q)))
+      after Head parts e (kinds.Greets n) calm q rest come = again Head parts e (kinds.Greets n) calm q rest come
+      after Head parts e (kinds.Good s) calm q rest come = goes false parts (with_end (with_talk p (grow (kinds.Good s) p.talk q) rest)) e off (λ x. absurd (cc)) (calm_here (kinds.Good s) calm q rest come) unrefused
+      after Head parts e kinds.Failed calm q rest come = again Head parts e kinds.Failed calm q rest come
+      after Head parts e (kinds.Count n) calm q rest come = again Head parts e (kinds.Count n) calm q rest come
+      after Head parts e kinds.Column calm q rest come = again Head parts e kinds.Column calm q rest come
+      after Head parts e kinds.ColumnsDone calm q rest come = again Head parts e kinds.ColumnsDone calm q rest come
+      after Head parts e kinds.Row calm q rest come = again Head parts e kinds.Row calm q rest come
+      after Head parts e (kinds.End s) calm q rest come = again Head parts e (kinds.End s) calm q rest come
+      after Head parts e (kinds.Prepared m n) calm q rest come = again Head parts e (kinds.Prepared m n) calm q rest come
+      after Head parts e kinds.Parameter calm q rest come = again Head parts e kinds.Parameter calm q rest come
+      after Head parts e kinds.Field calm q rest come = again Head parts e kinds.Field calm q rest come
+      after Head parts e kinds.Bad calm q rest come = again Head parts e kinds.Bad calm q rest come
+      after Item parts e (kinds.Greets n) calm q rest come = again Item parts e (kinds.Greets n) calm q rest come
+      after Item parts e (kinds.Good s) calm q rest come = stops ToldEnd (λ es. refl) (not_true trying (both (not trying) _ e).0) (kinds.Good s) calm q rest come (with_talk p (grow (kinds.Good s) p.talk q) rest) refl (calm_here (kinds.Good s) calm q rest come) refl
+      after Item parts e kinds.Failed calm q rest come = again Item parts e kinds.Failed calm q rest come
+      after Item parts e (kinds.Count n) calm q rest come = again Item parts e (kinds.Count n) calm q rest come
+      after Item parts e kinds.Column calm q rest come = again Item parts e kinds.Column calm q rest come
+      after Item parts e kinds.ColumnsDone calm q rest come = again Item parts e kinds.ColumnsDone calm q rest come
+      after Item parts e kinds.Row calm q rest come = stops (ToldRow (row_of (context_of p.talk).rows (facts_at login p).columns q)) (λ es. refl) (not_true trying (both (not trying) _ e).0) kinds.Row calm q rest come (with_talk p (grow kinds.Row p.talk q) rest) refl (calm_here kinds.Row calm q rest come) refl
+      after Item parts e (kinds.End s) calm q rest come = stops ToldEnd (λ es. refl) (not_true trying (both (not trying) _ e).0) (kinds.End s) calm q rest come (with_talk p (grow (kinds.End s) p.talk q) rest) refl (calm_here (kinds.End s) calm q rest come) refl
+      after Item parts e (kinds.Prepared m n) calm q rest come = again Item parts e (kinds.Prepared m n) calm q rest come
+      after Item parts e kinds.Parameter calm q rest come = again Item parts e kinds.Parameter calm q rest come
+      after Item parts e kinds.Field calm q rest come = again Item parts e kinds.Field calm q rest come
+      after Item parts e kinds.Bad calm q rest come = again Item parts e kinds.Bad calm q rest come
+      after Set parts e (kinds.Greets n) calm q rest come = again Set parts e (kinds.Greets n) calm q rest come
+      after Set parts e (kinds.Good s) calm q rest come = stops ToldReady (λ es. refl) (not_true trying (both (not trying) _ e).0) (kinds.Good s) calm q rest come (with_taken (with_end (with_talk p (grow (kinds.Good s) p.talk q) rest))) refl (calm_here (kinds.Good s) calm q rest come) refl
+      after Set parts e kinds.Failed calm q rest come = again Set parts e kinds.Failed calm q rest come
+      after Set parts e (kinds.Count n) calm q rest come = again Set parts e (kinds.Count n) calm q rest come
+      after Set parts e kinds.Column calm q rest come = again Set parts e kinds.Column calm q rest come
+      after Set parts e kinds.ColumnsDone calm q rest come = again Set parts e kinds.ColumnsDone calm q rest come
+      after Set parts e kinds.Row calm q rest come = again Set parts e kinds.Row calm q rest come
+      after Set parts e (kinds.End s) calm q rest come = again Set parts e (kinds.End s) calm q rest come
+      after Set parts e (kinds.Prepared m n) calm q rest come = again Set parts e (kinds.Prepared m n) calm q rest come
+      after Set parts e kinds.Parameter calm q rest come = again Set parts e kinds.Parameter calm q rest come
+      after Set parts e kinds.Field calm q rest come = again Set parts e kinds.Field calm q rest come
+      after Set parts e kinds.Bad calm q rest come = again Set parts e kinds.Bad calm q rest come
+      after All parts e k calm q rest come = again All parts e k calm q rest come
+      after Rest parts e k calm q rest come = again Rest parts e k calm q rest come
+      after Command parts e k calm q rest come = again Command parts e k calm q rest come
+      after Find parts e k calm q rest come = again Find parts e k calm q rest come
+      after (Check params) parts e k calm q rest come = again (Check params) parts e k calm q rest come
+      after (Run params) parts e k calm q rest come = again (Run params) parts e k calm q rest come
+      after Reply parts e k calm q rest come = again Reply parts e k calm q rest come
+      after Keep parts e k calm q rest come = again Keep parts e k calm q rest come
+      after Give parts e k calm q rest come = again Give parts e k calm q rest come
+      after Learn parts e k calm q rest come = again Learn parts e k calm q rest come
+      after Forget parts e k calm q rest come = again Forget parts e k calm q rest come
+      after Offered parts e k calm q rest come = again Offered parts e k calm q rest come
+      after Clear parts e k calm q rest come = again Clear parts e k calm q rest come
+      after (Text text) parts e k calm q rest come = again (Text text) parts e k calm q rest come
+      after (Flag flag) parts e k calm q rest come = again (Flag flag) parts e k calm q rest come
+      after (Adopt change) parts e k calm q rest come = again (Adopt change) parts e k calm q rest come
+      after Renew parts e k calm q rest come = again Renew parts e k calm q rest come
+      after Drain parts e k calm q rest come = again Drain parts e k calm q rest come
+      after Undo parts e k calm q rest come = again Undo parts e k calm q rest come
+      after Undone parts e k calm q rest come = again Undone parts e k calm q rest come
+      after (Refuse opts) parts e k calm q rest come = again (Refuse opts) parts e k calm q rest come
+      after (Settle status) parts e k calm q rest come = again (Settle status) parts e k calm q rest come
+      after GiveUp parts e k calm q rest come = again GiveUp parts e k calm q rest come
+      after Try parts e k calm q rest come = again Try parts e k calm q rest come
+      after Back parts e k calm q rest come = again Back parts e k calm q rest come
+
+      -- an ERR
+      refused : (x : Trial) → x ≡ p.trial → (q rest : List ℕ) → Comes p kinds.Failed q → (e : ErrPacket) → err_at (is_greeting (context_of p.talk).spot) q ≡ Some e → IsFine c ms (refused_at x (with_talk p (grow kinds.Failed p.talk q) rest) (server_error e))
+      refused Off i q rest come e is = record {
+        hushed = false;
+        unheard = None;
+        heard = grown_error hushed ms (returned_so c (ToldError (Server (server_error e))) ms) p None q rest e come is over refl w;
+        clear = λ x. refl;
+        over = λ x y. absurd (cc);
+        off = λ x. sym i;
+      }
+      refused On i q rest come e is = trying_on trying refl
+        where
+          trying_on : (b : Bool) → trying ≡ b → IsFine c ms (refused_at On (with_talk p (grow kinds.Failed p.talk q) rest) (server_error e))
+          trying_on true t = (
+            ms,
+            NoErrors,
+            Undoing (server_error e) (with_trial (Refused (server_error e)) (with_status RequiresRollback (with_talk p (grow kinds.Failed p.talk q) rest))) (tries t) refl (failed_over p.talk q)
+                (errors_in p.talk, failed_blames p.talk q come.kind_is ∙ ap (λ x. error_onto x (errors_in p.talk)) is)
+                (grown_error hushed ms ms p (Some (server_error e)) q rest e come is over refl w),
+          )
+          trying_on false t = absurd (let no : p.trial ≡ Off = off t in cc)
+      refused (Refused first) i q rest come e is = absurd (unrefused first (sym i))
+
+      dropping : (part : Part) (parts : List Part) → is_tried c trying (part ∷ parts) ≡ true → (q rest : List ℕ) → Comes p kinds.Failed q → (e : ErrPacket) → err_at (is_greeting (context_of p.talk).spot) q ≡ Some e
+          → IsFine c ms (cond (is_drain part) (Goes (Drain ∷ parts) (with_talk p (grow kinds.Failed p.talk q) rest)) (refused_at p.trial (with_talk p (grow kinds.Failed p.talk q) rest) (server_error e)))
+      dropping Drain parts e q rest come x is =
+          let made = returned_so c (ToldPassed (server_error x)) ms in (
+            made,
+            MoreErrors ms (server_error x) (both (passes_errors c) _ e).0 NoErrors,
+            Hearing trying false (Drain ∷ parts) (with_talk p (grow kinds.Failed p.talk q) rest) e tries off (λ y. absurd (cc)) (grown_error hushed ms made p None q rest x come is over refl w) unrefused,
+          )
+      dropping All parts e q rest come x is = refused p.trial refl q rest come x is
+      dropping Head parts e q rest come x is = refused p.trial refl q rest come x is
+      dropping Item parts e q rest come x is = refused p.trial refl q rest come x is
+      dropping Set parts e q rest come x is = refused p.trial refl q rest come x is
+      dropping Rest parts e q rest come x is = refused p.trial refl q rest come x is
+      dropping Command parts e q rest come x is = refused p.trial refl q rest come x is
+      dropping Find parts e q rest come x is = refused p.trial refl q rest come x is
+      dropping (Check params) parts e q rest come x is = refused p.trial refl q rest come x is
+      dropping (Run params) parts e q rest come x is = refused p.trial refl q rest come x is
+      dropping Reply parts e q rest come x is = refused p.trial refl q rest come x is
+      dropping Keep parts e q rest come x is = refused p.trial refl q rest come x is
+      dropping Give parts e q rest come x is = refused p.trial refl q rest come x is
+      dropping Learn parts e q rest come x is = refused p.trial refl q rest come x is
+      dropping Forget parts e q rest come x is = refused p.trial refl q rest come x is
+      dropping Offered parts e q rest come x is = refused p.trial refl q rest come x is
+      dropping Clear parts e q rest come x is = refused p.trial refl q rest come x is
+      dropping (Text text) parts e q rest come x is = refused p.trial refl q rest come x is
+      dropping (Flag flag) parts e q rest come x is = refused p.trial refl q rest come x is
+      dropping (Adopt change) parts e q rest come x is = refused p.trial refl q rest come x is
+      dropping Renew parts e q rest come x is = refused p.trial refl q rest come x is
+      dropping Undo parts e q rest come x is = refused p.trial refl q rest come x is
+      dropping Undone parts e q rest come x is = refused p.trial refl q rest come x is
+      dropping (Refuse opts) parts e q rest come x is = refused p.trial refl q rest come x is
+      dropping (Settle status) parts e q rest come x is = refused p.trial refl q rest come x is
+      dropping GiveUp parts e q rest come x is = refused p.trial refl q rest come x is
+      dropping Try parts e q rest come x is = refused p.trial refl q rest come x is
+      dropping Back parts e q rest come x is = refused p.trial refl q rest come x is
+
+      reading : (part : Part) (parts : List Part) → is_tried c trying (part ∷ parts) ≡ true → IsFine c ms (reads login part parts p)
+      reading part parts e = payloads_have (IsFine c ms) login part parts p (halted trying hushed p tries off over w) (faulted hushed None p w) (again part parts e) (after part parts e) (dropping part parts e)
+
+      -- an exchange begins
+      command : (call : Call) (parts : List Part) (x : Option Talk) → ((t : Talk) → x ≡ Some t → IsNew t) → is_tried c trying parts ≡ true → IsFine c ms (with_command call parts p x)
+      command call parts None fresh e = on parts e
+      command call parts (Some t) fresh e = by_long (first_above (limit_of t) (commands_in t))
+        where
+          by_long : (o : Option ℕ) → IsFine c ms (unless_long p (limit_of t) o (Goes parts (with_exchange p call t)))
+          by_long None = goes false parts (with_exchange p call t) e off (λ x. absurd (cc)) (begun_heard hushed ms p None call t (fresh t refl) w) unrefused
+          by_long (Some n) = faulted hushed None p w _
+
+      one : (call : Call) (parts : List Part) (t : Talk) → IsNew t → is_tried c trying parts ≡ true → IsFine c ms (with_command call parts p (Some t))
+      one call parts t n e = command call parts (Some t) (λ u i. some_new t u n i) e
+
+      -- from a place with other statements
+      keeping : (st : Statements) (call : Call) (parts : List Part) (x : Option Talk) → ((t : Talk) → x ≡ Some t → IsNew t) → is_tried c trying parts ≡ true → IsFine c ms (with_command call parts (with_statements st p) x)
+      keeping st call parts None fresh e = goes hushed parts (with_statements st p) e off over w unrefused
+      keeping st call parts (Some t) fresh e = by_long (first_above (limit_of t) (commands_in t))
+        where
+          by_long : (o : Option ℕ) → IsFine c ms (unless_long (with_statements st p) (limit_of t) o (Goes parts (with_exchange (with_statements st p) call t)))
+          by_long None = goes false parts (with_exchange (with_statements st p) call t) e off (λ x. absurd (cc)) (begun_heard hushed ms p None call t (fresh t refl) w) unrefused
+          by_long (Some n) = faulted hushed None (with_statements st p) w _
+
+      -- a refusal of the driver's own, where the call may return
+      driver : (e : DriverError) → trying ≡ false → IsFine c ms (failure p (Driver e))
+      driver e none = returns hushed p (ToldError (Driver e)) (λ es. refl) (off none) over w
+
+      untried : (b : Bool) → (not trying && b) ≡ true → trying ≡ false
+      untried b e = not_true trying (both (not trying) b e).0
+
+      checks : (parts : List Part) (v : Values) → (not trying && is_tried c trying parts) ≡ true → IsFine c ms (checked parts p v)
+      checks parts (Fitting values) e = on parts (both (not trying) _ e).1
+      checks parts (Unfitting x) e = driver x (untried _ e)
+
+      finds : (parts : List Part) (text : List ℕ) (h : Option Held) → (not trying && is_tried c trying parts) ≡ true → IsFine c ms (found parts p text h)
+      finds parts text None e = on parts (both (not trying) _ e).1
+      finds parts text (Some h) e =
+          returns hushed (with_statements (with_fetched (query_of text) p.statements) p) (ToldStatement (statement_with h.stmt (names_of text))) (λ es. refl) (off (untried _ e)) over w
+
+      offers : (parts : List Part) (b : Bool) → (not trying && is_tried c trying parts) ≡ true → IsFine c ms (offered parts p b)
+      offers parts true e = on parts (both (not trying) _ e).1
+      offers parts false e = tells (ToldFlag false) (λ es. refl) (untried _ e)
+
+      refuses : (parts : List Part) (x : Option DriverError) → (not trying && is_tried c trying parts) ≡ true → IsFine c ms (unless_refused parts p x)
+      refuses parts None e = on parts (both (not trying) _ e).1
+      refuses parts (Some x) e = driver x (untried _ e)
+
+      undoes : (parts : List Part) (b : Bool) → is_tried c trying parts ≡ true → IsFine c ms (undone login c parts p b)
+      undoes parts true e = one c parts (queried (terms_of login (exchanges p)) rollback_text) (queried_new (terms_of login (exchanges p)) rollback_text) e
+      undoes parts false e = on parts e
+
+      learns : (parts : List Part) (b : Bool) (st : Statements) → is_tried c trying parts ≡ true → IsFine c ms (Goes parts (cond b (with_statements st p) p))
+      learns parts true st e = goes hushed parts (with_statements st p) e off over w unrefused
+      learns parts false st e = on parts e
+
+      -- a part that reads unless its exchange is over, and an end that is left first
+      rest_of_all : (part : Part) (parts : List Part) → is_tried c trying (part ∷ parts) ≡ true → is_tried c trying parts ≡ true
+          → IsFine c ms (cond p.end_left (Goes (part ∷ parts) (without_end p)) (cond (is_over p.talk) (Goes parts p) (reads login part parts p)))
+      rest_of_all part parts e more = either (IsFine c ms) p.end_left _ _ (λ _. goes hushed (part ∷ parts) (without_end p) e off over w unrefused)
+          (λ _. either (IsFine c ms) (is_over p.talk) _ _ (λ _. on parts more) (λ _. reading part parts e))
+
+      heard_part : (parts : List Part) → is_tried c trying parts ≡ true → IsFine c ms (step_of login c parts p)
+      heard_part [] e = tells ToldReady (λ es. refl) (not_true trying e)
+      heard_part (All ∷ parts) e = rest_of_all All parts e e
+      heard_part (Drain ∷ parts) e = rest_of_all Drain parts e (both (passes_errors c) _ e).1
+      heard_part (Head ∷ parts) e = either (IsFine c ms) (is_rows (context_of p.talk).spot) _ _ (λ _. on parts e) (λ _. reading Head parts e)
+      heard_part (Item ∷ parts) e = either (IsFine c ms) p.end_left _ _ (λ _. returns hushed (without_end p) ToldEnd (λ es. refl) (off (untried _ e)) over w)
+          (λ _. either (IsFine c ms) (is_over p.talk) _ _ (λ _. tells ToldNone (λ es. refl) (untried _ e)) (λ _. reading Item parts e))
+      heard_part (Set ∷ parts) e = either (IsFine c ms) (p.end_left || is_rows (context_of p.talk).spot) _ _ (λ _. returns hushed (with_taken p) ToldReady (λ es. refl) (off (untried _ e)) over w)
+          (λ _. either (IsFine c ms) (is_over p.talk) _ _ (λ _. tells ToldNone (λ es. refl) (untried _ e)) (λ _. reading Set parts e))
+      heard_part (Rest ∷ parts) e = either (IsFine c ms) p.end_left _ _ (λ _. goes hushed (Rest ∷ parts) (without_end p) e off over w unrefused)
+          (λ _. either (IsFine c ms) (is_rows (context_of p.talk).spot) _ _ (λ _. reading Rest parts e) (λ _. on parts e))
+      heard_part (Command ∷ parts) e = command c parts (next_exchange login c p) (opened_new login (terms_of login (exchanges p)) p.statements c (connects_in (exchanges p))) e
+      heard_part (Find ∷ parts) e = either (IsFine c ms) (is_mixed_text (text_in c)) _ _ (λ _. returns hushed p (ToldError mixed_params) (λ es. refl) (off (untried _ e)) over w)
+          (λ _. finds parts (text_in c) (held_in p.statements (query_of (text_in c))) e)
+      heard_part (Check params ∷ parts) e = checks parts (values_for (statement_in c) params) e
+      heard_part (Run params ∷ parts) e = command c parts (executed login c p params) (executed_new (terms_of login (exchanges p)) p.statements (id_in c) (values_for (statement_in c) params)) e
+      heard_part (Reply ∷ parts) e = either (IsFine c ms) (is_over p.talk) _ _ (λ _. on parts e) (λ _. reading Reply parts e)
+      heard_part (Keep ∷ parts) e =
+          let f = facts_at login p in
+          let x : Option ℕ = leaving (query_of (text_in c)) (prepared_by f) p.statements in
+          keeping (with_prepared (query_of (text_in c)) (prepared_by f) f.reply.fields p.statements) (Prepare (text_in c)) parts (closing_of (terms_of login (exchanges p)) x) (closing_new (terms_of login (exchanges p)) x) e
+      heard_part (Give ∷ parts) e = tells (ToldStatement (statement_with (prepared_by (facts_at login p)) (names_of (text_in c)))) (λ es. refl) (untried _ e)
+      heard_part (Learn ∷ parts) e = learns parts (is_rows (context_of p.talk).spot) (with_columns (id_in c) (facts_at login p).columns p.statements) e
+      heard_part (Forget ∷ parts) e = goes hushed parts (with_statements (without_statement (id_in c) p.statements) p) e off over w unrefused
+      heard_part (Offered ∷ parts) e = offers parts (can_reset (version_of (facts_at login p).version)) e
+      heard_part (Clear ∷ parts) e = goes hushed parts (with_statements (cleared p.statements) p) e off over w unrefused
+      heard_part (Text text ∷ parts) e = one c parts (queried (terms_of login (exchanges p)) text) (queried_new (terms_of login (exchanges p)) text) e
+      heard_part (Flag flag ∷ parts) e = tells (ToldFlag flag) (λ es. refl) (untried _ e)
+      heard_part (Adopt change ∷ parts) e = goes hushed parts (with_account (changed change p.account) p) e off over w unrefused
+      heard_part (Renew ∷ parts) e = one c parts (renewing login c p (facts_at login p)) (record { fits = record { kinds = tt; within = tt }; silent = refl; origin_is = refl }) e
+      heard_part (Undo ∷ parts) e = undoes parts (is_given_up p.status) e
+      heard_part (Undone ∷ parts) e = goes hushed parts (with_status (rolled_back p.status) p) e off over w unrefused
+      heard_part (Refuse opts ∷ parts) e = refuses parts (begin_refusal opts (version_of (facts_at login p).version) p.status) e
+      heard_part (Settle status ∷ parts) e =
+          (ms, NoErrors, Hearing false hushed parts (with_trial Off (with_status status p)) e (λ x. absurd (cc)) (λ x. refl) over w (λ first x. absurd (cc)))
+      heard_part (GiveUp ∷ parts) e = goes hushed parts (with_status (given_up p.status) p) e off over w unrefused
+      heard_part (Try ∷ parts) e =
+          let x = both (is_commits c) _ e in
+          (ms, NoErrors, Hearing true hushed parts (with_trial On p) x.1 (λ y. commits c x.0) (λ y. absurd (cc)) over w (λ first y. absurd (cc)))
+      heard_part (Back ∷ parts) e = absurd (cc)
+
+  -- a commit that was refused
+  late : (hushed : Bool) (first : ServerError) (p : Place) → c ≡ Commit → HeardAt hushed ms p (Some first) → IsHalted c ms p
+  late hushed first p is w = record {
+    hushed = hushed;
+    unheard = Some first;
+    heard = w;
+    clear = λ x. absurd (commit_closes c is x);
+    over = λ x. absurd (commit_closes c is x);
+    off = λ x. absurd (commit_closes c is x);
+  }
+
+  rolled : (first : ServerError) (p : Place) (terms : Terms) → c ≡ Commit → EndedBy first (exchanges p) → HeardAt false ms p (Some first) → HeardAt true ms (with_exchange p c (queried terms rollback_text)) (Some first)
+  rolled first p terms is after w = record {
+    olds = false ∷ w.olds;
+    are = (λ h. record { commits = is; terms = terms; rolls_back = refl; first = first; after = after }, w.are);
+    errors = w.errors;
+    fits = record { kinds = tt; within = tt };
+  }
+
+  undo_long : (first : ServerError) (p : Place) (t : Talk) → c ≡ Commit → p.trial ≡ Refused first → HeardAt false ms p (Some first) → HeardAt true ms (with_exchange p c t) (Some first) → (o : Option ℕ)
+      → IsFine c ms (unless_long p (limit_of t) o (Goes (Back ∷ []) (with_exchange p c t)))
+  undo_long first p t is i w v None = (ms, NoErrors, Backing first true (with_exchange p c t) is i (λ x. absurd (cc)) v)
+  undo_long first p t is i w v (Some n) = faulted false (Some first) p w _
+
+  undoing_part : (first : ServerError) (p : Place) (b : Bool) → c ≡ Commit → p.trial ≡ Refused first → is_over p.talk ≡ true → EndedBy first (exchanges p) → HeardAt false ms p (Some first) → IsFine c ms (undone login c (Back ∷ []) p b)
+  undoing_part first p true is i over after w =
+      let t : Talk = queried (terms_of login (exchanges p)) rollback_text in
+      undo_long first p t is i w (rolled first p (terms_of login (exchanges p)) is after w) (first_above (limit_of t) (commands_in t))
+  undoing_part first p false is i over after w = (ms, NoErrors, Backing first false p is i (λ x. over) w)
+
+  -- the first ERR is returned
+  first_told : (hushed : Bool) (first : ServerError) (p : Place) (x : Trial) → x ≡ Refused first → is_over p.talk ≡ true → HeardAt hushed ms p (Some first) → IsFine c ms (returned p x)
+  first_told hushed first p x i over w =
+      let q : Place = with_trial Off (with_status (rolled_back p.status) p) in
+      subst (λ (y : Trial). IsFine c ms (returned p y)) (sym i) (record {
+        hushed = hushed;
+        unheard = None;
+        heard = record { olds = w.olds; are = w.are; errors = w.errors; fits = w.fits };
+        clear = λ y. refl;
+        over = λ y z. over;
+        off = λ y. refl;
+      })
+
+  module _ (first : ServerError) (p : Place) (is : c ≡ Commit) (i : p.trial ≡ Refused first) (w : HeardAt true ms p (Some first)) where
+    back_again : (k : Kind) → is_failed k ≡ false → (q rest : List ℕ) → Comes p k q → IsFine c ms (Goes (Back ∷ []) (with_talk p (grow k p.talk q) rest))
+    back_again k calm q rest come = (ms, NoErrors, Backing first true (with_talk p (grow k p.talk q) rest) is i (λ x. absurd (cc)) (hushed_grown ms ms p (Some first) (Some first) k q rest come refl w))
+
+    back_error : (q rest : List ℕ) → Comes p kinds.Failed q → (e : ErrPacket) → err_at (is_greeting (context_of p.talk).spot) q ≡ Some e → IsFine c ms (refused_at p.trial (with_talk p (grow kinds.Failed p.talk q) rest) (server_error e))
+    back_error q rest come e err =
+        let made = returned_so c (ToldError (Server first)) ms in
+        subst (λ (y : Trial). IsFine c ms (refused_at y (with_talk p (grow kinds.Failed p.talk q) rest) (server_error e))) (sym i) (record {
+          hushed = true;
+          unheard = None;
+          heard = hushed_grown ms made p (Some first) None kinds.Failed q rest come refl w;
+          clear = λ y. refl;
+          over = λ y z. failed_over p.talk q;
+          off = λ y. refl;
+        })
+
+    back_reads : IsFine c ms (reads login Back [] p)
+    back_reads = payloads_have (IsFine c ms) login Back [] p (late true first p is w) (faulted true (Some first) p w) back_again back_again back_error
+
+  back_part : (hushed : Bool) (first : ServerError) (p : Place) → c ≡ Commit → p.trial ≡ Refused first → (hushed ≡ false → is_over p.talk ≡ true) → HeardAt hushed ms p (Some first) → IsFine c ms (step_of login c (Back ∷ []) p)
+  back_part true first p is i over w = either (IsFine c ms) (is_over p.talk) _ _ (λ done. first_told true first p p.trial i done w) (λ _. back_reads first p is i w)
+  back_part false first p is i over w = either (IsFine c ms) (is_over p.talk) _ _ (λ done. first_told false first p p.trial i done w) (λ open_now. absurd (let done = over refl in cc))
+
+  part_fine : (parts : List Part) (p : Place) → Phase c ms parts p → IsFine c ms (step_of login c parts p)
+  part_fine parts p (Hearing trying hushed ps q e tries off over w unrefused) = heard_part trying tries hushed q off over w unrefused ps e
+  part_fine parts p (Undoing first q is i over after w) = undoing_part first q (is_given_up q.status) is i over after w
+  part_fine parts p (Backing first hushed q is i over w) = back_part hushed first q is i over w
+
+  pub phase_halted : (parts : List Part) (p : Place) → Phase c ms parts p → IsHalted c ms p
+  phase_halted parts p (Hearing trying hushed ps q e tries off over w unrefused) = halted trying hushed q tries off over w
+  phase_halted parts p (Undoing first q is i over after w) = late false first q is w
+  phase_halted parts p (Backing first hushed q is i over w) = late hushed first q is w
+
+  pub step_fine : (parts : List Part) (p : Place) → Phase c ms parts p → IsFine c ms (step login c parts p)
+  unfolding step
+  step_fine parts p w = by_owed (owed p)
+    where
+      by_owed : (x : List ℕ) → IsFine c ms (unless_owed x p (step_of login c parts p))
+      by_owed (b ∷ bytes) = phase_halted parts p w
+      by_owed [] = part_fine parts p w

@@ -1,0 +1,217 @@
+-- Calls one after another have callers hear the ERRs of the exchanges.
+use Rattle.std.proofs.Common.{◌≡◌, ◌⊎◌, inl, inr, ℕ, suc, zero, List, [], ◌∷◌, Bool, true, false, not, Option, Some, None, is_some, refl, sym, ap, ◌∙◌, subst}
+use Rattle.my_grammar.specs.declared.login.Login.{Login}
+use Rattle.my_params.specs.declared.params.Params.{Params}
+use Rattle.my_reading.specs.declared.call.Call.{Call}
+use Rattle.my_reading.specs.declared.call.Call.TheVariants.{Connect, Query, Prepare, Execute, Batch, CloseStmt, NextRow, DropResult, TakeSet, SkipTaken, Ping, Reset, ChangeUser, Begin, Commit, Rollback, ForgetTransaction, CleanForPool, ResetForPool, Quit}
+use Rattle.my_reading.specs.declared.error.Error.{Error}
+use Rattle.my_reading.specs.declared.error.ServerError.{ServerError}
+use Rattle.my_reading.specs.declared.transaction.Trial.TheVariants.{Off}
+use Rattle.my_reading.specs.declared.transaction.TxStatus.TheVariants.{InTransaction}
+use Rattle.my_reading.specs.Calls.{kind_of}
+use Rattle.my_reading.specs.Commands.{arranging_texts, setup_texts}
+use Rattle.my_reading.specs.Course.{Part, Flag, Settle, Step, Goes, Stops, Stop, Owes, Awaits, Returns, Halt, course, enough, parts_of, parts_of_batch, parts_of_lists, parts_of_queries, parts_of_texts, run, step}
+use Rattle.my_reading.specs.Endings.{AreCalls, Ends, IsCut, IsOpen, IsCancelled, IsLinkFailure, IsLinkEnd, closes_cancelled}
+use Rattle.my_reading.specs.Place.{Place, exchanges, first_place, with_bytes}
+use Rattle.my_reading.specs.Reading.{ReadCall, closed_answer, is_closing, read_calls, reading}
+use Rattle.my_reading.specs.Tape.{Span, spans}
+use Rattle.my_reading.specs.Told.{Told, ToldError, Dropped, closes}
+use Rattle.my_reading.specs.Transactions.{begin_texts}
+use Rattle.history_laws.specs.Errors.{AreHeard, AreHushed, EachIsHeard, PassedErrors, NoErrors, MoreErrors, NoneHeard, OneHeard, errors_of, errors_told, with_told, with_unheard}
+use Rattle.history_laws.specs.Given.{have_ended, with_ending}
+use Rattle.history_laws.specs.Groups.{Made}
+use Rattle.history_laws.proofs.Hearing.{Hearing, HeardAt, IsFine, IsHalted, Phase, Rests, Stopped, is_tried, phase_halted, step_fine}
+use Rattle.history_laws.proofs.Phases.{reads_sets, returned_so}
+use Rattle.history_laws.proofs.Running.{cancelled_reads, ended_from, rest_ended}
+use Rattle.history_laws.proofs.Stepping.{both}
+
+-- what was passed over, and then more
+then_passed : (c : Call) (ms mid more : List Made) → PassedErrors c ms mid → PassedErrors c mid more → PassedErrors c ms more
+then_passed c ms mid more a NoErrors = a
+then_passed c ms mid more a (MoreErrors older e passes b) = MoreErrors older e passes (then_passed c ms mid older a b)
+
+-- a call that stopped, with what it passed over
+abbrev Ran : Call → List Made → Halt → Type 0
+Ran c ms h = (more : List Made) × PassedErrors c ms more × Stopped c more h.place h.stop
+
+run_fine : (n : ℕ) (login : Login) (c : Call) (ms mid : List Made) → PassedErrors c ms mid → (s : Step) → IsFine c mid s → Ran c ms (run n login c s)
+unfolding run
+run_fine zero login c ms mid a (Stops p s) w = (mid, a, w)
+run_fine (suc n) login c ms mid a (Stops p s) w = (mid, a, w)
+run_fine zero login c ms mid a (Goes parts p) w = (w.0, then_passed c ms mid w.0 a w.1, phase_halted login c w.0 parts p w.2)
+run_fine (suc n) login c ms mid a (Goes parts p) w = run_fine n login c ms w.0 (then_passed c ms mid w.0 a w.1) (step login c parts p) (step_fine login c w.0 parts p w.2)
+
+-- the parts of calls
+texts_tried : (texts : List (List ℕ)) → is_tried Connect false (parts_of_texts texts) ≡ true
+texts_tried [] = refl
+texts_tried (text ∷ texts) = texts_tried texts
+
+lists_tried : (c : Call) (lists : List Params) → is_tried c false (parts_of_lists lists) ≡ true
+lists_tried c [] = refl
+lists_tried c (params ∷ lists) = lists_tried c lists
+
+batch_tried : (c : Call) (lists : List Params) → is_tried c false (parts_of_batch lists) ≡ true
+batch_tried c [] = refl
+batch_tried c (params ∷ lists) = lists_tried c lists
+
+queries_tried : (c : Call) (texts : List (List ℕ)) (parts : List Part) → is_tried c false parts ≡ true → is_tried c false (parts_of_queries texts parts) ≡ true
+queries_tried c [] parts e = e
+queries_tried c (text ∷ texts) parts e = queries_tried c texts parts e
+
+parts_tried : (login : Login) (c : Call) → is_tried c false (parts_of login c) ≡ true
+parts_tried login Connect = texts_tried (arranging_texts login)
+parts_tried login (Batch statement lists) = batch_tried (Batch statement lists) lists
+parts_tried login Reset = queries_tried Reset (setup_texts login) (Flag true ∷ []) refl
+parts_tried login (ChangeUser change) = queries_tried (ChangeUser change) (setup_texts login) [] refl
+parts_tried login (Begin opts) = queries_tried (Begin opts) (begin_texts opts) (Settle InTransaction ∷ []) refl
+parts_tried login ResetForPool = queries_tried ResetForPool (setup_texts login) [] refl
+parts_tried login (Query text) = refl
+parts_tried login (Prepare text) = refl
+parts_tried login (Execute statement params) = refl
+parts_tried login (CloseStmt id) = refl
+parts_tried login NextRow = refl
+parts_tried login DropResult = refl
+parts_tried login TakeSet = refl
+parts_tried login SkipTaken = refl
+parts_tried login Ping = refl
+parts_tried login Commit = refl
+parts_tried login Rollback = refl
+parts_tried login ForgetTransaction = refl
+parts_tried login CleanForPool = refl
+parts_tried login Quit = refl
+
+begins_fine : (login : Login) (c : Call) (ms : List Made) (p : Place) → Rests false ms p → Phase c ms (parts_of login c) p
+begins_fine login c ms p r =
+    let off : p.trial ≡ Off = r.off refl in
+    Hearing false r.hushed (parts_of login c) p (parts_tried login c) (λ x. absurd (cc)) (λ x. off) (r.over refl) (subst (λ (o : Option ServerError). HeardAt r.hushed ms p o) (r.clear refl) r.heard) (λ first i. absurd (cc))
+
+-- what a call on a closed session returns is no error of the server
+closed_calm : (c : Call) (es : List ServerError) → with_told (closed_answer c) es ≡ es
+closed_calm Connect es = refl
+closed_calm (Query text) es = refl
+closed_calm (Prepare text) es = refl
+closed_calm (Execute statement params) es = refl
+closed_calm (Batch statement lists) es = refl
+closed_calm (CloseStmt id) es = refl
+closed_calm NextRow es = refl
+closed_calm DropResult es = refl
+closed_calm TakeSet es = refl
+closed_calm SkipTaken es = refl
+closed_calm Ping es = refl
+closed_calm Reset es = refl
+closed_calm (ChangeUser change) es = refl
+closed_calm (Begin opts) es = refl
+closed_calm Commit es = refl
+closed_calm Rollback es = refl
+closed_calm ForgetTransaction es = refl
+closed_calm CleanForPool es = refl
+closed_calm ResetForPool es = refl
+closed_calm Quit es = refl
+
+-- what was told besides a server's error
+told_rests : (closed : Bool) (c : Call) (ms : List Made) (p : Place) (t : Told) → ((es : List ServerError) → with_told t es ≡ es) → Rests closed ms p → Rests closed (returned_so c t ms) p
+told_rests closed c ms p t calm r = record {
+  hushed = r.hushed;
+  unheard = r.unheard;
+  heard = record { olds = r.heard.olds; are = r.heard.are; errors = r.heard.errors ∙ ap (with_unheard r.unheard) (sym (calm (errors_told ms))); fits = r.heard.fits };
+  clear = r.clear;
+  over = r.over;
+  off = r.off;
+}
+
+-- the same where less is known
+looser : (a b : Bool) (ms : List Made) (p : Place) → (b ≡ false → a ≡ false) → Rests a ms p → Rests b ms p
+looser a b ms p less r = record { hushed = r.hushed; unheard = r.unheard; heard = r.heard; clear = λ x. r.clear (less x); over = λ x. r.over (less x); off = λ x. r.off (less x) }
+
+module _ (login : Login) (s : Span) (h : Halt) (mid : List Made) where
+  abbrev call : ReadCall
+  call = record { span = s; closed = false; halt = h }
+
+  abbrev Ended : Type 0
+  Ended = ((s.ending ≡ None) × IsHalted s.call mid h.place) ⊎ Rests (is_closing s.call s.ending) (with_ending s.call s.ending mid) h.place
+
+  so : (t : Told) → s.ending ≡ Some t → Rests (closes t (kind_of s.call)) (returned_so s.call t mid) h.place → Ended
+  so t e r = inr (subst (λ (x : Option Told). Rests (is_closing s.call x) (with_ending s.call x mid) h.place) (sym e) r)
+
+  lost : (e : Error) → closes (ToldError e) (kind_of s.call) ≡ true → ((es : List ServerError) → with_told (ToldError e) es ≡ es) → IsHalted s.call mid h.place → Rests (closes (ToldError e) (kind_of s.call)) (returned_so s.call (ToldError e) mid) h.place
+  lost e closing calm r = looser (not (reads_sets s.call)) (closes (ToldError e) (kind_of s.call)) (returned_so s.call (ToldError e) mid) h.place (λ x. absurd (cc))
+      (told_rests (not (reads_sets s.call)) s.call mid h.place (ToldError e) calm r)
+
+  cut_ended : IsHalted s.call mid h.place → IsCut login call → Ended
+  cut_ended r (IsOpen e) = inl (e, r)
+  cut_ended r (IsCancelled e) =
+      let t : Told = Dropped (closes_cancelled (kind_of s.call) h.place) in
+      so t e (looser (not (reads_sets s.call)) (closes_cancelled (kind_of s.call) h.place) (returned_so s.call t mid) h.place (cancelled_reads s.call h.place) (told_rests (not (reads_sets s.call)) s.call mid h.place t (λ es. refl) r))
+  cut_ended r (IsLinkFailure e) = so _ e (lost _ refl (λ es. refl) r)
+  cut_ended r (IsLinkEnd a e) = so _ e (lost _ refl (λ es. refl) r)
+
+  call_ended : (stop : Stop) → Stopped s.call mid h.place stop → Ends login call stop → Ended
+  call_ended Owes w e = cut_ended w e
+  call_ended Awaits w e = cut_ended w e
+  call_ended (Returns t) w e = so t e w
+
+-- where the reading stands after calls
+record Stood (ms : List Made) (ss : List Span) (p : Place) : Type 0 where
+  made : List Made
+  of_calls : AreHeard ms ss made
+  hushed : List Bool
+  are : AreHushed hushed (exchanges p)
+  unheard : Option ServerError
+  errors : errors_of hushed (exchanges p) ≡ with_unheard unheard (errors_told made)
+
+here_stood : (closed : Bool) (ms : List Made) (p : Place) → Rests closed ms p → Stood ms [] p
+here_stood closed ms p r = record { made = ms; of_calls = NoneHeard ms; hushed = r.hushed ∷ r.heard.olds; are = r.heard.are; unheard = r.unheard; errors = r.heard.errors }
+
+before_stood : (ms mid : List Made) (s : Span) (ss : List Span) (p : Place) → PassedErrors s.call ms mid → Stood (with_ending s.call s.ending mid) ss p → Stood ms (s ∷ ss) p
+before_stood ms mid s ss p passed w = record { made = w.made; of_calls = OneHeard ms mid w.made s ss passed w.of_calls; hushed = w.hushed; are = w.are; unheard = w.unheard; errors = w.errors }
+
+-- an open call is the newest
+open_stood : (login : Login) (s : Span) (ss : List Span) (closed : Bool) (ms mid : List Made) (p : Place) → have_ended (s ∷ ss) ≡ true → s.ending ≡ None → PassedErrors s.call ms mid → IsHalted s.call mid p → Stood ms (s ∷ ss) (read_calls login ss closed p).place
+unfolding read_calls
+open_stood login s [] closed ms mid p ended none passed r = before_stood ms mid s [] p passed
+    (subst (λ (x : Option Told). Stood (with_ending s.call x mid) [] p) (sym none) (here_stood (not (reads_sets s.call)) mid p r))
+open_stood login s (t ∷ ss) closed ms mid p ended none passed r =
+    let some : is_some s.ending ≡ true = (both (is_some s.ending) (have_ended (t ∷ ss)) ended).0 in
+    let no : is_some s.ending ≡ false = ap is_some none in
+    absurd (cc)
+
+bytes_rest : (closed : Bool) (ms : List Made) (p : Place) (sent taken : List ℕ) → Rests closed ms p → Rests closed ms (with_bytes sent taken p)
+bytes_rest closed ms p sent taken r = record { hushed = r.hushed; unheard = r.unheard; heard = r.heard; clear = r.clear; over = r.over; off = r.off }
+
+closed_rests : (s : Span) (ms : List Made) (p : Place) → s.ending ≡ Some (closed_answer s.call) → Rests true ms p → Rests true (with_ending s.call s.ending ms) p
+closed_rests s ms p e r = subst (λ (x : Option Told). Rests true (with_ending s.call x ms) p) (sym e) (told_rests true s.call ms p (closed_answer s.call) (closed_calm s.call) r)
+
+ended_stood : (login : Login) (s : Span) (ss : List Span) (ms : List Made) (h : Halt) (mid : List Made) → have_ended (s ∷ ss) ≡ true → PassedErrors s.call ms mid
+    → (Rests (is_closing s.call s.ending) (with_ending s.call s.ending mid) h.place → Stood (with_ending s.call s.ending mid) ss (read_calls login ss (is_closing s.call s.ending) h.place).place)
+    → (((s.ending ≡ None) × IsHalted s.call mid h.place) ⊎ Rests (is_closing s.call s.ending) (with_ending s.call s.ending mid) h.place)
+    → Stood ms (s ∷ ss) (read_calls login ss (is_closing s.call s.ending) h.place).place
+ended_stood login s ss ms h mid ended passed go (inl cut) = open_stood login s ss (is_closing s.call s.ending) ms mid h.place ended cut.0 passed cut.1
+ended_stood login s ss ms h mid ended passed go (inr r) = before_stood ms mid s ss _ passed (go r)
+
+calls_stood : (login : Login) (ss : List Span) (closed : Bool) (ms : List Made) (p : Place) → Rests closed ms p → have_ended ss ≡ true → AreCalls login (read_calls login ss closed p).calls → Stood ms ss (read_calls login ss closed p).place
+unfolding read_calls
+calls_stood login [] closed ms p r ended calls = here_stood closed ms p r
+calls_stood login (s ∷ ss) true ms p r ended calls = before_stood ms ms s ss _ NoErrors
+    (calls_stood login ss true (with_ending s.call s.ending ms) (with_bytes s.sent s.taken p) (closed_rests s ms (with_bytes s.sent s.taken p) calls.0.ends (bytes_rest true ms p s.sent s.taken r)) (rest_ended s ss ended) calls.1)
+calls_stood login (s ∷ ss) false ms p r ended calls =
+    let q : Place = with_bytes s.sent s.taken p in
+    let h : Halt = course login s.call q in
+    let ran = run_fine (enough login s.call q) login s.call ms ms NoErrors (Goes (parts_of login s.call) q) (ms, NoErrors, begins_fine login s.call ms q (bytes_rest false ms p s.sent s.taken r)) in
+    ended_stood login s ss ms h ran.0 ended ran.1
+    (λ v. calls_stood login ss (is_closing s.call s.ending) (with_ending s.call s.ending ran.0) h.place v (rest_ended s ss ended) calls.1)
+    (call_ended login s h ran.0 h.stop ran.2 calls.0.ends)
+
+pub each_is_heard : EachIsHeard
+unfolding reading
+each_is_heard login t w =
+    let v = calls_stood login (spans t) false [] (first_place login)
+    (record {
+      hushed = false;
+      unheard = None;
+      heard = record { olds = []; are = (λ x. absurd (cc), tt); errors = refl; fits = record { kinds = tt; within = tt } };
+      clear = λ x. refl;
+      over = λ x y. absurd (cc);
+      off = λ x. refl;
+    })
+    (ended_from t t.calls w.order.order) w.calls in
+    record { made = v.made; of_calls = v.of_calls; hushed = v.hushed; are_hushed = v.are; unheard = v.unheard; errors = v.errors }
