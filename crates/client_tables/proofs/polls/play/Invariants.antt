@@ -1,5 +1,0 @@
-use Rattle.my_line.specs.Calls.{MayPoll}
-use Rattle.client_tables.proofs.polls.play.Given as goal
-
-abbrev pub invariant-polls : goal.invariant-polls
-invariant-polls g l = MayPoll l.call.kind l.call.call l.conn.pending
