@@ -2,10 +2,11 @@
 //! contract; each call that fails is counted.
 #![tactic(auto)]
 
+mod fault;
 mod link;
 mod stream;
 mod world;
 
 pub use link::{RealLink, SocketLink, StreamLink, TcpLink};
-pub use stream::{RealStream, Stream};
+pub use stream::{RealStream, Stream, WatchedStream};
 pub use world::TcpWorld;

@@ -1,7 +1,7 @@
 //! A stream of the system as a link.
 ghost use Rattle.std.specs.Prelude.{◌≡◌, None};
 
-use crate::stream::{RealStream, Stream};
+use crate::stream::{Stream, WatchedStream};
 use my_link::{BlockingLink, CheckStep, Link, ReadStep, WriteStep};
 use std::io;
 use std::io::ErrorKind;
@@ -23,7 +23,7 @@ pub type TcpLink = StreamLink<TcpStream>;
 
 pub type SocketLink = StreamLink<UnixStream>;
 
-pub type RealLink = StreamLink<RealStream>;
+pub type RealLink = StreamLink<WatchedStream>;
 
 impl<S: Stream> StreamLink<S> {
     /// A link over a stream whose reads and writes wait.

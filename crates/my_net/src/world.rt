@@ -1,16 +1,18 @@
 //! A world of real links.
-ghost use Rattle.std.specs.Prelude.{◌≡◌, None, IfSome, false};
+ghost use Rattle.std.specs.Prelude.{◌≡◌, None, IfOk, false};
 ghost use Rattle.my_net.specs.Streams.{is_local, at_socket};
 ghost use Rattle.my_net.specs.Untold.{nothing_told};
 
+use crate::fault::LastFault;
 use crate::link::{RealLink, StreamLink};
-use crate::stream::RealStream;
+use crate::stream::{RealStream, WatchedStream};
 use my_frame::{NoMemory, SourceStep};
 use my_link::{AfterConnect, AfterStep, Aid, DialStep, Dialer, GlobalHandler, Opening};
 use my_opts_parts::Target;
 use my_world::{World, WorldLine};
 use std::alloc::Global;
 use std::io;
+use std::io::ErrorKind;
 use std::net::{IpAddr, Net, SocketAddr, TcpStream};
 use std::os::unix::net::UnixStream;
 use std::random::RandomSource;
@@ -24,48 +26,74 @@ pub struct TcpWorld<R> {
     plans: bool,
     faults: u64,
     moment: u64,
+    last: LastFault,
 }
 
-impl<R> TcpWorld<R> {
+impl<R: AllocGlobal> TcpWorld<R> {
     /// A world over this system.
     pub fn new(rt: R) -> TcpWorld<R>
         ensures faults { result.faults ≡ 0 }
         ensures plans { result.plans ≡ false }
     {
+        let last = LastFault::new(rt.alloc());
         TcpWorld {
             rt,
             plans: false,
             faults: 0,
             moment: 0,
+            last,
         }
     }
 }
 
-// The first of these addresses that answers; `None` where none does.
-fn connect_first<R: Net>(rt: &R, ips: &[IpAddr], port: u16) -> Option<R::Stream> {
+impl<R> TcpWorld<R> {
+    /// The kind of the last fault of a dial, or of a link's read or write; none where none failed yet, or where there was
+    /// no memory to keep it. The name of a host that isn't known is `Uncategorized`.
+    pub fn last_fault(&self) -> Option<ErrorKind> {
+        self.last.kind()
+    }
+}
+
+// The first of these addresses that answers, or the error of the last one.
+fn connect_first<R: Net>(rt: &R, ips: &[IpAddr], port: u16) -> io::Result<R::Stream> {
+    let mut last = io::Error::from(ErrorKind::AddrNotAvailable);
     for ip in ips {
-        if let Ok(stream) = rt.connect(SocketAddr::new(*ip, port)) {
-            return Some(stream);
+        match rt.connect(SocketAddr::new(*ip, port)) {
+            Ok(stream) => return Ok(stream),
+            Err(error) => last = error,
         }
     }
-    None
+    Err(last)
+}
+
+// What is written is sent at once. Else a command that follows another without an answer, as the close of a statement,
+// would wait until the server acknowledges the first: some 40 ms. A system that can't do it is slower, and no less right.
+fn connect_tcp<R: Net<Stream = TcpStream>>(
+    rt: &R,
+    host: &str,
+    port: u16,
+    ips: Option<&[IpAddr]>,
+) -> io::Result<TcpStream> {
+    let stream = match ips {
+        Some(ips) => connect_first(rt, ips, port)?,
+        None => TcpStream::connect(rt, (host, port))?,
+    };
+    let _ = stream.set_nodelay(true);
+    Ok(stream)
 }
 
 // The stream to a target: to its addresses in order where they are known, else to those that its host's name has.
-fn open<R: Net<Stream = TcpStream>>(rt: &R, target: &Target) -> Option<RealStream>
-    ensures { IfSome result (λ s. is_local s ≡ at_socket target.now) }
+fn open<R: Net<Stream = TcpStream>>(rt: &R, target: &Target) -> io::Result<RealStream>
+    ensures { IfOk result (λ s. is_local s ≡ at_socket target.now) }
 {
     match target {
-        Target::Socket(path) => match UnixStream::connect(rt, path.as_str()) {
-            Ok(stream) => Some(RealStream::Socket(stream)),
-            Err(_) => None,
-        },
+        Target::Socket(path) => Ok(RealStream::Socket(UnixStream::connect(rt, path.as_str())?)),
         Target::Tcp { host, port, ips } => {
-            let stream = match ips {
-                Some(ips) => connect_first(rt, ips.as_slice(), *port)?,
-                None => TcpStream::connect(rt, (host.as_str(), *port)).ok()?,
+            let ips = match ips {
+                Some(ips) => Some(ips.as_slice()),
+                None => None,
             };
-            Some(RealStream::Tcp(stream))
+            Ok(RealStream::Tcp(connect_tcp(rt, host.as_str(), *port, ips)?))
         }
     }
 }
@@ -95,8 +123,11 @@ impl<R: Net<Stream = TcpStream>> Dialer for TcpWorld<R> {
 
     fn dial(&mut self, _number: u64, target: &Target) -> DialStep<RealLink> {
         match open(&self.rt, target) {
-            Some(stream) => DialStep::Link(StreamLink::new(stream)),
-            None => {
+            Ok(stream) => {
+                DialStep::Link(StreamLink::new(WatchedStream::new(stream, self.last.share())))
+            }
+            Err(error) => {
+                self.last.keep(error.kind());
                 self.faults = self.faults.saturating_add(1);
                 DialStep::Failed
             }
