@@ -33,11 +33,14 @@ fn part_of(name: &str) -> &'static str {
     ""
 }
 
-/// The digits of a word that has bytes; none of another word.
+/// The digits of a word that has bytes: a part, or digits of which the first is below ten. Another word has none.
 pub fn digits_of(word: &str) -> &str {
-    match word.strip_prefix('@') {
-        Some(name) => part_of(name),
-        None => { if word.starts_with('0') { word } else { "" } }
+    if let Some(name) = word.strip_prefix('@') {
+        return part_of(name);
+    }
+    match word.as_bytes().first() {
+        Some(b'0'..=b'9') => word,
+        _ => "",
     }
 }
 

@@ -83,7 +83,7 @@ fn fault_after(
     row: &str,
 ) -> Result<String, NoMemory> {
     let Report { status, transcript } = report;
-    let is_judged = status.code() == 0 && field(row, "unplanned").is_none();
+    let is_judged = status.code() == 0 && field(row, "unjudged").is_none();
     drop(status);
     if is_judged {
         fault_of(alloc, words, script, transcript, row)

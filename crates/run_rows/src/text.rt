@@ -4,7 +4,7 @@
 //! number, and a text that is repeated, in which each `%` begins a number (`push_number`).
 //!
 //! Other lines: `status`; `cause` of a refusal, or the number and the text of a line that doesn't read; `room` of the sink; `whole`
-//! where nothing more is written; `unplanned` where the world takes no plan; `judge` and `other`, of `judged`.
+//! where nothing more is written; `unjudged` where its transcript is not judged; and those of `judged`.
 
 use crate::rows::parts::PARTS;
 use std::alloc::{AllocError, Global};

@@ -191,7 +191,7 @@ whole
 <@ sent taken
 
 # dials: a thousand connections
-uncounted
+unjudged
 room 1048576
 >* 1000 0 conn|
 <* 1000 1 %d 0; pending|

@@ -14,7 +14,7 @@ $ script|mysql://root@localhost?socket=%2Fnowhere%2Fat%2Fall
 > conn|ping 0
 < 1 error Io Dial|2 refused NoSuchHandle|end
 whole
-unplanned
+unjudged
 
 # network: no plan in live
 $ live|mysql://root@localhost?socket=%2Fnowhere%2Fat%2Fall
@@ -29,11 +29,11 @@ $ live|mysql://root@localhost?socket=%2Fnowhere%2Fat%2Fall
 > conn|ping 0
 < 1 error Io Dial|2 refused NoSuchHandle|end
 whole
-unplanned
+unjudged
 
 # network: a row of a server that a thread plays
 $ live|mysql://root@127.0.0.1:PORT?max_allowed_packet=4194304&wait_timeout=28800
 > conn|query 0 SELECT 1|next 0|next 0|next 0
 <@ a_row
 whole
-unplanned";
+unjudged";

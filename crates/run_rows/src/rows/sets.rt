@@ -279,7 +279,7 @@ uncounted
 <@ sent select_1 taken
 
 # sets: ten thousand rows
-uncounted
+unjudged
 room 1048576
 >@ greeting head
 >* 10000 3 packet 0 %b 0; 0131|

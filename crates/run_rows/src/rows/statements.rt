@@ -238,7 +238,7 @@ $ script|mysql://root@localhost?max_allowed_packet=4194304&wait_timeout=28800&st
 < 2 stmt 0 id=1 params=1 columns=0|3 error Driver Params Kind|4 error Driver ConnectionClosed
 
 # values: as many as a statement can take
-uncounted
+unjudged
 >@ greeting prepared
 > conn|prep 0 DO 1
 >. exec 0 0
@@ -249,7 +249,7 @@ uncounted
 < 2 stmt 0 id=1 params=0 columns=0|3 error Driver StmtParamsMismatch 0 65535|4 error Driver ConnectionClosed
 
 # values: one more than a statement can take
-uncounted
+unjudged
 >@ greeting prepared
 > conn|prep 0 DO 1
 >. exec 0 0
