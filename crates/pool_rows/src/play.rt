@@ -62,14 +62,19 @@ fn stands(standing: Standing) -> &'static str {
     }
 }
 
+// A length of time; the greatest number of 64 bits where it is longer.
+fn short(millis: u128) -> u64 {
+    u64::try_from(millis).unwrap_or(u64::MAX)
+}
+
 fn is_there(place: Place, want: &str) -> bool {
     match place {
         Place::Idle(times) => {
-            let deadline = times.deadline.unwrap_or(0) as u64;
+            let deadline = short(times.deadline.unwrap_or(0));
             is_wanted(
                 want,
                 "idle",
-                &[times.since, deadline, times.last_io, times.ttl as u64],
+                &[times.since, deadline, times.last_io, short(times.ttl)],
                 0,
             )
         }
