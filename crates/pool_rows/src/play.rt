@@ -192,7 +192,7 @@ fn pools(rt: HostRuntime) -> Result<(), Fail> {
     for block in POOLS.split("# ").skip(1) {
         let count = count_right(rt.alloc(), block)?;
         assert!(rt;
-            count == block.lines().count() as u64 - 1,
+            count == (block.lines().count() as u64).saturating_sub(1),
             "row {count} of {block}"
         );
         ran = ran.saturating_add(count);
