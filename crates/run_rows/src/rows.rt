@@ -1,0 +1,11 @@
+//! The rows.
+
+pub mod connecting;
+pub mod lines;
+pub mod network;
+pub mod parts;
+pub mod sessions;
+pub mod sets;
+pub mod statements;
+pub mod transactions;
+pub mod words;
