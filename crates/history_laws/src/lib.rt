@@ -6,7 +6,7 @@ ghost use Rattle.history_laws.specs.Errors.{EachIsHeard};
 ghost use Rattle.history_laws.specs.Found.{EachIsFound};
 ghost use Rattle.history_laws.specs.Given.{EachTapeGives, PrefixesAreGiven};
 ghost use Rattle.history_laws.specs.Order.{EachIsOrderly};
-ghost use Rattle.history_laws.specs.Sent.{EachIsSent};
+ghost use Rattle.history_laws.specs.Sent.{EachIsSaid, EachIsSent};
 ghost use Rattle.history_laws.specs.Taken.{EachIsSpelled};
 
 /// What calls returned and passed over of the sets of a response is, set by set, what the response was at some moment.
@@ -21,10 +21,12 @@ pub fn each_is_orderly()
 {}
 
 /// What was received on a connection is what the server sent in its exchanges, one after another, and then bytes that
-/// weren't read (`received`). What was sent is a beginning of what the client says in them (`sent`).
+/// weren't read (`received`). What was sent is a beginning of what the client says in them (`sent`): all of the older ones,
+/// and of the newest one where the server answered (`said`).
 pub fn bytes_are_of_exchanges()
     ensures received { EachIsSpelled }
     ensures sent { EachIsSent }
+    ensures said { EachIsSaid }
 {}
 
 /// What calls of a tape returned and passed over is, exchange by exchange and set by set, what was at some moment in the
