@@ -6,6 +6,7 @@ ghost use Rattle.history_laws.specs.Errors.{EachIsHeard};
 ghost use Rattle.history_laws.specs.Found.{EachIsFound};
 ghost use Rattle.history_laws.specs.Given.{EachTapeGives, PrefixesAreGiven};
 ghost use Rattle.history_laws.specs.Order.{EachIsOrderly};
+ghost use Rattle.history_laws.specs.Owners.{EachIsOwned};
 ghost use Rattle.history_laws.specs.Sent.{EachIsSaid, EachIsSent};
 ghost use Rattle.history_laws.specs.Taken.{EachIsSpelled};
 
@@ -39,4 +40,11 @@ pub fn callers_are_given_what_is_found()
 /// those of exchanges by which a commit that the server refused was rolled back.
 pub fn callers_hear_each_error()
     ensures { EachIsHeard }
+{}
+
+/// Each exchange of a tape began by the command table, after the exchanges before it, and belongs to a call: one after another
+/// to the same call or to the next; an accepted command has one. A connection that was made was set up by all queries that it
+/// needs, and each was answered. Where no call is open and the session isn't closed, nothing is left to be sent.
+pub fn exchanges_are_of_calls()
+    ensures { EachIsOwned }
 {}
