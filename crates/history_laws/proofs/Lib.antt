@@ -18,3 +18,5 @@ pub mod Owning
 pub mod Parts
 pub mod Connecting
 pub mod Tying
+pub mod Merging
+pub mod Gathering

@@ -179,7 +179,7 @@ place_said : (p : Place) (sent : List ℕ) → IsPaid p → IsBegun p → p.sent
 unfolding IsBegun
 place_said p sent w b e =
     let s = split (client_side p.older) (client_bytes (turns p.talk)) p.sent b w.older in
-    record { gone = s.gone; rest = owed p; sent_is = sym e ∙ s.sent_is; all = s.all; answered = w.answered }
+    record { gone = s.gone; sent_is = sym e ∙ s.sent_is; all = s.all; answered = w.answered }
 
 pub each_is_said : EachIsSaid
 unfolding reading

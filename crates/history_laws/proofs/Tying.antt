@@ -19,7 +19,7 @@ use Rattle.my_reading.specs.Tape.{Span, spans}
 use Rattle.my_reading.specs.Told.{Told, ToldReady, ToldRow, ToldEnd, ToldNone, ToldStatement, ToldFlag, ToldError, ToldPassed, Dropped, closes}
 use Rattle.history_laws.specs.Given.{have_ended, with_ending}
 use Rattle.history_laws.specs.Groups.{Made}
-use Rattle.history_laws.specs.Owners.{AreOf, EachIsOwned, IsArranged, IsOwnedOf, IsTied, OwnsFirst, begun_at, calls_in, ended_after, makes, may_lack, open_call, pending_in, was_made}
+use Rattle.history_laws.specs.Owners.{AreOf, EachIsOwned, IsArranged, IsOwnedOf, IsTied, OwnsFirst, begun_in, calls_in, ended_after, makes, may_lack, open_call, pending_in, was_made}
 use Rattle.history_laws.specs.Sent.{is_answered}
 use Rattle.history_laws.specs.Table.{Follow, Opening}
 use Rattle.history_laws.proofs.Connecting.{AreConnects, IsJoined, JoinsAt, JoinsSo, connect_stops}
@@ -36,7 +36,7 @@ use Rattle.history_laws.proofs.Telling.{first_rests, rests_on}
 -- between calls, on a session that is closed or not
 record Between (login : Login) (closed : Bool) (ms : List Made) (p : Place) : Type 0 where
   table : Follow login (exchanges p)
-  tied : IsTied ms (begun_at p)
+  tied : IsTied ms (begun_in (exchanges p))
   arranged : was_made ms ≡ true → (connects_in (exchanges p) ≡ suc (length (arranging_texts login))) × (is_connect (kind_of p.call) ≡ true → (is_over p.talk ≡ true) × (is_answered p.talk ≡ true))
   shook : closed ≡ false → IsShook p.talk
   paid : closed ≡ false → owed p ≡ []
@@ -92,10 +92,10 @@ closed_between login s ms p other e b = subst (λ (x : Option Told). Between log
     })
 
 -- after the greeting all exchanges began
-all_begun : (P : List Call → Type 0) (p : Place) → IsShook p.talk → P (p.call ∷ calls_in p.older) → P (begun_at p)
+all_begun : (P : List Call → Type 0) (p : Place) → IsShook p.talk → P (p.call ∷ calls_in p.older) → P (begun_in (exchanges p))
 all_begun P p shook w = subst (λ b. P (cond b (calls_in p.older) (p.call ∷ calls_in p.older))) (sym shook) w
 
-from_begun : (P : List Call → Type 0) (p : Place) → IsShook p.talk → P (begun_at p) → P (p.call ∷ calls_in p.older)
+from_begun : (P : List Call → Type 0) (p : Place) → IsShook p.talk → P (begun_in (exchanges p)) → P (p.call ∷ calls_in p.older)
 from_begun P p shook w = subst (λ b. P (cond b (calls_in p.older) (p.call ∷ calls_in p.older))) shook w
 
 -- a call that may leave a session open when it is cancelled sends nothing
@@ -186,12 +186,17 @@ module _ (login : Login) (s : Span) (ms : List Made) (other : is_connect (kind_o
       (false, held_first p b, parts_lead login c q.status other, (ap (λ x. is_off x || asks (kind_of c)) (r.off refl), λ _. bytes_paid p s.sent s.taken (b.paid refl)))
 
 -- a call that is open
-open_of : (login : Login) (s : Span) (ms : List Made) (p : Place) → Waits login s.call ms p → AreOf (Some s.call) ms (begun_at p)
+open_of : (login : Login) (s : Span) (ms : List Made) (p : Place) → Waits login s.call ms p → AreOf (Some s.call) ms (begun_in (exchanges p))
 open_of login s ms p w = all_begun (AreOf (Some s.call) ms) p w.1.shook w.1.tied
+
+-- the last query was answered
+set_up : (connects answered : Bool) → (connects ≡ true → answered ≡ true) → (not connects || answered) ≡ true
+set_up true answered w = w refl
+set_up false answered w = refl
 
 -- after the calls
 here_owned : (login : Login) (closed : Bool) (ms : List Made) (p : Place) → Between login closed ms p → IsOwnedOf login ms [] p closed
-here_owned login closed ms p b = record { table = b.table; calls = inr b.tied; arranged = λ made. ((b.arranged made).0, λ e. ((b.arranged made).1 e).1); whole = λ none alive. b.paid alive }
+here_owned login closed ms p b = record { table = b.table; calls = inr b.tied; arranged = λ made. ((b.arranged made).0, set_up (is_connect (kind_of p.call)) (is_answered p.talk) (λ e. ((b.arranged made).1 e).1)); whole = λ none alive. b.paid alive }
 
 same_pending : (s : Span) (ss : List Span) → is_some s.ending ≡ true → pending_in (s ∷ ss) ≡ pending_in ss
 same_pending s [] e = by_ending s.ending e
@@ -204,19 +209,19 @@ same_pending s (t ∷ ss) e = refl
 before_owned : (login : Login) (s : Span) (ss : List Span) (ms : List Made) (p : Place) (closed : Bool) → is_some s.ending ≡ true → IsOwnedOf login (with_ending s.call s.ending ms) ss p closed → IsOwnedOf login ms (s ∷ ss) p closed
 before_owned login s ss ms p closed e w = record {
   table = w.table;
-  calls = subst (λ o. AreOf o (ended_after (with_ending s.call s.ending ms) ss) (begun_at p)) (sym (same_pending s ss e)) w.calls;
+  calls = subst (λ o. AreOf o (ended_after (with_ending s.call s.ending ms) ss) (begun_in (exchanges p))) (sym (same_pending s ss e)) w.calls;
   arranged = w.arranged;
   whole = λ none. w.whole (sym (same_pending s ss e) ∙ none);
 }
 
 -- an open call is the newest
-open_owned : (login : Login) (s : Span) (ss : List Span) (ms : List Made) (closed : Bool) (p : Place) → have_ended (s ∷ ss) ≡ true → s.ending ≡ None → Follow login (exchanges p) → AreOf (Some s.call) ms (begun_at p)
-    → IsArranged login ms p → IsOwnedOf login ms (s ∷ ss) (read_calls login ss closed p).place (read_calls login ss closed p).closed
+open_owned : (login : Login) (s : Span) (ss : List Span) (ms : List Made) (closed : Bool) (p : Place) → have_ended (s ∷ ss) ≡ true → s.ending ≡ None → Follow login (exchanges p) → AreOf (Some s.call) ms (begun_in (exchanges p))
+    → IsArranged login ms (exchanges p) → IsOwnedOf login ms (s ∷ ss) (read_calls login ss closed p).place (read_calls login ss closed p).closed
 unfolding read_calls
 open_owned login s [] ms closed p ended none table of arranged = record {
   table = table;
-  calls = subst (λ (x : Option Told). AreOf (open_call s.call x) (with_ending s.call x ms) (begun_at p)) (sym none) of;
-  arranged = subst (λ (x : Option Told). IsArranged login (with_ending s.call x ms) p) (sym none) arranged;
+  calls = subst (λ (x : Option Told). AreOf (open_call s.call x) (with_ending s.call x ms) (begun_in (exchanges p))) (sym none) of;
+  arranged = subst (λ (x : Option Told). IsArranged login (with_ending s.call x ms) (exchanges p)) (sym none) arranged;
   whole = λ e. absurd (let no : open_call s.call s.ending ≡ Some s.call = ap (open_call s.call) none in cc);
 }
 open_owned login s (t ∷ ss) ms closed p ended none table of arranged =
@@ -238,7 +243,7 @@ from_rests closed ms0 p r = λ e. (ms0, subst (λ b. Rests b ms0 p) e r)
 -- either the call is open, or the next ones follow
 ended_owned : (login : Login) (s : Span) (ss : List Span) (ms : List Made) (h : Halt) → have_ended (s ∷ ss) ≡ true
     → (s.ending ≡ None) ⊎ ((mid : List Made) × Rests (is_closing s.call s.ending) mid h.place)
-    → ((s.ending ≡ None) × (Follow login (exchanges h.place) × AreOf (Some s.call) ms (begun_at h.place) × IsArranged login ms h.place)) ⊎ ((is_some s.ending ≡ true) × Between login (is_closing s.call s.ending) (with_ending s.call s.ending ms) h.place)
+    → ((s.ending ≡ None) × (Follow login (exchanges h.place) × AreOf (Some s.call) ms (begun_in (exchanges h.place)) × IsArranged login ms (exchanges h.place))) ⊎ ((is_some s.ending ≡ true) × Between login (is_closing s.call s.ending) (with_ending s.call s.ending ms) h.place)
     → (Between login (is_closing s.call s.ending) (with_ending s.call s.ending ms) h.place → IsAlive (is_closing s.call s.ending) h.place
     → IsOwnedOf login (with_ending s.call s.ending ms) ss (read_calls login ss (is_closing s.call s.ending) h.place).place (read_calls login ss (is_closing s.call s.ending) h.place).closed)
     → IsOwnedOf login ms (s ∷ ss) (read_calls login ss (is_closing s.call s.ending) h.place).place (read_calls login ss (is_closing s.call s.ending) h.place).closed
@@ -248,8 +253,8 @@ ended_owned login s ss ms h ended (inr v) (inr b) go = before_owned login s ss m
 
 waits_open : (login : Login) (s : Span) (ms : List Made) (h : Halt)
     → ((s.ending ≡ None) × Waits login s.call ms h.place) ⊎ ((is_some s.ending ≡ true) × Between login (is_closing s.call s.ending) (with_ending s.call s.ending ms) h.place)
-    → ((s.ending ≡ None) × (Follow login (exchanges h.place) × AreOf (Some s.call) ms (begun_at h.place) × IsArranged login ms h.place)) ⊎ ((is_some s.ending ≡ true) × Between login (is_closing s.call s.ending) (with_ending s.call s.ending ms) h.place)
-waits_open login s ms h (inl w) = inl (w.0, (w.1.1.table, open_of login s ms h.place w.1, λ made. ((w.1.1.arranged made).0, λ e. ((w.1.1.arranged made).1 e).1)))
+    → ((s.ending ≡ None) × (Follow login (exchanges h.place) × AreOf (Some s.call) ms (begun_in (exchanges h.place)) × IsArranged login ms (exchanges h.place))) ⊎ ((is_some s.ending ≡ true) × Between login (is_closing s.call s.ending) (with_ending s.call s.ending ms) h.place)
+waits_open login s ms h (inl w) = inl (w.0, (w.1.1.table, open_of login s ms h.place w.1, λ made. ((w.1.1.arranged made).0, set_up (is_connect (kind_of h.place.call)) (is_answered h.place.talk) (λ e. ((w.1.1.arranged made).1 e).1))))
 waits_open login s ms h (inr b) = inr b
 
 -- the calls after the first
@@ -324,14 +329,14 @@ any_own [] w = inr tt
 any_own (e ∷ es) w = inl (all_own e.call es w.0 w.1)
 
 module _ (login : Login) (p : Place) (w : JoinsAt login p) where
-  lacking_tied : (t : Told) → may_lack t calls.Connect ≡ true → IsTied (record { call = calls.Connect; what = t } ∷ []) (begun_at p)
+  lacking_tied : (t : Told) → may_lack t calls.Connect ≡ true → IsTied (record { call = calls.Connect; what = t } ∷ []) (begun_in (exchanges p))
   lacking_tied t lacks = by_spot (is_greeting (context_of p.talk).spot)
     where
       by_spot : (b : Bool) → IsTied (record { call = calls.Connect; what = t } ∷ []) (cond b (calls_in p.older) (p.call ∷ calls_in p.older))
       by_spot true = some_own t p.older lacks w.owns
       by_spot false = inr (all_own p.call p.older w.own w.owns)
 
-  open_tied : AreOf (Some calls.Connect) [] (begun_at p)
+  open_tied : AreOf (Some calls.Connect) [] (begun_in (exchanges p))
   open_tied = by_spot (is_greeting (context_of p.talk).spot)
     where
       by_spot : (b : Bool) → AreOf (Some calls.Connect) [] (cond b (calls_in p.older) (p.call ∷ calls_in p.older))
@@ -364,7 +369,7 @@ module _ (login : Login) (p : Place) (w : JoinsAt login p) where
 
 module _ (login : Login) (s : Span) (is : calls.Connect ≡ s.call) (h : Halt) where
   abbrev First : Type 0
-  First = ((s.ending ≡ None) × (Follow login (exchanges h.place) × AreOf (Some calls.Connect) [] (begun_at h.place) × IsArranged login [] h.place)) ⊎ ((is_some s.ending ≡ true) × Between login (is_closing calls.Connect s.ending) (with_ending calls.Connect s.ending []) h.place)
+  First = ((s.ending ≡ None) × (Follow login (exchanges h.place) × AreOf (Some calls.Connect) [] (begun_in (exchanges h.place)) × IsArranged login [] (exchanges h.place))) ⊎ ((is_some s.ending ≡ true) × Between login (is_closing calls.Connect s.ending) (with_ending calls.Connect s.ending []) h.place)
 
   first_so : (t : Told) → s.ending ≡ Some t → Between login (closes t callkinds.Connect) (record { call = calls.Connect; what = t } ∷ []) h.place → First
   first_so t e b = inr (ap is_some e, subst (λ (x : Option Told). Between login (is_closing calls.Connect x) (with_ending calls.Connect x []) h.place) (sym e) b)
@@ -384,8 +389,8 @@ module _ (login : Login) (s : Span) (is : calls.Connect ≡ s.call) (h : Halt) w
   first_ended Awaits w e = first_cut w e
   first_ended (Returns t) w e = first_said t e w.0 w.1
 
-  first_of_call : First → ((s.ending ≡ None) × (Follow login (exchanges h.place) × AreOf (Some s.call) [] (begun_at h.place) × IsArranged login [] h.place)) ⊎ ((is_some s.ending ≡ true) × Between login (is_closing s.call s.ending) (with_ending s.call s.ending []) h.place)
-  first_of_call f = subst (λ (c : Call). ((s.ending ≡ None) × (Follow login (exchanges h.place) × AreOf (Some c) [] (begun_at h.place) × IsArranged login [] h.place)) ⊎ ((is_some s.ending ≡ true) × Between login (is_closing c s.ending) (with_ending c s.ending []) h.place)) is f
+  first_of_call : First → ((s.ending ≡ None) × (Follow login (exchanges h.place) × AreOf (Some s.call) [] (begun_in (exchanges h.place)) × IsArranged login [] (exchanges h.place))) ⊎ ((is_some s.ending ≡ true) × Between login (is_closing s.call s.ending) (with_ending s.call s.ending []) h.place)
+  first_of_call f = subst (λ (c : Call). ((s.ending ≡ None) × (Follow login (exchanges h.place) × AreOf (Some c) [] (begun_in (exchanges h.place)) × IsArranged login [] (exchanges h.place))) ⊎ ((is_some s.ending ≡ true) × Between login (is_closing c s.ending) (with_ending c s.ending []) h.place)) is f
 
 first_joins : (login : Login) (s : Span) → JoinsAt login (with_bytes s.sent s.taken (first_place login))
 first_joins login s = record { table = (Opening (first_place login).statements refl, tt); own = refl; owns = tt; fits = record { kinds = tt; within = tt }; connects_is = refl; off = refl }

@@ -7,3 +7,4 @@ pub mod Found
 pub mod Errors
 pub mod Table
 pub mod Owners
+pub mod Lawful

@@ -41,8 +41,9 @@ calls_in [] = []
 calls_in (e ∷ es) = e.call ∷ calls_in es
 
 -- the calls of the exchanges that began: before the greeting the newest didn't
-abbrev pub begun_at : Place → List Call
-begun_at p = if is_greeting (context_of p.talk).spot then calls_in p.older else p.call ∷ calls_in p.older
+abbrev pub begun_in : List Exchange → List Call
+begun_in [] = []
+begun_in (e ∷ es) = if is_greeting (context_of e.talk).spot then calls_in es else e.call ∷ calls_in es
 
 -- connecting may have more than one exchange, and so may each call that sends a command: a ROLLBACK before its own, a statement to prepare
 -- the close of another one, a batch one for each execution, a reset and a transaction one for each query
@@ -95,16 +96,19 @@ was_made [] = false
 was_made (m ∷ ms) = makes m.what (kind_of m.call) || was_made ms
 
 -- A connection that was made was set up whole: of the login and of each query there is an exchange, and the last of them was answered.
-abbrev pub IsArranged : Login → List Made → Place → Type 0
-IsArranged login made p = was_made made ≡ true
-    → (connects_in (exchanges p) ≡ suc (length (arranging_texts login))) × (is_connect (kind_of p.call) ≡ true → is_answered p.talk ≡ true)
+abbrev pub ends_set_up : List Exchange → Bool
+ends_set_up [] = true
+ends_set_up (e ∷ es) = not (is_connect (kind_of e.call)) || is_answered e.talk
+
+abbrev pub IsArranged : Login → List Made → List Exchange → Type 0
+IsArranged login made es = was_made made ≡ true → (connects_in es ≡ suc (length (arranging_texts login))) × (ends_set_up es ≡ true)
 
 -- Each exchange is by the table and of a call, a connection that was made was set up, and all is sent where no call is open and the session
 -- isn't closed.
 pub record IsOwnedOf (login : Login) (made : List Made) (ss : List Span) (p : Place) (closed : Bool) : Type 0 where
   pub table : Follow login (exchanges p)
-  pub calls : AreOf (pending_in ss) (ended_after made ss) (begun_at p)
-  pub arranged : IsArranged login (ended_after made ss) p
+  pub calls : AreOf (pending_in ss) (ended_after made ss) (begun_in (exchanges p))
+  pub arranged : IsArranged login (ended_after made ss) (exchanges p)
   pub whole : pending_in ss ≡ None → closed ≡ false → owed p ≡ []
 
 abbrev pub EachIsOwned : Type 0

@@ -5,6 +5,7 @@
 ghost use Rattle.history_laws.specs.Errors.{EachIsHeard};
 ghost use Rattle.history_laws.specs.Found.{EachIsFound};
 ghost use Rattle.history_laws.specs.Given.{EachTapeGives, PrefixesAreGiven};
+ghost use Rattle.history_laws.specs.Lawful.{EachIsLawful};
 ghost use Rattle.history_laws.specs.Order.{EachIsOrderly};
 ghost use Rattle.history_laws.specs.Owners.{EachIsOwned};
 ghost use Rattle.history_laws.specs.Sent.{EachIsSaid, EachIsSent};
@@ -47,4 +48,9 @@ pub fn callers_hear_each_error()
 /// needs, and each was answered. Where no call is open and the session isn't closed, nothing is left to be sent.
 pub fn exchanges_are_of_calls()
     ensures { EachIsOwned }
+{}
+
+/// All this holds of each tape that the reading accepts, of one list of its exchanges and one of its calls.
+pub fn each_tape_is_lawful()
+    ensures { EachIsLawful }
 {}
