@@ -1,5 +1,5 @@
 -- Each step that continues leaves less to do, so that a call has steps enough.
-use Rattle.std.proofs.Common.{◌≡◌, ℕ, suc, zero, ◌+◌, ◌*◌, ◌<◌, ◌≤◌, List, [], ◌∷◌, length, nat_lt, Option, Some, None, Bool, true, false, ◌||◌, cond, refl, ap, ◌∙◌, subst, arith}
+use Rattle.std.proofs.Common.{◌≡◌, ℕ, suc, ◌+◌, ◌*◌, ◌<◌, ◌≤◌, List, [], ◌∷◌, length, nat_lt, Option, Some, None, Bool, true, false, ◌||◌, cond, refl, ap, arith}
 use Rattle.my_frame.specs.Front.{Front, Waiting, Broken, Whole}
 use Rattle.my_reply.specs.declared.err.ErrPacket.{ErrPacket}
 use Rattle.my_reply.specs.ErrPacket.{err_at}
@@ -17,11 +17,10 @@ use Rattle.my_reading.specs.declared.transaction.Trial.{Trial}
 use Rattle.my_reading.specs.declared.transaction.Trial.TheVariants as trials
 use Rattle.my_reading.specs.declared.call.Call.TheVariants.{Prepare}
 use Rattle.my_reading.specs.Calls.{statement_in, text_in}
-use Rattle.my_reading.specs.Course.{Part, All, Head, Item, Set, Rest, Command, Find, Check, Run, Reply, Keep, Give, Learn, Forget, Offered, Clear, Text, Flag, Adopt, Renew, Drain, Undo, Undone, Refuse, Settle, GiveUp, Try, Back, Stop, Step, Goes, Stops, step, step_of, unless_owed, with_front, reads, after_payload, after_kind, after_err, dropped_at, failed_at, is_drain, unless_cached, unless_long_response, with_command, first_above, found, checked, executed, closing_of, learned, offered, undone, renewing, unless_refused, refused_at, returned, is_greeting, is_rows, parts_of, run, halt, enough}
+use Rattle.my_reading.specs.Course.{Part, All, Head, Item, Set, Rest, Command, Find, Check, Run, Reply, Keep, Give, Learn, Forget, Offered, Clear, Text, Flag, Adopt, Renew, Drain, Undo, Undone, Refuse, Settle, GiveUp, Try, Back, Step, Goes, Stops, step, step_of, unless_owed, with_front, reads, after_payload, after_kind, after_err, dropped_at, failed_at, is_drain, unless_cached, unless_long_response, with_command, first_above, found, checked, executed, closing_of, learned, offered, undone, renewing, unless_refused, refused_at, returned, is_greeting, is_rows}
 use Rattle.my_handshake.specs.Version.{version_of}
 use Rattle.my_reading.specs.Commands.{queried}
 use Rattle.my_reading.specs.Executions.{Values, Fitting, Unfitting, values_for}
-use Rattle.my_reading.specs.Leads.{Leads, Here, Then, LeadsToCourse}
 use Rattle.my_reading.specs.Place.{Place, exchanges, without_end, with_statements, with_talk, owed, next_exchange, facts_at, terms_of}
 use Rattle.my_reading.specs.Statements.{held_in, is_cached, is_mixed_text, leaving, query_of, with_prepared}
 use Rattle.my_reading.specs.Facts.{prepared_by}

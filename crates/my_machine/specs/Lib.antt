@@ -1,4 +1,4 @@
 pub mod Parts
 pub mod Stands
 pub mod Stops
-pub mod Opens
+pub mod Runs

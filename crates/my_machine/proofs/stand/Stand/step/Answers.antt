@@ -1,4 +1,4 @@
-use Rattle.std.proofs.Common.{◌≡◌, ℕ, List, [], length, Option, Some, IfOk, arith, sym, subst}
+use Rattle.std.proofs.Common.{◌≡◌, ℕ, List, length, Option, Some, IfOk, arith, sym, subst}
 use Rattle.std.proofs.lemmas.List.{nil_from_length}
 use Rattle.my_machine.specs.declared.part.Part.{Part}
 use Rattle.my_machine.specs.Stands.{IsTurn, begins, steps, unless_owed}
