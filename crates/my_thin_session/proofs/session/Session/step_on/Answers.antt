@@ -1,0 +1,13 @@
+use Rattle.std.proofs.Common.{inl, Bool, Option, None, sym, subst}
+use Rattle.my_session.specs.declared.task.LinkFault.{LinkFault}
+use Rattle.my_thin_session.specs.Sessions.{StepsSo}
+use Rattle.my_thin_session.proofs.session.Session.step_on.Goals as goal
+
+pub returns-in-Ok : goal.returns-in-Ok
+returns-in-Ok c = record {
+  reads = λ o e.
+      let s = c.args.self.now in
+      subst (λ (f : Option LinkFault). StepsSo f s.closed o s c.stop_at.new.self c.stop_at.result) (sym c.requires.sound)
+      (subst (λ (b : Bool). StepsSo None b o s c.stop_at.new.self c.stop_at.result) (sym c.requires.alive)
+      (inl (record { kind = c.in-Ok.kind; stop = c.in-Ok.stop; mid = c.run.new.self; ran = c.in-Ok.ensures.ran o e; halts = c.stop_at.ensures })));
+}
