@@ -20,3 +20,4 @@ pub mod Connecting
 pub mod Tying
 pub mod Merging
 pub mod Gathering
+pub mod Unheard

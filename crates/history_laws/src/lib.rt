@@ -2,7 +2,7 @@
 //! No session is named: the laws are of bytes and calls alone.
 #![tactic(auto)]
 
-ghost use Rattle.history_laws.specs.Errors.{EachIsHeard};
+ghost use Rattle.history_laws.specs.Errors.{EachIsHeard, EachIsHeardIn};
 ghost use Rattle.history_laws.specs.Found.{EachIsFound};
 ghost use Rattle.history_laws.specs.Given.{EachTapeGives, PrefixesAreGiven};
 ghost use Rattle.history_laws.specs.Lawful.{EachIsLawful};
@@ -38,9 +38,11 @@ pub fn callers_are_given_what_is_found()
 {}
 
 /// Callers of a tape got each ERR of its exchanges, or a call passed over it, once and in order, but perhaps the last; not
-/// those of exchanges by which a commit that the server refused was rolled back.
+/// those of exchanges by which a commit that the server refused was rolled back (`read`). So it is of the ERRs that the
+/// grammar finds in the bytes that were received (`found`).
 pub fn callers_hear_each_error()
-    ensures { EachIsHeard }
+    ensures read { EachIsHeard }
+    ensures found { EachIsHeardIn }
 {}
 
 /// Each exchange of a tape began by the command table, after the exchanges before it, and belongs to a call: one after another
