@@ -10,6 +10,7 @@ use Rattle.my_reading.specs.Reading.{reading}
 use Rattle.my_reading.specs.Tape.{Tape, spans}
 use Rattle.history_laws.specs.Errors.{AreHeard, AreHushed, at_most_one, errors_heard, errors_told}
 use Rattle.history_laws.specs.Found.{AreGivenIn, in_order, origins}
+use Rattle.history_laws.specs.Fronts.{AreFronts}
 use Rattle.history_laws.specs.Given.{AreGiven, AreMade, givens}
 use Rattle.history_laws.specs.Groups.{Group, Made, given}
 use Rattle.history_laws.specs.Lawful.{AreTold, EachIsLawful, Entry, IsLawfulTape, exchanges_in, hushes, shares}
@@ -17,6 +18,7 @@ use Rattle.history_laws.specs.Order.{AreDone}
 use Rattle.history_laws.specs.Owners.{AreOf, IsArranged, begun_in, ended_after, pending_in}
 use Rattle.history_laws.specs.Table.{Follow}
 use Rattle.history_laws.specs.Taken.{taken_by}
+use Rattle.history_laws.proofs.Covering.{shares_front}
 use Rattle.history_laws.proofs.Finding.{shares_found}
 use Rattle.history_laws.proofs.Merging.{Merged, all_made, merge, told_of}
 use Rattle.history_laws.proofs.Ordering.{each_is_orderly}
@@ -84,6 +86,8 @@ module _ (login : Login) (t : Tape) (are : AreBytes t.taken) (tape : IsTape logi
         given_is = m.given_is ∙ given_is ∙ ap (λ xs. givens (g ∷ xs)) (sym w.shares_are);
         found = subst (λ xs. AreGivenIn (in_order (g ∷ xs)) (cut (in_order (origins (here (exchanges_in w.entries)))) t.taken).talks) (sym w.shares_are)
             (subst (λ es. AreGivenIn (in_order (g ∷ gs)) (cut (in_order (origins (here es))) t.taken).talks) same (shares_found login t are tape (g ∷ gs) each));
+        fronts = subst (λ xs. AreFronts (in_order (g ∷ xs)) (cut (in_order (origins (here (exchanges_in w.entries)))) t.taken).talks) (sym w.shares_are)
+            (subst (λ es. AreFronts (in_order (g ∷ gs)) (cut (in_order (origins (here es))) t.taken).talks) same (shares_front login t are tape (g ∷ gs) each));
         hushed = subst (λ xs. AreHushed (h ∷ xs) (here (exchanges_in w.entries))) (sym w.hushes_are) (subst (λ es. AreHushed (h ∷ hs) (here es)) same are_hushed);
         unheard = unheard;
         errors = ap (λ xs. errors_heard (in_order (h ∷ xs)) (cut (in_order (origins (here (exchanges_in w.entries)))) t.taken).talks) w.hushes_are ∙ ap (λ es. errors_heard (in_order (h ∷ hs)) (cut (in_order (origins (here es))) t.taken).talks) w.exchanges_are ∙ errors ∙ ap (λ (xs : List ServerError). in_order xs ++ at_most_one unheard) (sym m.errors);

@@ -21,3 +21,5 @@ pub mod Tying
 pub mod Merging
 pub mod Gathering
 pub mod Unheard
+pub mod Fronting
+pub mod Covering

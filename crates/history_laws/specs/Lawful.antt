@@ -13,6 +13,7 @@ use Rattle.my_reading.specs.Tape.{Span, Tape, spans}
 use Rattle.my_reading.specs.Told.{Told, ToldPassed}
 use Rattle.history_laws.specs.Errors.{AreHushed, at_most_one, errors_heard, errors_told, passes_errors}
 use Rattle.history_laws.specs.Found.{AreGivenIn, in_order, origins}
+use Rattle.history_laws.specs.Fronts.{AreFronts}
 use Rattle.history_laws.specs.Given.{IsItem, givens, passes_over, with_ending}
 use Rattle.history_laws.specs.Groups.{Group, Made, given}
 use Rattle.history_laws.specs.Order.{AreDone}
@@ -80,6 +81,8 @@ pub record IsLawfulTape (login : Login) (t : Tape) : Type 0 where
   -- what callers were given is what was at some moment in the exchanges that the grammar finds in the bytes taken
   pub given_is : given made ≡ givens (shares (newest ∷ older))
   pub found : AreGivenIn (in_order (shares (newest ∷ older))) (cut (in_order (origins (exchanges_in (newest ∷ older)))) t.taken).talks
+  -- so of each set, callers were given a beginning, in order, and an end only after the whole
+  pub fronts : AreFronts (in_order (shares (newest ∷ older))) (cut (in_order (origins (exchanges_in (newest ∷ older)))) t.taken).talks
   -- callers got each ERR that the grammar finds there, or a call passed over it, once and in order, but perhaps the last; not those of
   -- exchanges by which a transaction that couldn't be committed was rolled back
   pub hushed : AreHushed (hushes (newest ∷ older)) (exchanges_in (newest ∷ older))

@@ -8,3 +8,4 @@ pub mod Errors
 pub mod Table
 pub mod Owners
 pub mod Lawful
+pub mod Fronts

@@ -4,6 +4,7 @@
 
 ghost use Rattle.history_laws.specs.Errors.{EachIsHeard, EachIsHeardIn};
 ghost use Rattle.history_laws.specs.Found.{EachIsFound};
+ghost use Rattle.history_laws.specs.Fronts.{EachIsFronted};
 ghost use Rattle.history_laws.specs.Given.{EachTapeGives, PrefixesAreGiven};
 ghost use Rattle.history_laws.specs.Lawful.{EachIsLawful};
 ghost use Rattle.history_laws.specs.Order.{EachIsOrderly};
@@ -32,9 +33,11 @@ pub fn bytes_are_of_exchanges()
 {}
 
 /// What calls of a tape returned and passed over is, exchange by exchange and set by set, what was at some moment in the
-/// exchanges that the grammar finds in the bytes that were received.
+/// exchanges that the grammar finds in the bytes that were received (`found`): of each set a beginning of its rows, in order,
+/// and its end only after the whole (`fronts`).
 pub fn callers_are_given_what_is_found()
-    ensures { EachIsFound }
+    ensures found { EachIsFound }
+    ensures fronts { EachIsFronted }
 {}
 
 /// Callers of a tape got each ERR of its exchanges, or a call passed over it, once and in order, but perhaps the last; not
