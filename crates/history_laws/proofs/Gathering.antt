@@ -15,7 +15,9 @@ use Rattle.history_laws.specs.Given.{AreGiven, AreMade, givens}
 use Rattle.history_laws.specs.Groups.{Group, Made, given}
 use Rattle.history_laws.specs.Lawful.{AreTold, EachIsLawful, Entry, IsLawfulTape, exchanges_in, hushes, shares}
 use Rattle.history_laws.specs.Order.{AreDone}
-use Rattle.history_laws.specs.Owners.{AreOf, IsArranged, begun_in, ended_after, pending_in}
+use Rattle.history_laws.specs.Ended.{ended_after}
+use Rattle.history_laws.specs.Owners.{AreOf, IsArranged, begun_in, pending_in}
+use Rattle.history_laws.specs.Settled.{EachIsSettled, Knows}
 use Rattle.history_laws.specs.Table.{Follow}
 use Rattle.history_laws.specs.Taken.{taken_by}
 use Rattle.history_laws.proofs.Covering.{shares_front}
@@ -24,6 +26,7 @@ use Rattle.history_laws.proofs.Merging.{Merged, all_made, merge, told_of}
 use Rattle.history_laws.proofs.Ordering.{each_is_orderly}
 use Rattle.history_laws.proofs.Running.{each_tape_gives}
 use Rattle.history_laws.proofs.Sending.{each_is_said}
+use Rattle.history_laws.proofs.Setting.{are_settings}
 use Rattle.history_laws.proofs.Spelling.{each_is_spelled}
 use Rattle.history_laws.proofs.Unheard.{each_is_heard_in}
 use Rattle.history_laws.proofs.Tying.{each_is_owned}
@@ -73,6 +76,7 @@ module _ (login : Login) (t : Tape) (are : AreBytes t.taken) (tape : IsTape logi
         table = subst (λ es. Follow login (here es)) same owned.table;
         calls = told_of (pending_in (spans t)) (spans t) made told (begun_in (here (exchanges_in w.entries))) (subst (λ es. AreOf (pending_in (spans t)) (ended_after [] (spans t)) (begun_in (here es))) same owned.calls);
         arranged = λ e. subst (λ es. IsArranged login (ended_after [] (spans t)) (here es)) same owned.arranged (sym (all_made (spans t) made told) ∙ e);
+        settings = are_settings login made (here (exchanges_in w.entries)) (λ e. subst (λ es. Knows login (ended_after [] (spans t)) (here es)) same owned.known (sym (all_made (spans t) made told) ∙ e));
         unread = p.unread;
         taken = sym (each_is_spelled login t are tape.order) ∙ ap (λ es. taken_by (here es) ++ p.unread) same;
         done = subst AreDone same orderly.done;
@@ -106,3 +110,6 @@ each_is_lawful login t are tape =
     let gave = each_tape_gives login t tape in
     let heard = each_is_heard_in login t are tape in
     by_lists login t are tape gave.shares heard.hushed gave.made heard.made gave.of_calls heard.of_calls gave.given_is gave.each heard.are_hushed heard.unheard heard.errors
+
+pub each_is_settled : EachIsSettled
+each_is_settled login t tape = are_settings login (ended_after [] (spans t)) (exchanges (reading login t).place) (each_is_owned login t tape).known

@@ -54,10 +54,10 @@ use Rattle.history_laws.proofs.Phases.{reads_sets, returned_so}
 use Rattle.history_laws.proofs.Stepping.{both, not_true}
 
 -- a payload of this kind comes in its place
-record Comes (p : Place) (k : Kind) (q : List ℕ) : Type 0 where
-  kind_is : payload_kind p.talk q ≡ k
-  good : is_bad k ≡ false
-  short : length q ≤ limit_of p.talk
+pub record Comes (p : Place) (k : Kind) (q : List ℕ) : Type 0 where
+  pub kind_is : payload_kind p.talk q ≡ k
+  pub good : is_bad k ≡ false
+  pub short : length q ≤ limit_of p.talk
 
 -- nothing is read of an exchange that is over
 pub idle_bad : (s : Spot) (rows : RowFormat) (d : Bool) (n : ℕ) (columns : List ColumnPacket) (q : List ℕ) (k : Kind) → kind_by s rows d n columns q ≡ k → is_bad k ≡ false → is_idle s ≡ false
@@ -225,7 +225,7 @@ module _ (R : Step → Type 0) (login : Login) (part : Part) (parts : List Part)
       let taken = takes_whole (number_of (turns p.talk)) (limit_of p.talk) p.unread q rest next e in
       payload_has q rest (payload_kind p.talk q) refl (omega (arith, taken.within))
 
-  payloads_have : R (reads login part parts p)
+  pub payloads_have : R (reads login part parts p)
   payloads_have = front_has (front_of p.talk p.unread) refl
 
 -- what a payload more does

@@ -14,6 +14,8 @@ pub mod Blaming
 pub mod Hearing
 pub mod Telling
 pub mod Shaping
+pub mod Setting
+pub mod Asking
 pub mod Owning
 pub mod Parts
 pub mod Connecting

@@ -19,6 +19,7 @@ use Rattle.history_laws.specs.Groups.{Group, Made, given}
 use Rattle.history_laws.specs.Order.{AreDone}
 use Rattle.history_laws.specs.Owners.{AreOf, IsArranged, begun_in, pending_in}
 use Rattle.history_laws.specs.Sent.{is_answered}
+use Rattle.history_laws.specs.Settled.{AreSettings}
 use Rattle.history_laws.specs.Table.{Follow}
 use Rattle.history_laws.specs.Taken.{taken_by}
 
@@ -66,6 +67,8 @@ pub record IsLawfulTape (login : Login) (t : Tape) : Type 0 where
   pub calls : AreOf (pending_in (spans t)) made (begun_in (exchanges_in (newest ∷ older)))
   -- a connection that was made was set up by all queries that it needs, and each was answered
   pub arranged : IsArranged login made (exchanges_in (newest ∷ older))
+  -- the settings are those of the options and of what the server said; that connection knows them
+  pub settings : AreSettings login made (exchanges_in (newest ∷ older))
   -- what was taken is the server's part of them, each as the protocol has it and all but the newest over, and bytes that weren't read
   pub unread : List ℕ
   pub taken : t.taken ≡ taken_by (exchanges_in (newest ∷ older)) ++ unread

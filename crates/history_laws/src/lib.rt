@@ -10,6 +10,7 @@ ghost use Rattle.history_laws.specs.Lawful.{EachIsLawful};
 ghost use Rattle.history_laws.specs.Order.{EachIsOrderly};
 ghost use Rattle.history_laws.specs.Owners.{EachIsOwned};
 ghost use Rattle.history_laws.specs.Sent.{EachIsSaid, EachIsSent};
+ghost use Rattle.history_laws.specs.Settled.{EachIsSettled};
 ghost use Rattle.history_laws.specs.Taken.{EachIsSpelled};
 
 /// What calls returned and passed over of the sets of a response is, set by set, what the response was at some moment.
@@ -53,6 +54,12 @@ pub fn callers_hear_each_error()
 /// needs, and each was answered. Where no call is open and the session isn't closed, nothing is left to be sent.
 pub fn exchanges_are_of_calls()
     ensures { EachIsOwned }
+{}
+
+/// An option that is set holds; else what the server says does. A connection that was made knows its settings, and once they
+/// are known they stay as they are.
+pub fn settings_are_known()
+    ensures { EachIsSettled }
 {}
 
 /// All this holds of each tape that the reading accepts, of one list of its exchanges and one of its calls.
