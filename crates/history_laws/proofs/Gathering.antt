@@ -26,7 +26,7 @@ use Rattle.history_laws.proofs.Merging.{Merged, all_made, merge, told_of}
 use Rattle.history_laws.proofs.Ordering.{each_is_orderly}
 use Rattle.history_laws.proofs.Running.{each_tape_gives}
 use Rattle.history_laws.proofs.Sending.{each_is_said}
-use Rattle.history_laws.proofs.Setting.{are_settings}
+use Rattle.history_laws.proofs.Saying.{are_settings, done_fit}
 use Rattle.history_laws.proofs.Spelling.{each_is_spelled}
 use Rattle.history_laws.proofs.Unheard.{each_is_heard_in}
 use Rattle.history_laws.proofs.Tying.{each_is_owned}
@@ -76,7 +76,7 @@ module _ (login : Login) (t : Tape) (are : AreBytes t.taken) (tape : IsTape logi
         table = subst (λ es. Follow login (here es)) same owned.table;
         calls = told_of (pending_in (spans t)) (spans t) made told (begun_in (here (exchanges_in w.entries))) (subst (λ es. AreOf (pending_in (spans t)) (ended_after [] (spans t)) (begun_in (here es))) same owned.calls);
         arranged = λ e. subst (λ es. IsArranged login (ended_after [] (spans t)) (here es)) same owned.arranged (sym (all_made (spans t) made told) ∙ e);
-        settings = are_settings login made (here (exchanges_in w.entries)) (λ e. subst (λ es. Knows login (ended_after [] (spans t)) (here es)) same owned.known (sym (all_made (spans t) made told) ∙ e));
+        settings = are_settings login made (here (exchanges_in w.entries)) (orderly.fits, done_fit (exchanges_in w.entries) (subst AreDone same orderly.done)) (λ e. subst (λ es. Knows login (ended_after [] (spans t)) (here es)) same owned.known (sym (all_made (spans t) made told) ∙ e));
         unread = p.unread;
         taken = sym (each_is_spelled login t are tape.order) ∙ ap (λ es. taken_by (here es) ++ p.unread) same;
         done = subst AreDone same orderly.done;
@@ -112,4 +112,7 @@ each_is_lawful login t are tape =
     by_lists login t are tape gave.shares heard.hushed gave.made heard.made gave.of_calls heard.of_calls gave.given_is gave.each heard.are_hushed heard.unheard heard.errors
 
 pub each_is_settled : EachIsSettled
-each_is_settled login t tape = are_settings login (ended_after [] (spans t)) (exchanges (reading login t).place) (each_is_owned login t tape).known
+each_is_settled login t tape =
+    let p : Place = (reading login t).place in
+    let orderly = each_is_orderly login t in
+    are_settings login (ended_after [] (spans t)) (exchanges p) (orderly.fits, done_fit p.older orderly.done) (each_is_owned login t tape).known

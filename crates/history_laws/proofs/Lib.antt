@@ -15,6 +15,7 @@ pub mod Hearing
 pub mod Telling
 pub mod Shaping
 pub mod Setting
+pub mod Saying
 pub mod Asking
 pub mod Owning
 pub mod Parts

@@ -22,8 +22,7 @@ use Rattle.my_reading.specs.Facts.{facts_after, facts_by, with_column, with_fiel
 use Rattle.my_reading.specs.Place.{Exchange, facts_of}
 use Rattle.my_reading.specs.Rows.{row_at}
 use Rattle.my_reading.specs.Settings.{awaited, awaits_row, end_settings, in_force, good_settings, limit_in, row_settings, settled, told, told_by, wait_in}
-use Rattle.history_laws.specs.Groups.{Made}
-use Rattle.history_laws.specs.Settled.{AreSettings, IsSet, Knows, is_known}
+use Rattle.history_laws.specs.Settled.{IsSet, is_known}
 
 -- the settings after a payload of this kind, which may be a row
 abbrev pub settings_after : Kind → Option RowParts → Settings → Settings
@@ -71,12 +70,12 @@ payload_settings kinds.Field p f = field_says_none (column_at p) f
 payload_settings kinds.Bad p f = refl
 
 -- known settings stay
-good_known : (stage : Stage) (s : Settings) → is_known stage ≡ true → good_settings stage s ≡ s
+pub good_known : (stage : Stage) (s : Settings) → is_known stage ≡ true → good_settings stage s ≡ s
 good_known Unasked s e = cc
 good_known Asked s e = cc
 good_known Known s e = refl
 
-end_known : (stage : Stage) (s : Settings) → is_known stage ≡ true → end_settings stage s ≡ s
+pub end_known : (stage : Stage) (s : Settings) → is_known stage ≡ true → end_settings stage s ≡ s
 end_known Unasked s e = cc
 end_known Asked s e = cc
 end_known Known s e = refl
@@ -202,11 +201,3 @@ exchanges_set login [] = record {
   after = λ e. absurd (cc);
 }
 exchanges_set login (e ∷ es) = packets_set login (packets_of e.talk) (facts_of login es) (exchanges_set login es)
-
--- so they are of any exchanges
-pub are_settings : (login : Login) (made : List Made) (es : List Exchange) → Knows login made es → AreSettings login made es
-are_settings login made es known = record {
-  set = exchanges_set login es;
-  known = known;
-  stay = λ newer older e k. ap (λ xs. (facts_of login xs).settings) e ∙ exchanges_known login newer older k;
-}
