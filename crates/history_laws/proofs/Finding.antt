@@ -6,6 +6,7 @@ use Rattle.my_frame.specs.FrontLaws.{AreBytes}
 use Rattle.my_grammar.specs.declared.login.Login.{Login}
 use Rattle.my_grammar.specs.Contexts.{is_bad}
 use Rattle.my_grammar.specs.Cut.{Cut, Read, cut, cut_after, front_of, is_over, kind_of, onto, read_from, read_front, read_within, rest_of}
+use Rattle.my_grammar.specs.declared.spot.Kind.{Kind}
 use Rattle.my_grammar.specs.Growth.{grow}
 use Rattle.my_grammar.specs.Talk.{Talk, Fits, origin, server_bytes, turns}
 use Rattle.my_reading.specs.Endings.{IsTape}
@@ -22,7 +23,7 @@ use Rattle.history_laws.proofs.Ordering.{each_is_orderly}
 use Rattle.history_laws.proofs.Running.{each_tape_gives}
 use Rattle.history_laws.proofs.Spelling.{each_is_spelled}
 
-abbrev talks : List Exchange → List Talk
+abbrev pub talks : List Exchange → List Talk
 talks [] = []
 talks (e ∷ es) = e.talk ∷ talks es
 
@@ -62,24 +63,29 @@ all_found e es unread done fits =
     ∙ ap (λ (c : Cut). in_order (talks es) ++ c.talks) (exchange_is_cut e.talk [] unread fits)
     ∙ ap (λ ts. in_order (talks es) ++ ts) (one_talk (read_from e.talk unread))
 
--- what was given is still there when more is read
-read_given : (n : ℕ) (o : Option (List Group)) (t : Talk) (bytes : List ℕ) → IsGiven o t → IsGiven o (read_within n t bytes).talk
-unfolding read_within
-read_given zero o t bytes w = w
-read_given (suc n) o t bytes w = by_front (λ p rest. read_given n o (grow (kind_of t p) t p) rest (given_on o t (kind_of t p) p w)) (front_of t bytes)
-  where
-    by_bad : (p rest : List ℕ) → IsGiven o (read_within n (grow (kind_of t p) t p) rest).talk → (b : Bool) → IsGiven o (cond b (record { talk = t; rest = bytes }) (read_within n (grow (kind_of t p) t p) rest)).talk
-    by_bad p rest more true = w
-    by_bad p rest more false = more
+-- what holds of an exchange whatever payload comes next holds when more is read
+module _ (P : Talk → Type 0) (on : (t : Talk) (k : Kind) (p : List ℕ) → P t → P (grow k t p)) where
+  read_keeps : (n : ℕ) (t : Talk) (bytes : List ℕ) → P t → P (read_within n t bytes).talk
+  unfolding read_within
+  read_keeps zero t bytes w = w
+  read_keeps (suc n) t bytes w = by_front (λ p rest. read_keeps n (grow (kind_of t p) t p) rest (on t (kind_of t p) p w)) (front_of t bytes)
+    where
+      by_bad : (p rest : List ℕ) → P (read_within n (grow (kind_of t p) t p) rest).talk → (b : Bool) → P (cond b (record { talk = t; rest = bytes }) (read_within n (grow (kind_of t p) t p) rest)).talk
+      by_bad p rest more true = w
+      by_bad p rest more false = more
 
-    by_front : ((p rest : List ℕ) → IsGiven o (read_within n (grow (kind_of t p) t p) rest).talk) → (f : Front) → IsGiven o (read_front t bytes f (read_within n)).talk
-    by_front go Waiting = w
-    by_front go (Broken fault) = w
-    by_front go (Whole p rest next) = by_bad p rest (go p rest) (is_bad (kind_of t p))
+      by_front : ((p rest : List ℕ) → P (read_within n (grow (kind_of t p) t p) rest).talk) → (f : Front) → P (read_front t bytes f (read_within n)).talk
+      by_front go Waiting = w
+      by_front go (Broken fault) = w
+      by_front go (Whole p rest next) = by_bad p rest (go p rest) (is_bad (kind_of t p))
 
+  pub from_keeps : (t : Talk) (bytes : List ℕ) → P t → P (read_from t bytes).talk
+  unfolding read_from
+  from_keeps t bytes w = read_keeps (length bytes) t bytes w
+
+-- what was given is still there
 from_given : (o : Option (List Group)) (t : Talk) (bytes : List ℕ) → IsGiven o t → IsGiven o (read_from t bytes).talk
-unfolding read_from
-from_given o t bytes w = read_given (length bytes) o t bytes w
+from_given o t bytes w = from_keeps (IsGiven o) (given_on o) t bytes w
 
 given_on_end : (gs : List (Option (List Group))) (ts : List Talk) (o : Option (List Group)) (t : Talk) → AreGivenIn gs ts → IsGiven o t → AreGivenIn (gs ++ o ∷ []) (ts ++ t ∷ [])
 given_on_end [] [] o t w v = (v, tt)
@@ -97,15 +103,19 @@ given_found : (gs : List (Option (List Group))) (e : Exchange) (es : List Exchan
 given_found [] e es unread w = absurd w
 given_found (g ∷ gs) e es unread w = given_on_end (in_order gs) (in_order (talks es)) g (read_from e.talk unread).talk (older_given gs es w.1) (from_given g e.talk unread w.0)
 
+-- of a tape
+pub cut_is : (login : Login) (t : Tape) → AreBytes t.taken → IsTape login t
+    → (cut (in_order (origins (exchanges (reading login t).place))) t.taken).talks ≡ in_order (talks (reading login t).place.older) ++ (read_from (reading login t).place.talk (reading login t).place.unread).talk ∷ []
+cut_is login t are w =
+    let p : Place = (reading login t).place in
+    let orderly = each_is_orderly login t in
+    ap (λ bs. (cut (in_order (origins (exchanges p))) bs).talks) (sym (each_is_spelled login t are w.order)) ∙ all_found (record { call = p.call; talk = p.talk }) p.older p.unread orderly.done orderly.fits
+
 pub shares_found : (login : Login) (t : Tape) → AreBytes t.taken → IsTape login t → (gs : List (Option (List Group))) → AreGiven gs (exchanges (reading login t).place)
     → AreGivenIn (in_order gs) (cut (in_order (origins (exchanges (reading login t).place))) t.taken).talks
 shares_found login t are w gs each =
     let p : Place = (reading login t).place in
-    let newest : Exchange = record { call = p.call; talk = p.talk } in
-    let orderly = each_is_orderly login t in
-    let found : (cut (in_order (origins (exchanges p))) t.taken).talks ≡ in_order (talks p.older) ++ (read_from p.talk p.unread).talk ∷ []
-    = ap (λ bs. (cut (in_order (origins (exchanges p))) bs).talks) (sym (each_is_spelled login t are w.order)) ∙ all_found newest p.older p.unread orderly.done orderly.fits in
-    subst (λ ts. AreGivenIn (in_order gs) ts) (sym found) (given_found gs newest p.older p.unread each)
+    subst (λ ts. AreGivenIn (in_order gs) ts) (sym (cut_is login t are w)) (given_found gs (record { call = p.call; talk = p.talk }) p.older p.unread each)
 
 pub each_is_found : EachIsFound
 each_is_found login t are w =

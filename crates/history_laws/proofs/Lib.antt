@@ -14,9 +14,15 @@ pub mod Blaming
 pub mod Hearing
 pub mod Telling
 pub mod Shaping
+pub mod Setting
+pub mod Saying
+pub mod Asking
 pub mod Owning
 pub mod Parts
 pub mod Connecting
 pub mod Tying
 pub mod Merging
 pub mod Gathering
+pub mod Unheard
+pub mod Fronting
+pub mod Covering
