@@ -10,7 +10,6 @@ use Rattle.my_reading.specs.Reading.{reading}
 use Rattle.my_reading.specs.Tape.{Tape, spans}
 use Rattle.history_laws.specs.Errors.{AreHeard, AreHushed, at_most_one, errors_heard, errors_told}
 use Rattle.history_laws.specs.Found.{AreGivenIn, in_order, origins}
-use Rattle.history_laws.specs.Fronts.{AreFronts}
 use Rattle.history_laws.specs.Given.{AreGiven, AreMade, givens}
 use Rattle.history_laws.specs.Groups.{Group, Made, given}
 use Rattle.history_laws.specs.Lawful.{AreTold, EachIsLawful, Entry, IsLawfulTape, exchanges_in, hushes, shares}
@@ -20,8 +19,8 @@ use Rattle.history_laws.specs.Owners.{AreOf, IsArranged, begun_in, pending_in}
 use Rattle.history_laws.specs.Settled.{EachIsSettled, Knows}
 use Rattle.history_laws.specs.Table.{Follow}
 use Rattle.history_laws.specs.Taken.{taken_by}
-use Rattle.history_laws.proofs.Covering.{shares_front}
 use Rattle.history_laws.proofs.Finding.{shares_found}
+use Rattle.history_laws.proofs.Fronting.{given_fronts}
 use Rattle.history_laws.proofs.Merging.{Merged, all_made, merge, told_of}
 use Rattle.history_laws.proofs.Ordering.{each_is_orderly}
 use Rattle.history_laws.proofs.Running.{each_tape_gives}
@@ -67,6 +66,9 @@ module _ (login : Login) (t : Tape) (are : AreBytes t.taken) (tape : IsTape logi
       let orderly = each_is_orderly login t in
       let here : (es : List Exchange) → List Exchange = λ es. record { call = p.call; talk = p.talk } ∷ es in
       let same = sym w.exchanges_are in
+      let found : AreGivenIn (in_order (g ∷ shares w.entries)) (cut (in_order (origins (here (exchanges_in w.entries)))) t.taken).talks =
+      subst (λ xs. AreGivenIn (in_order (g ∷ xs)) (cut (in_order (origins (here (exchanges_in w.entries)))) t.taken).talks) (sym w.shares_are)
+      (subst (λ es. AreGivenIn (in_order (g ∷ gs)) (cut (in_order (origins (here es))) t.taken).talks) same (shares_found login t are tape (g ∷ gs) each)) in
       record {
         newest = newest;
         older = w.entries;
@@ -88,10 +90,8 @@ module _ (login : Login) (t : Tape) (are : AreBytes t.taken) (tape : IsTape logi
         whole = owned.whole;
         answered = said.answered;
         given_is = m.given_is ∙ given_is ∙ ap (λ xs. givens (g ∷ xs)) (sym w.shares_are);
-        found = subst (λ xs. AreGivenIn (in_order (g ∷ xs)) (cut (in_order (origins (here (exchanges_in w.entries)))) t.taken).talks) (sym w.shares_are)
-            (subst (λ es. AreGivenIn (in_order (g ∷ gs)) (cut (in_order (origins (here es))) t.taken).talks) same (shares_found login t are tape (g ∷ gs) each));
-        fronts = subst (λ xs. AreFronts (in_order (g ∷ xs)) (cut (in_order (origins (here (exchanges_in w.entries)))) t.taken).talks) (sym w.shares_are)
-            (subst (λ es. AreFronts (in_order (g ∷ gs)) (cut (in_order (origins (here es))) t.taken).talks) same (shares_front login t are tape (g ∷ gs) each));
+        found = found;
+        fronts = given_fronts _ _ found;
         hushed = subst (λ xs. AreHushed (h ∷ xs) (here (exchanges_in w.entries))) (sym w.hushes_are) (subst (λ es. AreHushed (h ∷ hs) (here es)) same are_hushed);
         unheard = unheard;
         errors = ap (λ xs. errors_heard (in_order (h ∷ xs)) (cut (in_order (origins (here (exchanges_in w.entries)))) t.taken).talks) w.hushes_are ∙ ap (λ es. errors_heard (in_order (h ∷ hs)) (cut (in_order (origins (here es))) t.taken).talks) w.exchanges_are ∙ errors ∙ ap (λ (xs : List ServerError). in_order xs ++ at_most_one unheard) (sym m.errors);

@@ -25,4 +25,3 @@ pub mod Merging
 pub mod Gathering
 pub mod Unheard
 pub mod Fronting
-pub mod Covering
