@@ -8,7 +8,7 @@ use Rattle.my_reading.specs.Endings.{IsTape}
 use Rattle.my_reading.specs.Place.{Exchange, Place, client_side, exchanges, owed}
 use Rattle.my_reading.specs.Reading.{reading}
 use Rattle.my_reading.specs.Tape.{Tape, spans}
-use Rattle.history_laws.specs.Errors.{AreHeard, AreHushed, at_most_one, errors_heard, errors_told}
+use Rattle.history_laws.specs.Errors.{AreHeard, AreHushed, AreHushedBy, at_most_one, errors_heard, errors_told}
 use Rattle.history_laws.specs.Found.{AreGivenIn, in_order, origins}
 use Rattle.history_laws.specs.Given.{AreGiven, AreMade, givens}
 use Rattle.history_laws.specs.Groups.{Group, Made, given}
@@ -21,6 +21,7 @@ use Rattle.history_laws.specs.Table.{Follow}
 use Rattle.history_laws.specs.Taken.{taken_by}
 use Rattle.history_laws.proofs.Finding.{shares_found}
 use Rattle.history_laws.proofs.Fronting.{given_fronts}
+use Rattle.history_laws.proofs.Hushing.{hushed_by}
 use Rattle.history_laws.proofs.Merging.{Merged, all_made, merge, told_of}
 use Rattle.history_laws.proofs.Ordering.{each_is_orderly}
 use Rattle.history_laws.proofs.Running.{each_tape_gives}
@@ -92,7 +93,7 @@ module _ (login : Login) (t : Tape) (are : AreBytes t.taken) (tape : IsTape logi
         given_is = m.given_is ∙ given_is ∙ ap (λ xs. givens (g ∷ xs)) (sym w.shares_are);
         found = found;
         fronts = given_fronts _ _ found;
-        hushed = subst (λ xs. AreHushed (h ∷ xs) (here (exchanges_in w.entries))) (sym w.hushes_are) (subst (λ es. AreHushed (h ∷ hs) (here es)) same are_hushed);
+        hushed = subst (λ xs. AreHushedBy login (h ∷ xs) (here (exchanges_in w.entries))) (sym w.hushes_are) (subst (λ es. AreHushedBy login (h ∷ hs) (here es)) same (hushed_by login (h ∷ hs) (exchanges p) are_hushed owned.table));
         unheard = unheard;
         errors = ap (λ xs. errors_heard (in_order (h ∷ xs)) (cut (in_order (origins (here (exchanges_in w.entries)))) t.taken).talks) w.hushes_are ∙ ap (λ es. errors_heard (in_order (h ∷ hs)) (cut (in_order (origins (here es))) t.taken).talks) w.exchanges_are ∙ errors ∙ ap (λ (xs : List ServerError). in_order xs ++ at_most_one unheard) (sym m.errors);
       }

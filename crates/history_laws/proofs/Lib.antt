@@ -22,6 +22,7 @@ pub mod Parts
 pub mod Connecting
 pub mod Tying
 pub mod Merging
-pub mod Gathering
 pub mod Unheard
 pub mod Fronting
+pub mod Hushing
+pub mod Gathering
