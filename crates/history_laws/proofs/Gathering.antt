@@ -29,7 +29,7 @@ use Rattle.history_laws.proofs.Sending.{each_is_said}
 use Rattle.history_laws.proofs.Saying.{are_settings, done_fit}
 use Rattle.history_laws.proofs.Spelling.{each_is_spelled}
 use Rattle.history_laws.proofs.Unheard.{each_is_heard_in}
-use Rattle.history_laws.proofs.Tying.{each_is_owned}
+use Rattle.history_laws.proofs.Joining.{each_is_owned}
 
 -- one list of entries has all that is said of each exchange
 record Listed (gs : List (Option (List Group))) (hs : List Bool) (es : List Exchange) : Type 0 where

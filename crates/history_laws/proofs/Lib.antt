@@ -21,6 +21,7 @@ pub mod Owning
 pub mod Parts
 pub mod Connecting
 pub mod Tying
+pub mod Joining
 pub mod Merging
 pub mod Unheard
 pub mod Fronting
