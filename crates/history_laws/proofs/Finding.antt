@@ -6,7 +6,6 @@ use Rattle.my_frame.specs.FrontLaws.{AreBytes}
 use Rattle.my_grammar.specs.declared.login.Login.{Login}
 use Rattle.my_grammar.specs.Contexts.{is_bad}
 use Rattle.my_grammar.specs.Cut.{Cut, Read, cut, cut_after, front_of, is_over, kind_of, onto, read_from, read_front, read_within, rest_of}
-use Rattle.my_grammar.specs.declared.spot.Kind.{Kind}
 use Rattle.my_grammar.specs.Growth.{grow}
 use Rattle.my_grammar.specs.Talk.{Talk, Fits, origin, server_bytes, turns}
 use Rattle.my_reading.specs.Endings.{IsTape}
@@ -63,29 +62,24 @@ all_found e es unread done fits =
     ∙ ap (λ (c : Cut). in_order (talks es) ++ c.talks) (exchange_is_cut e.talk [] unread fits)
     ∙ ap (λ ts. in_order (talks es) ++ ts) (one_talk (read_from e.talk unread))
 
--- what holds of an exchange whatever payload comes next holds when more is read
-module _ (P : Talk → Type 0) (on : (t : Talk) (k : Kind) (p : List ℕ) → P t → P (grow k t p)) where
-  read_keeps : (n : ℕ) (t : Talk) (bytes : List ℕ) → P t → P (read_within n t bytes).talk
-  unfolding read_within
-  read_keeps zero t bytes w = w
-  read_keeps (suc n) t bytes w = by_front (λ p rest. read_keeps n (grow (kind_of t p) t p) rest (on t (kind_of t p) p w)) (front_of t bytes)
-    where
-      by_bad : (p rest : List ℕ) → P (read_within n (grow (kind_of t p) t p) rest).talk → (b : Bool) → P (cond b (record { talk = t; rest = bytes }) (read_within n (grow (kind_of t p) t p) rest)).talk
-      by_bad p rest more true = w
-      by_bad p rest more false = more
+-- what was given is still there when more is read
+read_given : (n : ℕ) (o : Option (List Group)) (t : Talk) (bytes : List ℕ) → IsGiven o t → IsGiven o (read_within n t bytes).talk
+unfolding read_within
+read_given zero o t bytes w = w
+read_given (suc n) o t bytes w = by_front (λ p rest. read_given n o (grow (kind_of t p) t p) rest (given_on o t (kind_of t p) p w)) (front_of t bytes)
+  where
+    by_bad : (p rest : List ℕ) → IsGiven o (read_within n (grow (kind_of t p) t p) rest).talk → (b : Bool) → IsGiven o (cond b (record { talk = t; rest = bytes }) (read_within n (grow (kind_of t p) t p) rest)).talk
+    by_bad p rest more true = w
+    by_bad p rest more false = more
 
-      by_front : ((p rest : List ℕ) → P (read_within n (grow (kind_of t p) t p) rest).talk) → (f : Front) → P (read_front t bytes f (read_within n)).talk
-      by_front go Waiting = w
-      by_front go (Broken fault) = w
-      by_front go (Whole p rest next) = by_bad p rest (go p rest) (is_bad (kind_of t p))
+    by_front : ((p rest : List ℕ) → IsGiven o (read_within n (grow (kind_of t p) t p) rest).talk) → (f : Front) → IsGiven o (read_front t bytes f (read_within n)).talk
+    by_front go Waiting = w
+    by_front go (Broken fault) = w
+    by_front go (Whole p rest next) = by_bad p rest (go p rest) (is_bad (kind_of t p))
 
-  pub from_keeps : (t : Talk) (bytes : List ℕ) → P t → P (read_from t bytes).talk
-  unfolding read_from
-  from_keeps t bytes w = read_keeps (length bytes) t bytes w
-
--- what was given is still there
 from_given : (o : Option (List Group)) (t : Talk) (bytes : List ℕ) → IsGiven o t → IsGiven o (read_from t bytes).talk
-from_given o t bytes w = from_keeps (IsGiven o) (given_on o) t bytes w
+unfolding read_from
+from_given o t bytes w = read_given (length bytes) o t bytes w
 
 given_on_end : (gs : List (Option (List Group))) (ts : List Talk) (o : Option (List Group)) (t : Talk) → AreGivenIn gs ts → IsGiven o t → AreGivenIn (gs ++ o ∷ []) (ts ++ t ∷ [])
 given_on_end [] [] o t w v = (v, tt)

@@ -1,23 +1,22 @@
--- What callers were given of a response is, set by set, a beginning of what is there.
+-- What callers of a tape were given of a response is, set by set, a beginning of what the grammar finds in its bytes.
 use Rattle.std.proofs.Common.{◌≡◌, ℕ, ◌-◌, List, [], ◌∷◌, ◌++◌, Bool, true, false, cond, leb, Option, Some, None, refl, sym, ap, ◌∙◌, subst}
 use Rattle.std.proofs.lemmas.List.{append_assoc}
 use Rattle.my_flags.specs.declared.flags.StatusFlags.{StatusFlags}
-use Rattle.my_flags.specs.Sets.{deprecates_eof}
 use Rattle.my_reply.specs.declared.column.Column.{Column}
 use Rattle.my_value.specs.RowParts.{RowParts}
-use Rattle.my_grammar.specs.declared.login.Login.{Login}
 use Rattle.my_grammar.specs.declared.packet.Packet.{Packet}
 use Rattle.my_grammar.specs.declared.spot.Kind.{Kind}
 use Rattle.my_grammar.specs.declared.spot.Kind.TheVariants as kinds
 use Rattle.my_grammar.specs.declared.spot.RowFormat.{RowFormat}
 use Rattle.my_grammar.specs.FitSets.{FitSets, is_head}
-use Rattle.my_grammar.specs.Growth.{grow}
 use Rattle.my_grammar.specs.Sets.{SetHead, Sets, NoSets, Lone, Failed, Heading, Headed, Begun, Ended, Broken, format_in, head_columns, spot_in, grow_sets, with_column, with_column_of, with_close, with_row, with_end, with_error}
-use Rattle.my_grammar.specs.Talk.{Talk, Start, Unwelcome, Greeted, Settled, Asked, Replied, Queried, Preparing, Silent, Fits}
+use Rattle.my_grammar.specs.Talk.{Talk}
 use Rattle.my_reading.specs.Rows.{row_of}
-use Rattle.history_laws.specs.Fronts.{Set, rows_in, sets_in, AreWhole, IsPart, Covers, IsFront, IsFrontOf}
-use Rattle.history_laws.specs.Given.{IsGiven, sets_of}
+use Rattle.history_laws.specs.Found.{AreGivenIn}
+use Rattle.history_laws.specs.Fronts.{Set, rows_in, sets_in, AreWhole, IsPart, Covers, IsFront, IsFrontOf, AreFronts, EachIsFronted}
+use Rattle.history_laws.specs.Given.{IsGiven}
 use Rattle.history_laws.specs.Groups.{Group, groups, with_item, with_items, with_stop, grown}
+use Rattle.history_laws.proofs.Finding.{each_is_found}
 
 abbrev shut : Group
 shut = record { rows = []; ended = true }
@@ -41,116 +40,20 @@ module _ (format : RowFormat) (columns : List Column) where
   end_whole [] gs ss w = stop_whole gs ss w
   end_whole (p ∷ ps) gs ss w = ap with_stop (items_whole p ps gs ss w)
 
--- each set comes where one may
-abbrev AreHeaded : Sets → Type 0
-AreHeaded (NoSets asking) = Unit {0}
-AreHeaded (Lone older p status) = (is_head (spot_in older) ≡ true) × AreHeaded older
-AreHeaded (Failed older p) = (is_head (spot_in older) ≡ true) × AreHeaded older
-AreHeaded (Heading older head left) = (is_head (spot_in older) ≡ true) × AreHeaded older
-AreHeaded (Headed older head) = (is_head (spot_in older) ≡ true) × AreHeaded older
-AreHeaded (Begun older head rows) = (is_head (spot_in older) ≡ true) × AreHeaded older
-AreHeaded (Ended older head rows last status) = (is_head (spot_in older) ≡ true) × AreHeaded older
-AreHeaded (Broken older head rows last) = (is_head (spot_in older) ≡ true) × AreHeaded older
-
-fit_headed : (d : Bool) (x : Sets) → FitSets d x → AreHeaded x
-fit_headed d (NoSets asking) f = tt
-fit_headed d (Lone older p status) f = (f.0, fit_headed d older f.2)
-fit_headed d (Failed older p) f = (f.0, fit_headed d older f.2)
-fit_headed d (Heading older head left) f = (f.0.place, fit_headed d older f.3)
-fit_headed d (Headed older head) f = (f.0.place, fit_headed d older f.3)
-fit_headed d (Begun older head rows) f = (f.0.heading.place, fit_headed d older f.1)
-fit_headed d (Ended older head rows last status) f = (f.0.heading.place, fit_headed d older f.2)
-fit_headed d (Broken older head rows last) f = (f.0.heading.place, fit_headed d older f.2)
-
--- so they did before a payload more
-column_headed : (d last : Bool) (older : Sets) (head : SetHead) (left : ℕ) (p : List ℕ) → AreHeaded (cond last (cond d (Begun older (with_column_of head p) []) (Headed older (with_column_of head p))) (Heading older (with_column_of head p) left))
-    → (is_head (spot_in older) ≡ true) × AreHeaded older
-column_headed true true older head left p w = w
-column_headed false true older head left p w = w
-column_headed d false older head left p w = w
-
-columns_headed : (d : Bool) (x : Sets) (p : List ℕ) → AreHeaded (with_column d x p) → AreHeaded x
-columns_headed d (NoSets asking) p w = w
-columns_headed d (Lone older q s) p w = w
-columns_headed d (Failed older q) p w = w
-columns_headed d (Heading older head left) p w = column_headed d (leb left 1) older head (left - 1) p w
-columns_headed d (Headed older head) p w = w
-columns_headed d (Begun older head rows) p w = w
-columns_headed d (Ended older head rows last s) p w = w
-columns_headed d (Broken older head rows last) p w = w
-
-close_headed : (x : Sets) (p : List ℕ) → AreHeaded (with_close x p) → AreHeaded x
-close_headed (NoSets asking) p w = w
-close_headed (Lone older q s) p w = w
-close_headed (Failed older q) p w = w
-close_headed (Heading older head left) p w = w
-close_headed (Headed older head) p w = w
-close_headed (Begun older head rows) p w = w
-close_headed (Ended older head rows last s) p w = w
-close_headed (Broken older head rows last) p w = w
-
-row_headed : (x : Sets) (p : List ℕ) → AreHeaded (with_row x p) → AreHeaded x
-row_headed (NoSets asking) p w = w
-row_headed (Lone older q s) p w = w
-row_headed (Failed older q) p w = w
-row_headed (Heading older head left) p w = w
-row_headed (Headed older head) p w = w
-row_headed (Begun older head rows) p w = w
-row_headed (Ended older head rows last s) p w = w
-row_headed (Broken older head rows last) p w = w
-
-end_headed : (x : Sets) (p : List ℕ) (status : StatusFlags) → AreHeaded (with_end x p status) → AreHeaded x
-end_headed (NoSets asking) p status w = w
-end_headed (Lone older q s) p status w = w
-end_headed (Failed older q) p status w = w
-end_headed (Heading older head left) p status w = w
-end_headed (Headed older head) p status w = w
-end_headed (Begun older head rows) p status w = w
-end_headed (Ended older head rows last s) p status w = w
-end_headed (Broken older head rows last) p status w = w
-
-error_headed : (x : Sets) (p : List ℕ) → AreHeaded (with_error x p) → AreHeaded x
-error_headed (NoSets asking) p w = w.1
-error_headed (Lone older q s) p w = w.1
-error_headed (Failed older q) p w = w.1
-error_headed (Heading older head left) p w = w.1
-error_headed (Headed older head) p w = w.1
-error_headed (Begun older head rows) p w = w
-error_headed (Ended older head rows last s) p w = w.1
-error_headed (Broken older head rows last) p w = w.1
-
-before_headed : (d : Bool) (k : Kind) (x : Sets) (p : List ℕ) → AreHeaded (grow_sets d k x p) → AreHeaded x
-before_headed d (kinds.Greets n) x p w = w
-before_headed d (kinds.Good status) x p w = w.1
-before_headed d kinds.Failed x p w = error_headed x p w
-before_headed d (kinds.Count n) x p w = w.1
-before_headed d kinds.Column x p w = columns_headed d x p w
-before_headed d kinds.ColumnsDone x p w = close_headed x p w
-before_headed d kinds.Row x p w = row_headed x p w
-before_headed d (kinds.End status) x p w = end_headed x p status w
-before_headed d (kinds.Prepared params columns) x p w = w
-before_headed d kinds.Parameter x p w = w
-before_headed d kinds.Field x p w = w
-before_headed d kinds.Bad x p w = w
-
-earlier_headed : (d : Bool) (y : Sets) (ps : List Packet) → AreHeaded (grown d y ps) → AreHeaded y
-earlier_headed d y [] w = w
-earlier_headed d y (p ∷ ps) w = earlier_headed d y ps (before_headed d p.kind (grown d y ps) p.payload w)
-
 -- where a head comes next, all was given
-whole_at_head : (x : Sets) → AreHeaded x → is_head (spot_in x) ≡ true → AreWhole (groups x) (sets_in x)
-whole_at_head (NoSets asking) f h = tt
-whole_at_head (Lone older p status) f h =
-    let w = whole_at_head older f.1 f.0 in
+whole_at_head : (d : Bool) (x : Sets) → FitSets d x → is_head (spot_in x) ≡ true → AreWhole (groups x) (sets_in x)
+whole_at_head d (NoSets asking) f h = tt
+whole_at_head d (Lone older p status) f h =
+    let w = whole_at_head d older f.2 f.0 in
     subst (λ (gs : List Group). AreWhole gs (sets_in (Lone older p status))) (sym (stop_whole (groups older) (sets_in older) w)) (refl, refl, refl, w)
-whole_at_head (Failed older p) f h = cc
-whole_at_head (Heading older head left) f h = cc
-whole_at_head (Headed older head) f h = cc
-whole_at_head (Begun older head rows) f h = cc
-whole_at_head (Ended older head rows last status) f h =
-    let w = whole_at_head older f.1 f.0 in
+whole_at_head d (Failed older p) f h = cc
+whole_at_head d (Heading older head left) f h = cc
+whole_at_head d (Headed older head) f h = cc
+whole_at_head d (Begun older head rows) f h = cc
+whole_at_head d (Ended older head rows last status) f h =
+    let w = whole_at_head d older f.2 f.0.heading.place in
     subst (λ (gs : List Group). AreWhole gs (sets_in (Ended older head rows last status))) (sym (end_whole (format_in older) (head_columns head) rows (groups older) (sets_in older) w)) (refl, refl, refl, w)
-whole_at_head (Broken older head rows last) f h = cc
+whole_at_head d (Broken older head rows last) f h = cc
 
 part : (g : Group) (s : Set) → g.rows ≡ s.rows → (g.ended ≡ true → s.done ≡ true) → IsPart g s
 part g s e f = record { newer = []; items = e; end = λ h. (refl, f h) }
@@ -170,19 +73,19 @@ begun_front : (format : RowFormat) (columns : List Column) (rows : List (List �
 begun_front format columns [] gs ss w = none_of (record { rows = []; done = false }) gs ss w
 begun_front format columns (p ∷ ps) gs ss w = record { newer = []; older = record { rows = rows_in format columns (p ∷ ps); done = false } ∷ ss; all = refl; covers = subst (λ (xs : List Group). Covers xs (record { rows = rows_in format columns (p ∷ ps); done = false } ∷ ss)) (sym (items_whole format columns p ps gs ss w)) (part _ _ refl (λ h. h), w) }
 
-now_front : (x : Sets) → AreHeaded x → IsFront (groups x) (sets_in x)
-now_front (NoSets asking) f = record { newer = []; older = []; all = refl; covers = tt }
-now_front (Lone older p status) f =
-    let w = whole_at_head older f.1 f.0 in
+now_front : (d : Bool) (x : Sets) → FitSets d x → IsFront (groups x) (sets_in x)
+now_front d (NoSets asking) f = record { newer = []; older = []; all = refl; covers = tt }
+now_front d (Lone older p status) f =
+    let w = whole_at_head d older f.2 f.0 in
     record { newer = []; older = sets_in (Lone older p status); all = refl; covers = subst (λ (gs : List Group). Covers gs (sets_in (Lone older p status))) (sym (stop_whole (groups older) (sets_in older) w)) (part _ _ refl (λ h. h), w) }
-now_front (Failed older p) f = none_of (record { rows = []; done = false }) (groups older) (sets_in older) (whole_at_head older f.1 f.0)
-now_front (Heading older head left) f = none_of (record { rows = []; done = false }) (groups older) (sets_in older) (whole_at_head older f.1 f.0)
-now_front (Headed older head) f = none_of (record { rows = []; done = false }) (groups older) (sets_in older) (whole_at_head older f.1 f.0)
-now_front (Begun older head rows) f = begun_front (format_in older) (head_columns head) rows (groups older) (sets_in older) (whole_at_head older f.1 f.0)
-now_front (Ended older head rows last status) f =
-    let w = whole_at_head older f.1 f.0 in
+now_front d (Failed older p) f = none_of (record { rows = []; done = false }) (groups older) (sets_in older) (whole_at_head d older f.2 f.0)
+now_front d (Heading older head left) f = none_of (record { rows = []; done = false }) (groups older) (sets_in older) (whole_at_head d older f.3 f.0.place)
+now_front d (Headed older head) f = none_of (record { rows = []; done = false }) (groups older) (sets_in older) (whole_at_head d older f.3 f.0.place)
+now_front d (Begun older head rows) f = begun_front (format_in older) (head_columns head) rows (groups older) (sets_in older) (whole_at_head d older f.1 f.0.heading.place)
+now_front d (Ended older head rows last status) f =
+    let w = whole_at_head d older f.2 f.0.heading.place in
     record { newer = []; older = sets_in (Ended older head rows last status); all = refl; covers = subst (λ (gs : List Group). Covers gs (sets_in (Ended older head rows last status))) (sym (end_whole (format_in older) (head_columns head) rows (groups older) (sets_in older) w)) (part _ _ refl (λ h. h), w) }
-now_front (Broken older head rows last) f = begun_front (format_in older) (head_columns head) rows (groups older) (sets_in older) (whole_at_head older f.1 f.0)
+now_front d (Broken older head rows last) f = begun_front (format_in older) (head_columns head) rows (groups older) (sets_in older) (whole_at_head d older f.2 f.0.heading.place)
 
 -- a set more after
 more_set : (gs : List Group) (ss : List Set) (s : Set) → IsFront gs ss → IsFront gs (s ∷ ss)
@@ -275,48 +178,18 @@ grown_front : (gs : List Group) (d : Bool) (y : Sets) (ps : List Packet) → IsF
 grown_front gs d y [] f = f
 grown_front gs d y (p ∷ ps) f = grow_front gs d p.kind (grown d y ps) p.payload (grown_front gs d y ps f)
 
--- so it is of an exchange that fits
-talk_headed : (t : Talk) → Fits t → AreHeaded (sets_of t)
-talk_headed (Start login) f = tt
-talk_headed (Unwelcome login p) f = tt
-talk_headed (Greeted login p n) f = tt
-talk_headed (Settled login p n last kind) f = tt
-talk_headed (Asked terms c) f = tt
-talk_headed (Replied terms c last kind) f = tt
-talk_headed (Queried terms c x) f = fit_headed (deprecates_eof terms.kept) x f.kinds
-talk_headed (Preparing terms c r) f = tt
-talk_headed (Silent terms c) f = tt
+given_front : (g : Option (List Group)) (t : Talk) → IsGiven g t → IsFrontOf g t
+given_front None t i = tt
+given_front (Some gs) t i =
+    subst (λ (x : Sets). IsFront gs (sets_in x)) (sym i.1.1) (grown_front gs _ i.0 i.1.0 (subst (λ (xs : List Group). IsFront xs (sets_in i.0)) (sym i.2) (now_front _ i.0 i.3)))
 
-pub given_front : (g : Option (List Group)) (t : Talk) → Fits t → IsGiven g t → IsFrontOf g t
-given_front None t f i = tt
-given_front (Some gs) t f i =
-    let headed : AreHeaded (sets_of t) = talk_headed t f in
-    subst (λ (x : Sets). IsFront gs (sets_in x)) (sym i.1.1) (grown_front gs _ i.0 i.1.0
-    (subst (λ (xs : List Group). IsFront xs (sets_in i.0)) (sym i.2) (now_front i.0 (earlier_headed _ i.0 i.1.0 (subst AreHeaded i.1.1 headed)))))
+pub given_fronts : (gs : List (Option (List Group))) (ts : List Talk) → AreGivenIn gs ts → AreFronts gs ts
+given_fronts [] [] a = tt
+given_fronts [] (t ∷ ts) a = absurd a
+given_fronts (g ∷ gs) [] a = absurd a
+given_fronts (g ∷ gs) (t ∷ ts) a = (given_front g t a.0, given_fronts gs ts a.1)
 
--- and still when more is read
-start_front : (gs : List Group) (login : Login) (k : Kind) (p : List ℕ) → IsFront gs [] → IsFront gs (sets_in (sets_of (grow k (Start login) p)))
-start_front gs login (kinds.Greets n) p f = f
-start_front gs login (kinds.Good s) p f = f
-start_front gs login kinds.Failed p f = f
-start_front gs login (kinds.Count n) p f = f
-start_front gs login kinds.Column p f = f
-start_front gs login kinds.ColumnsDone p f = f
-start_front gs login kinds.Row p f = f
-start_front gs login (kinds.End s) p f = f
-start_front gs login (kinds.Prepared m n) p f = f
-start_front gs login kinds.Parameter p f = f
-start_front gs login kinds.Field p f = f
-start_front gs login kinds.Bad p f = f
-
-pub front_on : (o : Option (List Group)) (t : Talk) (k : Kind) (p : List ℕ) → IsFrontOf o t → IsFrontOf o (grow k t p)
-front_on None t k p w = tt
-front_on (Some gs) (Start login) k p w = start_front gs login k p w
-front_on (Some gs) (Unwelcome login q) k p w = w
-front_on (Some gs) (Greeted login q n) k p w = w
-front_on (Some gs) (Settled login q n last kind) k p w = w
-front_on (Some gs) (Asked terms c) k p w = w
-front_on (Some gs) (Replied terms c last kind) k p w = w
-front_on (Some gs) (Queried terms c x) k p w = grow_front gs (deprecates_eof terms.kept) k x p w
-front_on (Some gs) (Preparing terms c r) k p w = w
-front_on (Some gs) (Silent terms c) k p w = w
+pub each_is_fronted : EachIsFronted
+each_is_fronted login t are w =
+    let found = each_is_found login t are w in
+    record { made = found.made; of_calls = found.of_calls; shares = found.shares; given_is = found.given_is; fronts = given_fronts _ _ found.found }

@@ -8,9 +8,8 @@ use Rattle.my_reading.specs.Endings.{IsTape}
 use Rattle.my_reading.specs.Place.{Exchange, Place, client_side, exchanges, owed}
 use Rattle.my_reading.specs.Reading.{reading}
 use Rattle.my_reading.specs.Tape.{Tape, spans}
-use Rattle.history_laws.specs.Errors.{AreHeard, AreHushed, at_most_one, errors_heard, errors_told}
+use Rattle.history_laws.specs.Errors.{AreHeard, AreHushed, AreHushedBy, at_most_one, errors_heard, errors_told}
 use Rattle.history_laws.specs.Found.{AreGivenIn, in_order, origins}
-use Rattle.history_laws.specs.Fronts.{AreFronts}
 use Rattle.history_laws.specs.Given.{AreGiven, AreMade, givens}
 use Rattle.history_laws.specs.Groups.{Group, Made, given}
 use Rattle.history_laws.specs.Lawful.{AreTold, EachIsLawful, Entry, IsLawfulTape, exchanges_in, hushes, shares}
@@ -20,8 +19,9 @@ use Rattle.history_laws.specs.Owners.{AreOf, IsArranged, begun_in, pending_in}
 use Rattle.history_laws.specs.Settled.{EachIsSettled, Knows}
 use Rattle.history_laws.specs.Table.{Follow}
 use Rattle.history_laws.specs.Taken.{taken_by}
-use Rattle.history_laws.proofs.Covering.{shares_front}
 use Rattle.history_laws.proofs.Finding.{shares_found}
+use Rattle.history_laws.proofs.Fronting.{given_fronts}
+use Rattle.history_laws.proofs.Hushing.{hushed_by}
 use Rattle.history_laws.proofs.Merging.{Merged, all_made, merge, told_of}
 use Rattle.history_laws.proofs.Ordering.{each_is_orderly}
 use Rattle.history_laws.proofs.Running.{each_tape_gives}
@@ -29,7 +29,7 @@ use Rattle.history_laws.proofs.Sending.{each_is_said}
 use Rattle.history_laws.proofs.Saying.{are_settings, done_fit}
 use Rattle.history_laws.proofs.Spelling.{each_is_spelled}
 use Rattle.history_laws.proofs.Unheard.{each_is_heard_in}
-use Rattle.history_laws.proofs.Tying.{each_is_owned}
+use Rattle.history_laws.proofs.Joining.{each_is_owned}
 
 -- one list of entries has all that is said of each exchange
 record Listed (gs : List (Option (List Group))) (hs : List Bool) (es : List Exchange) : Type 0 where
@@ -67,6 +67,9 @@ module _ (login : Login) (t : Tape) (are : AreBytes t.taken) (tape : IsTape logi
       let orderly = each_is_orderly login t in
       let here : (es : List Exchange) → List Exchange = λ es. record { call = p.call; talk = p.talk } ∷ es in
       let same = sym w.exchanges_are in
+      let found : AreGivenIn (in_order (g ∷ shares w.entries)) (cut (in_order (origins (here (exchanges_in w.entries)))) t.taken).talks =
+      subst (λ xs. AreGivenIn (in_order (g ∷ xs)) (cut (in_order (origins (here (exchanges_in w.entries)))) t.taken).talks) (sym w.shares_are)
+      (subst (λ es. AreGivenIn (in_order (g ∷ gs)) (cut (in_order (origins (here es))) t.taken).talks) same (shares_found login t are tape (g ∷ gs) each)) in
       record {
         newest = newest;
         older = w.entries;
@@ -88,11 +91,9 @@ module _ (login : Login) (t : Tape) (are : AreBytes t.taken) (tape : IsTape logi
         whole = owned.whole;
         answered = said.answered;
         given_is = m.given_is ∙ given_is ∙ ap (λ xs. givens (g ∷ xs)) (sym w.shares_are);
-        found = subst (λ xs. AreGivenIn (in_order (g ∷ xs)) (cut (in_order (origins (here (exchanges_in w.entries)))) t.taken).talks) (sym w.shares_are)
-            (subst (λ es. AreGivenIn (in_order (g ∷ gs)) (cut (in_order (origins (here es))) t.taken).talks) same (shares_found login t are tape (g ∷ gs) each));
-        fronts = subst (λ xs. AreFronts (in_order (g ∷ xs)) (cut (in_order (origins (here (exchanges_in w.entries)))) t.taken).talks) (sym w.shares_are)
-            (subst (λ es. AreFronts (in_order (g ∷ gs)) (cut (in_order (origins (here es))) t.taken).talks) same (shares_front login t are tape (g ∷ gs) each));
-        hushed = subst (λ xs. AreHushed (h ∷ xs) (here (exchanges_in w.entries))) (sym w.hushes_are) (subst (λ es. AreHushed (h ∷ hs) (here es)) same are_hushed);
+        found = found;
+        fronts = given_fronts _ _ found;
+        hushed = subst (λ xs. AreHushedBy login (h ∷ xs) (here (exchanges_in w.entries))) (sym w.hushes_are) (subst (λ es. AreHushedBy login (h ∷ hs) (here es)) same (hushed_by login (h ∷ hs) (exchanges p) are_hushed owned.table));
         unheard = unheard;
         errors = ap (λ xs. errors_heard (in_order (h ∷ xs)) (cut (in_order (origins (here (exchanges_in w.entries)))) t.taken).talks) w.hushes_are ∙ ap (λ es. errors_heard (in_order (h ∷ hs)) (cut (in_order (origins (here es))) t.taken).talks) w.exchanges_are ∙ errors ∙ ap (λ (xs : List ServerError). in_order xs ++ at_most_one unheard) (sym m.errors);
       }

@@ -259,7 +259,7 @@ hushed_grown ms made p o x k q rest c says w =
     let gr = grows p.talk k q c.kind_is c.good c.short w.fits in
     record {
       olds = w.olds;
-      are = (λ h. let x = w.are.0 h in record { commits = x.commits; terms = x.terms; rolls_back = gr.origin_is ∙ x.rolls_back; first = x.first; after = x.after }, w.are.1);
+      are = (λ h. let x = w.are.0 h in (x.0, record { commits = x.1.commits; rolls_back = gr.origin_is ∙ x.1.rolls_back; first = x.1.first; after = x.1.after }), w.are.1);
       errors = w.errors ∙ sym says;
       fits = gr.fits;
     }
@@ -586,7 +586,7 @@ module _ (login : Login) (c : Call) (ms : List Made) where
   rolled : (first : ServerError) (p : Place) (terms : Terms) → c ≡ Commit → EndedBy first (exchanges p) → HeardAt false ms p (Some first) → HeardAt true ms (with_exchange p c (queried terms rollback_text)) (Some first)
   rolled first p terms is after w = record {
     olds = false ∷ w.olds;
-    are = (λ h. record { commits = is; terms = terms; rolls_back = refl; first = first; after = after }, w.are);
+    are = (λ h. (terms, record { commits = is; rolls_back = refl; first = first; after = after }), w.are);
     errors = w.errors;
     fits = record { kinds = tt; within = tt };
   }

@@ -21,8 +21,9 @@ pub mod Owning
 pub mod Parts
 pub mod Connecting
 pub mod Tying
+pub mod Joining
 pub mod Merging
-pub mod Gathering
 pub mod Unheard
 pub mod Fronting
-pub mod Covering
+pub mod Hushing
+pub mod Gathering

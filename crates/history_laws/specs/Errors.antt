@@ -20,7 +20,7 @@ use Rattle.my_reading.specs.declared.error.ServerError.{ServerError}
 use Rattle.my_reading.specs.Commands.{queried}
 use Rattle.my_reading.specs.Endings.{IsTape}
 use Rattle.my_reading.specs.Errors.{server_error}
-use Rattle.my_reading.specs.Place.{Exchange, Place, exchanges}
+use Rattle.my_reading.specs.Place.{Exchange, Place, exchanges, terms_of}
 use Rattle.my_reading.specs.Reading.{reading}
 use Rattle.my_reading.specs.Tape.{Span, Tape, spans}
 use Rattle.my_reading.specs.Told.{Told, ToldError, ToldPassed}
@@ -79,18 +79,24 @@ EndedBy x [] = ⊥
 EndedBy x (e ∷ es) = (earlier : List ServerError) × (errors_in e.talk ≡ x ∷ earlier)
 
 -- the exchange is the ROLLBACK of a call that commits, after one that ended with an ERR
-pub record IsHushed (e : Exchange) (es : List Exchange) : Type 0 where
+pub record IsHushed (terms : Terms) (e : Exchange) (es : List Exchange) : Type 0 where
   pub commits : e.call ≡ Commit
-  pub terms : Terms
   pub rolls_back : origin e.talk ≡ queried terms rollback_text
   pub first : ServerError
   pub after : EndedBy first es
 
 abbrev pub AreHushed : List Bool → List Exchange → Type 0
 AreHushed [] [] = Unit {0}
-AreHushed (b ∷ bs) (e ∷ es) = (b ≡ true → IsHushed e es) × AreHushed bs es
+AreHushed (b ∷ bs) (e ∷ es) = (b ≡ true → (terms : Terms) × IsHushed terms e es) × AreHushed bs es
 AreHushed [] (e ∷ es) = ⊥
 AreHushed (b ∷ bs) [] = ⊥
+
+-- under the terms that hold after the exchanges before it
+abbrev pub AreHushedBy : Login → List Bool → List Exchange → Type 0
+AreHushedBy login [] [] = Unit {0}
+AreHushedBy login (b ∷ bs) (e ∷ es) = (b ≡ true → IsHushed (terms_of login es) e es) × AreHushedBy login bs es
+AreHushedBy login [] (e ∷ es) = ⊥
+AreHushedBy login (b ∷ bs) [] = ⊥
 
 -- the server's errors that callers got, or that a call passed over
 abbrev pub with_error : Error → List ServerError → List ServerError

@@ -11,7 +11,7 @@ use Rattle.my_reading.specs.Place.{Exchange, client_side, exchanges}
 use Rattle.my_reading.specs.Reading.{reading}
 use Rattle.my_reading.specs.Tape.{Span, Tape, spans}
 use Rattle.my_reading.specs.Told.{Told, ToldPassed}
-use Rattle.history_laws.specs.Errors.{AreHushed, at_most_one, errors_heard, errors_told, passes_errors}
+use Rattle.history_laws.specs.Errors.{AreHushedBy, at_most_one, errors_heard, errors_told, passes_errors}
 use Rattle.history_laws.specs.Found.{AreGivenIn, in_order, origins}
 use Rattle.history_laws.specs.Fronts.{AreFronts}
 use Rattle.history_laws.specs.Given.{IsItem, givens, passes_over, with_ending}
@@ -88,7 +88,7 @@ pub record IsLawfulTape (login : Login) (t : Tape) : Type 0 where
   pub fronts : AreFronts (in_order (shares (newest ∷ older))) (cut (in_order (origins (exchanges_in (newest ∷ older)))) t.taken).talks
   -- callers got each ERR that the grammar finds there, or a call passed over it, once and in order, but perhaps the last; not those of
   -- exchanges by which a transaction that couldn't be committed was rolled back
-  pub hushed : AreHushed (hushes (newest ∷ older)) (exchanges_in (newest ∷ older))
+  pub hushed : AreHushedBy login (hushes (newest ∷ older)) (exchanges_in (newest ∷ older))
   pub unheard : Option ServerError
   pub errors : errors_heard (in_order (hushes (newest ∷ older))) (cut (in_order (origins (exchanges_in (newest ∷ older)))) t.taken).talks ≡ in_order (errors_told made) ++ at_most_one unheard
 
