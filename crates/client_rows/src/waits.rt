@@ -37,7 +37,12 @@ fn wait_held<L: BlockingLink>(
         return "unheld";
     };
     match name {
-        "execute" => { word_of(conn.send_execution(alloc, statement, params_of(alloc, rest)), held) }
+        "execute" => {
+            word_of(
+                conn.send_execution(alloc, statement, params_of(alloc, rest)),
+                held,
+            )
+        }
         "batch" => match lists_of(alloc, rest) {
             Ok(lists) => word_of(conn.send_batch(alloc, statement, lists), held),
             Err(_) => {

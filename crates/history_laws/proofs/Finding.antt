@@ -22,7 +22,7 @@ use Rattle.history_laws.proofs.Ordering.{each_is_orderly}
 use Rattle.history_laws.proofs.Running.{each_tape_gives}
 use Rattle.history_laws.proofs.Spelling.{each_is_spelled}
 
-abbrev talks : List Exchange → List Talk
+abbrev pub talks : List Exchange → List Talk
 talks [] = []
 talks (e ∷ es) = e.talk ∷ talks es
 
@@ -97,15 +97,19 @@ given_found : (gs : List (Option (List Group))) (e : Exchange) (es : List Exchan
 given_found [] e es unread w = absurd w
 given_found (g ∷ gs) e es unread w = given_on_end (in_order gs) (in_order (talks es)) g (read_from e.talk unread).talk (older_given gs es w.1) (from_given g e.talk unread w.0)
 
+-- of a tape
+pub cut_is : (login : Login) (t : Tape) → AreBytes t.taken → IsTape login t
+    → (cut (in_order (origins (exchanges (reading login t).place))) t.taken).talks ≡ in_order (talks (reading login t).place.older) ++ (read_from (reading login t).place.talk (reading login t).place.unread).talk ∷ []
+cut_is login t are w =
+    let p : Place = (reading login t).place in
+    let orderly = each_is_orderly login t in
+    ap (λ bs. (cut (in_order (origins (exchanges p))) bs).talks) (sym (each_is_spelled login t are w.order)) ∙ all_found (record { call = p.call; talk = p.talk }) p.older p.unread orderly.done orderly.fits
+
 pub shares_found : (login : Login) (t : Tape) → AreBytes t.taken → IsTape login t → (gs : List (Option (List Group))) → AreGiven gs (exchanges (reading login t).place)
     → AreGivenIn (in_order gs) (cut (in_order (origins (exchanges (reading login t).place))) t.taken).talks
 shares_found login t are w gs each =
     let p : Place = (reading login t).place in
-    let newest : Exchange = record { call = p.call; talk = p.talk } in
-    let orderly = each_is_orderly login t in
-    let found : (cut (in_order (origins (exchanges p))) t.taken).talks ≡ in_order (talks p.older) ++ (read_from p.talk p.unread).talk ∷ []
-    = ap (λ bs. (cut (in_order (origins (exchanges p))) bs).talks) (sym (each_is_spelled login t are w.order)) ∙ all_found newest p.older p.unread orderly.done orderly.fits in
-    subst (λ ts. AreGivenIn (in_order gs) ts) (sym found) (given_found gs newest p.older p.unread each)
+    subst (λ ts. AreGivenIn (in_order gs) ts) (sym (cut_is login t are w)) (given_found gs (record { call = p.call; talk = p.talk }) p.older p.unread each)
 
 pub each_is_found : EachIsFound
 each_is_found login t are w =

@@ -33,8 +33,8 @@ use Rattle.history_laws.proofs.Having.{Comes, either, reads_have, row_at}
 use Rattle.history_laws.proofs.Phases.{Answering, Gave, GaveAt, Heading as HeadingAt, IsFine, IsFresh, IsHalted, IsPassing, Drops, Skips, KeptAt, Left, Over, Passing, Reading, Stopped, Taking, is_lone, is_query, is_tail, known_part, reads_sets, returned_so, shifted}
 use Rattle.history_laws.proofs.Stepping.{faults_fine, grown_gave, refused_fine, told_gave}
 
-all_given : (t : Talk) (terms : Terms) (command : List ℕ) (x : Sets) → t ≡ Queried terms command x → IsGiven (Some (groups x)) t
-all_given t terms command x e = subst (IsGiven (Some (groups x))) (sym e) (x, ([], refl), refl)
+all_given : (t : Talk) (terms : Terms) (command : List ℕ) (x : Sets) → t ≡ Queried terms command x → Fits t → IsGiven (Some (groups x)) t
+all_given t terms command x e f = subst (IsGiven (Some (groups x))) (sym e) (x, ([], refl), refl, (subst Fits e f).kinds)
 
 lone_stop : (x : Sets) → is_lone x ≡ true → with_stop (groups (known_part true x)) ≡ groups x
 lone_stop (Lone older p s) e = refl
@@ -72,7 +72,7 @@ module _ (c : Call) (ms : List Made) (p : Place) (o : Option (List Group)) (w : 
     gave = record {
       olds = w.olds;
       given_is = ap (given_after t (kind_of c)) (w.given_is ∙ ap (λ s. onto s (givens w.olds)) share) ∙ gives;
-      newest = all_given talk terms command x is;
+      newest = all_given talk terms command x is fits;
       each = w.each;
       fits = fits;
       off = w.off;
@@ -307,24 +307,24 @@ module _ (login : Login) (c : Call) (ms : List Made) (query : is_query c ≡ tru
       (λ q rest come x. refused_fine c ms p.trial (with_talk p (grow kinds.Failed p.talk q) rest) None (server_error x) (w.off refl) (grown_gave false ms p None kinds.Failed q come w) (failed_over p.talk q) refl))
 
 -- what is known of a response was in it at some moment
-known_given : (t : Talk) (terms : Terms) (command : List ℕ) (x : Sets) (end : Bool) → t ≡ Queried terms command x → (end ≡ true → is_lone x ≡ true) → IsGiven (Some (groups (known_part end x))) t
-known_given t terms command x false e lone = all_given t terms command x e
-known_given t terms command (Lone older p s) true e lone =
-    subst (IsGiven (Some (groups older))) (sym e) (older, ((let one : Packet = record { kind = kinds.Good s; payload = p } in one) ∷ [], refl), refl)
-known_given t terms command (NoSets asking) true e lone = absurd (let no : false ≡ true = lone refl in cc)
-known_given t terms command (Failed older p) true e lone = absurd (let no : false ≡ true = lone refl in cc)
-known_given t terms command (Heading older head left) true e lone = absurd (let no : false ≡ true = lone refl in cc)
-known_given t terms command (Headed older head) true e lone = absurd (let no : false ≡ true = lone refl in cc)
-known_given t terms command (Begun older head rows) true e lone = absurd (let no : false ≡ true = lone refl in cc)
-known_given t terms command (Ended older head rows p s) true e lone = absurd (let no : false ≡ true = lone refl in cc)
-known_given t terms command (Broken older head rows p) true e lone = absurd (let no : false ≡ true = lone refl in cc)
+known_given : (t : Talk) (terms : Terms) (command : List ℕ) (x : Sets) (end : Bool) → t ≡ Queried terms command x → (end ≡ true → is_lone x ≡ true) → Fits t → IsGiven (Some (groups (known_part end x))) t
+known_given t terms command x false e lone f = all_given t terms command x e f
+known_given t terms command (Lone older p s) true e lone f =
+    subst (IsGiven (Some (groups older))) (sym e) (older, ((let one : Packet = record { kind = kinds.Good s; payload = p } in one) ∷ [], refl), refl, (subst Fits e f).kinds.2)
+known_given t terms command (NoSets asking) true e lone f = absurd (let no : false ≡ true = lone refl in cc)
+known_given t terms command (Failed older p) true e lone f = absurd (let no : false ≡ true = lone refl in cc)
+known_given t terms command (Heading older head left) true e lone f = absurd (let no : false ≡ true = lone refl in cc)
+known_given t terms command (Headed older head) true e lone f = absurd (let no : false ≡ true = lone refl in cc)
+known_given t terms command (Begun older head rows) true e lone f = absurd (let no : false ≡ true = lone refl in cc)
+known_given t terms command (Ended older head rows p s) true e lone f = absurd (let no : false ≡ true = lone refl in cc)
+known_given t terms command (Broken older head rows p) true e lone f = absurd (let no : false ≡ true = lone refl in cc)
 
 -- a query, or an execution, is answered: of its response nothing was given yet
 fresh_gave : (made : List Made) (ms : List Made) (p : Place) → given made ≡ [] ∷ given ms → IsFresh p.talk p.end_left → GaveAt false ms p None → GaveAt false made p (Some [])
 fresh_gave made ms p ready f w = record {
   olds = w.olds;
   given_is = ready ∙ ap (λ gs. [] ∷ gs) w.given_is;
-  newest = subst (λ g. IsGiven (Some g) p.talk) f.none (known_given p.talk f.terms f.command f.sets p.end_left f.talk_is f.lone);
+  newest = subst (λ g. IsGiven (Some g) p.talk) f.none (known_given p.talk f.terms f.command f.sets p.end_left f.talk_is f.lone w.fits);
   each = w.each;
   fits = w.fits;
   off = w.off;

@@ -8,6 +8,7 @@ use Rattle.my_grammar.specs.declared.spot.Kind.{Kind}
 use Rattle.my_grammar.specs.declared.spot.Kind.TheVariants as kinds
 use Rattle.my_grammar.specs.Cut.{is_over}
 use Rattle.my_grammar.specs.declared.spot.Terms.{Terms}
+use Rattle.my_grammar.specs.FitSets.{FitSets}
 use Rattle.my_grammar.specs.Growth.{grow}
 use Rattle.my_grammar.specs.Sets.{Sets, SetHead, NoSets, Lone, Failed, Heading, Headed, Begun, Ended, Broken, grow_sets, with_row, with_end, packets_in, with_column_of}
 use Rattle.my_grammar.specs.Talk.{Talk, Start, Unwelcome, Greeted, Settled, Asked, Replied, Queried, Preparing, Silent}
@@ -118,14 +119,14 @@ start_sets kinds.Bad login p = (refl, refl)
 some_given : (g : List Group) (t : Talk) (k : Kind) (p : List ℕ) → IsGiven (Some g) t → IsGiven (Some g) (grow k t p)
 some_given g (Start login) k p w =
     let s = start_sets k login p in
-    subst (λ (x : Sets). (y : Sets) × IsEarlier (ends_with_ok (grow k (Start login) p)) y x × (g ≡ groups y)) (sym s.0)
-    (subst (λ (d : Bool). (y : Sets) × IsEarlier d y (sets_of (Start login)) × (g ≡ groups y)) (sym s.1) w)
+    subst (λ (x : Sets). (y : Sets) × IsEarlier (ends_with_ok (grow k (Start login) p)) y x × (g ≡ groups y) × FitSets (ends_with_ok (grow k (Start login) p)) y) (sym s.0)
+    (subst (λ (d : Bool). (y : Sets) × IsEarlier d y (sets_of (Start login)) × (g ≡ groups y) × FitSets d y) (sym s.1) w)
 some_given g (Unwelcome login q) k p w = w
 some_given g (Greeted login q c) k p w = w
 some_given g (Settled login q c last kind) k p w = w
 some_given g (Asked terms c) k p w = w
 some_given g (Replied terms c last kind) k p w = w
-some_given g (Queried terms c sets) k p w = (w.0, ((let one : Packet = record { kind = k; payload = p } in one) ∷ w.1.0, ap (λ z. grow_sets (deprecates_eof terms.kept) k z p) w.1.1), w.2)
+some_given g (Queried terms c sets) k p w = (w.0, ((let one : Packet = record { kind = k; payload = p } in one) ∷ w.1.0, ap (λ z. grow_sets (deprecates_eof terms.kept) k z p) w.1.1), w.2, w.3)
 some_given g (Preparing terms c reply) k p w = w
 some_given g (Silent terms c) k p w = w
 

@@ -1,5 +1,5 @@
 -- Each step of a call has callers hear the ERRs of its exchanges.
-use Rattle.std.proofs.Common.{◌≡◌, ℕ, ◌≤◌, length, nat_lt, List, [], ◌∷◌, ◌++◌, Bool, true, false, cond, not, ◌&&◌, ◌||◌, Option, Some, None, refl, sym, ap, ◌∙◌, subst, arith}
+use Rattle.std.proofs.Common.{◌≡◌, ℕ, ◌≤◌, length, nat_lt, List, [], ◌∷◌, ◌++◌, Bool, true, false, cond, not, ◌&&◌, ◌||◌, Option, Some, None, is_some, refl, sym, ap, ◌∙◌, subst, arith}
 use Rattle.my_frame.specs.Front.{Front, Waiting, Broken, Whole}
 use Rattle.my_reply.specs.declared.err.ErrPacket.{ErrPacket}
 use Rattle.my_reply.specs.ErrPacket.{err_at}
@@ -54,10 +54,10 @@ use Rattle.history_laws.proofs.Phases.{reads_sets, returned_so}
 use Rattle.history_laws.proofs.Stepping.{both, not_true}
 
 -- a payload of this kind comes in its place
-record Comes (p : Place) (k : Kind) (q : List ℕ) : Type 0 where
-  kind_is : payload_kind p.talk q ≡ k
-  good : is_bad k ≡ false
-  short : length q ≤ limit_of p.talk
+pub record Comes (p : Place) (k : Kind) (q : List ℕ) : Type 0 where
+  pub kind_is : payload_kind p.talk q ≡ k
+  pub good : is_bad k ≡ false
+  pub short : length q ≤ limit_of p.talk
 
 -- nothing is read of an exchange that is over
 pub idle_bad : (s : Spot) (rows : RowFormat) (d : Bool) (n : ℕ) (columns : List ColumnPacket) (q : List ℕ) (k : Kind) → kind_by s rows d n columns q ≡ k → is_bad k ≡ false → is_idle s ≡ false
@@ -162,6 +162,7 @@ pub record Rests (closed : Bool) (ms : List Made) (p : Place) : Type 0 where
   pub clear : closed ≡ false → unheard ≡ None
   pub over : closed ≡ false → hushed ≡ true → is_over p.talk ≡ true
   pub off : closed ≡ false → p.trial ≡ Off
+  pub spent : hushed ≡ false → is_some unheard ≡ true → is_over p.talk ≡ true
 
 abbrev pub IsHalted : Call → List Made → Place → Type 0
 IsHalted c ms p = Rests (not (reads_sets c)) ms p
@@ -224,7 +225,7 @@ module _ (R : Step → Type 0) (login : Login) (part : Part) (parts : List Part)
       let taken = takes_whole (number_of (turns p.talk)) (limit_of p.talk) p.unread q rest next e in
       payload_has q rest (payload_kind p.talk q) refl (omega (arith, taken.within))
 
-  payloads_have : R (reads login part parts p)
+  pub payloads_have : R (reads login part parts p)
   payloads_have = front_has (front_of p.talk p.unread) refl
 
 -- what a payload more does
@@ -258,7 +259,7 @@ hushed_grown ms made p o x k q rest c says w =
     let gr = grows p.talk k q c.kind_is c.good c.short w.fits in
     record {
       olds = w.olds;
-      are = (λ h. let x = w.are.0 h in record { commits = x.commits; terms = x.terms; rolls_back = gr.origin_is ∙ x.rolls_back; first = x.first; after = x.after }, w.are.1);
+      are = (λ h. let x = w.are.0 h in (x.0, record { commits = x.1.commits; rolls_back = gr.origin_is ∙ x.1.rolls_back; first = x.1.first; after = x.1.after }), w.are.1);
       errors = w.errors ∙ sym says;
       fits = gr.fits;
     }
@@ -298,24 +299,25 @@ opened false p k q over come = refl
 module _ (login : Login) (c : Call) (ms : List Made) where
   -- a call stops where nothing of a commit is open
   halted : (trying hushed : Bool) (p : Place) → (trying ≡ true → c ≡ Commit) → (trying ≡ false → p.trial ≡ Off) → (hushed ≡ true → is_over p.talk ≡ true) → HeardAt hushed ms p None → IsHalted c ms p
-  halted trying hushed p tries off over w = record { hushed = hushed; unheard = None; heard = w; clear = λ x. refl; over = λ x. over; off = λ x. off (untried trying tries x) }
+  halted trying hushed p tries off over w = record { hushed = hushed; unheard = None; heard = w; clear = λ x. refl; over = λ x. over; off = λ x. off (untried trying tries x); spent = λ x y. absurd (cc) }
     where
       untried : (b : Bool) → (b ≡ true → c ≡ Commit) → not (reads_sets c) ≡ false → b ≡ false
       untried true tries x = absurd (commit_closes c (tries refl) x)
       untried false tries x = refl
 
   returns : (hushed : Bool) (p : Place) (t : Told) → ((es : List ServerError) → with_told t es ≡ es) → p.trial ≡ Off → (hushed ≡ true → is_over p.talk ≡ true) → HeardAt hushed ms p None → Stopped c ms p (Returns t)
-  returns hushed p t calm off over w = record { hushed = hushed; unheard = None; heard = told_heard hushed c ms p None t calm w; clear = λ x. refl; over = λ x. over; off = λ x. off }
+  returns hushed p t calm off over w = record { hushed = hushed; unheard = None; heard = told_heard hushed c ms p None t calm w; clear = λ x. refl; over = λ x. over; off = λ x. off; spent = λ x y. absurd (cc) }
 
   -- a fault closes the session
-  faulted : (hushed : Bool) (o : Option ServerError) (p : Place) → HeardAt hushed ms p o → (e : IoError) → IsFine c ms (failure p (Io e))
-  faulted hushed o p w e = record {
+  faulted : (hushed : Bool) (o : Option ServerError) (p : Place) → HeardAt hushed ms p o → (hushed ≡ false → is_some o ≡ true → is_over p.talk ≡ true) → (e : IoError) → IsFine c ms (failure p (Io e))
+  faulted hushed o p w spent e = record {
     hushed = hushed;
     unheard = o;
     heard = told_heard hushed c ms p o (ToldError (Io e)) (λ es. refl) w;
     clear = λ x. absurd (cc);
     over = λ x. absurd (cc);
     off = λ x. absurd (cc);
+    spent = spent;
   }
 
   -- the parts of a call, where nothing of a commit was refused
@@ -415,6 +417,7 @@ module _ (login : Login) (c : Call) (ms : List Made) where
         clear = λ x. refl;
         over = λ x y. absurd (cc);
         off = λ x. sym i;
+        spent = λ x y. absurd (cc);
       }
       refused On i q rest come e is = trying_on trying refl
         where
@@ -466,7 +469,7 @@ module _ (login : Login) (c : Call) (ms : List Made) where
       dropping Back parts e q rest come x is = refused p.trial refl q rest come x is
 
       reading : (part : Part) (parts : List Part) → is_tried c trying (part ∷ parts) ≡ true → IsFine c ms (reads login part parts p)
-      reading part parts e = payloads_have (IsFine c ms) login part parts p (halted trying hushed p tries off over w) (faulted hushed None p w) (again part parts e) (after part parts e) (dropping part parts e)
+      reading part parts e = payloads_have (IsFine c ms) login part parts p (halted trying hushed p tries off over w) (faulted hushed None p w (λ x y. absurd (cc))) (again part parts e) (after part parts e) (dropping part parts e)
 
       -- an exchange begins
       command : (call : Call) (parts : List Part) (x : Option Talk) → ((t : Talk) → x ≡ Some t → IsNew t) → is_tried c trying parts ≡ true → IsFine c ms (with_command call parts p x)
@@ -475,7 +478,7 @@ module _ (login : Login) (c : Call) (ms : List Made) where
         where
           by_long : (o : Option ℕ) → IsFine c ms (unless_long p (limit_of t) o (Goes parts (with_exchange p call t)))
           by_long None = goes false parts (with_exchange p call t) e off (λ x. absurd (cc)) (begun_heard hushed ms p None call t (fresh t refl) w) unrefused
-          by_long (Some n) = faulted hushed None p w _
+          by_long (Some n) = faulted hushed None p w (λ x y. absurd (cc)) _
 
       one : (call : Call) (parts : List Part) (t : Talk) → IsNew t → is_tried c trying parts ≡ true → IsFine c ms (with_command call parts p (Some t))
       one call parts t n e = command call parts (Some t) (λ u i. some_new t u n i) e
@@ -487,7 +490,7 @@ module _ (login : Login) (c : Call) (ms : List Made) where
         where
           by_long : (o : Option ℕ) → IsFine c ms (unless_long (with_statements st p) (limit_of t) o (Goes parts (with_exchange (with_statements st p) call t)))
           by_long None = goes false parts (with_exchange (with_statements st p) call t) e off (λ x. absurd (cc)) (begun_heard hushed ms p None call t (fresh t refl) w) unrefused
-          by_long (Some n) = faulted hushed None (with_statements st p) w _
+          by_long (Some n) = faulted hushed None (with_statements st p) w (λ x y. absurd (cc)) _
 
       -- a refusal of the driver's own, where the call may return
       driver : (e : DriverError) → trying ≡ false → IsFine c ms (failure p (Driver e))
@@ -569,33 +572,34 @@ module _ (login : Login) (c : Call) (ms : List Made) where
       heard_part (Back ∷ parts) e = absurd (cc)
 
   -- a commit that was refused
-  late : (hushed : Bool) (first : ServerError) (p : Place) → c ≡ Commit → HeardAt hushed ms p (Some first) → IsHalted c ms p
-  late hushed first p is w = record {
+  late : (hushed : Bool) (first : ServerError) (p : Place) → c ≡ Commit → (hushed ≡ false → is_over p.talk ≡ true) → HeardAt hushed ms p (Some first) → IsHalted c ms p
+  late hushed first p is over w = record {
     hushed = hushed;
     unheard = Some first;
     heard = w;
     clear = λ x. absurd (commit_closes c is x);
     over = λ x. absurd (commit_closes c is x);
     off = λ x. absurd (commit_closes c is x);
+    spent = λ x y. over x;
   }
 
   rolled : (first : ServerError) (p : Place) (terms : Terms) → c ≡ Commit → EndedBy first (exchanges p) → HeardAt false ms p (Some first) → HeardAt true ms (with_exchange p c (queried terms rollback_text)) (Some first)
   rolled first p terms is after w = record {
     olds = false ∷ w.olds;
-    are = (λ h. record { commits = is; terms = terms; rolls_back = refl; first = first; after = after }, w.are);
+    are = (λ h. (terms, record { commits = is; rolls_back = refl; first = first; after = after }), w.are);
     errors = w.errors;
     fits = record { kinds = tt; within = tt };
   }
 
-  undo_long : (first : ServerError) (p : Place) (t : Talk) → c ≡ Commit → p.trial ≡ Refused first → HeardAt false ms p (Some first) → HeardAt true ms (with_exchange p c t) (Some first) → (o : Option ℕ)
+  undo_long : (first : ServerError) (p : Place) (t : Talk) → c ≡ Commit → p.trial ≡ Refused first → is_over p.talk ≡ true → HeardAt false ms p (Some first) → HeardAt true ms (with_exchange p c t) (Some first) → (o : Option ℕ)
       → IsFine c ms (unless_long p (limit_of t) o (Goes (Back ∷ []) (with_exchange p c t)))
-  undo_long first p t is i w v None = (ms, NoErrors, Backing first true (with_exchange p c t) is i (λ x. absurd (cc)) v)
-  undo_long first p t is i w v (Some n) = faulted false (Some first) p w _
+  undo_long first p t is i over w v None = (ms, NoErrors, Backing first true (with_exchange p c t) is i (λ x. absurd (cc)) v)
+  undo_long first p t is i over w v (Some n) = faulted false (Some first) p w (λ x y. over) _
 
   undoing_part : (first : ServerError) (p : Place) (b : Bool) → c ≡ Commit → p.trial ≡ Refused first → is_over p.talk ≡ true → EndedBy first (exchanges p) → HeardAt false ms p (Some first) → IsFine c ms (undone login c (Back ∷ []) p b)
   undoing_part first p true is i over after w =
       let t : Talk = queried (terms_of login (exchanges p)) rollback_text in
-      undo_long first p t is i w (rolled first p (terms_of login (exchanges p)) is after w) (first_above (limit_of t) (commands_in t))
+      undo_long first p t is i over w (rolled first p (terms_of login (exchanges p)) is after w) (first_above (limit_of t) (commands_in t))
   undoing_part first p false is i over after w = (ms, NoErrors, Backing first false p is i (λ x. over) w)
 
   -- the first ERR is returned
@@ -609,6 +613,7 @@ module _ (login : Login) (c : Call) (ms : List Made) where
         clear = λ y. refl;
         over = λ y z. over;
         off = λ y. refl;
+        spent = λ y z. absurd (cc);
       })
 
   module _ (first : ServerError) (p : Place) (is : c ≡ Commit) (i : p.trial ≡ Refused first) (w : HeardAt true ms p (Some first)) where
@@ -625,10 +630,11 @@ module _ (login : Login) (c : Call) (ms : List Made) where
           clear = λ y. refl;
           over = λ y z. failed_over p.talk q;
           off = λ y. refl;
+          spent = λ y z. absurd (cc);
         })
 
     back_reads : IsFine c ms (reads login Back [] p)
-    back_reads = payloads_have (IsFine c ms) login Back [] p (late true first p is w) (faulted true (Some first) p w) back_again back_again back_error
+    back_reads = payloads_have (IsFine c ms) login Back [] p (late true first p is (λ x. absurd (cc)) w) (faulted true (Some first) p w (λ x y. absurd (cc))) back_again back_again back_error
 
   back_part : (hushed : Bool) (first : ServerError) (p : Place) → c ≡ Commit → p.trial ≡ Refused first → (hushed ≡ false → is_over p.talk ≡ true) → HeardAt hushed ms p (Some first) → IsFine c ms (step_of login c (Back ∷ []) p)
   back_part true first p is i over w = either (IsFine c ms) (is_over p.talk) _ _ (λ done. first_told true first p p.trial i done w) (λ _. back_reads first p is i w)
@@ -641,8 +647,8 @@ module _ (login : Login) (c : Call) (ms : List Made) where
 
   pub phase_halted : (parts : List Part) (p : Place) → Phase c ms parts p → IsHalted c ms p
   phase_halted parts p (Hearing trying hushed ps q e tries off over w unrefused) = halted trying hushed q tries off over w
-  phase_halted parts p (Undoing first q is i over after w) = late false first q is w
-  phase_halted parts p (Backing first hushed q is i over w) = late hushed first q is w
+  phase_halted parts p (Undoing first q is i over after w) = late false first q is (λ x. over) w
+  phase_halted parts p (Backing first hushed q is i over w) = late hushed first q is over w
 
   pub step_fine : (parts : List Part) (p : Place) → Phase c ms parts p → IsFine c ms (step login c parts p)
   unfolding step

@@ -14,9 +14,16 @@ pub mod Blaming
 pub mod Hearing
 pub mod Telling
 pub mod Shaping
+pub mod Setting
+pub mod Saying
+pub mod Asking
 pub mod Owning
 pub mod Parts
 pub mod Connecting
 pub mod Tying
+pub mod Joining
 pub mod Merging
+pub mod Unheard
+pub mod Fronting
+pub mod Hushing
 pub mod Gathering

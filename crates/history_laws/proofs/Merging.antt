@@ -9,7 +9,8 @@ use Rattle.history_laws.specs.Errors.{AreHeard, NoneHeard, OneHeard, PassedError
 use Rattle.history_laws.specs.Given.{AreMade, NoCalls, OneCall, IsItem, Passed, NonePassed, MorePassed, with_ending}
 use Rattle.history_laws.specs.Groups.{Made, given, given_after}
 use Rattle.history_laws.specs.Lawful.{AreTold, NoneTold, OneTold, Noted, NoneNoted, ItemNoted, ErrorNoted}
-use Rattle.history_laws.specs.Owners.{AreOf, IsTied, OwnsFirst, ended_after, makes, may_lack, owns_more, was_made}
+use Rattle.history_laws.specs.Ended.{ended_after, makes, was_made}
+use Rattle.history_laws.specs.Owners.{AreOf, IsTied, OwnsFirst, may_lack, owns_more}
 
 -- a row or an end that was passed over is no error, and needs no exchange
 record IsPlain (t : Told) (c : Call) : Type 0 where

@@ -7,7 +7,7 @@ use Rattle.my_grammar.specs.declared.spot.Kind.TheVariants as kinds
 use Rattle.my_grammar.specs.declared.spot.Terms.{Terms}
 use Rattle.my_grammar.specs.Cut.{is_over}
 use Rattle.my_grammar.specs.Growth.{grow}
-use Rattle.my_grammar.specs.Talk.{Talk, Fits, context_of}
+use Rattle.my_grammar.specs.Talk.{Talk, Fits, context_of, packets_of}
 use Rattle.my_handshake.specs.declared.version.ServerVersion.{ServerVersion}
 use Rattle.my_handshake.specs.Version.{version_of}
 use Rattle.my_params.specs.declared.params.Params.{Params}
@@ -26,21 +26,24 @@ use Rattle.my_reading.specs.Commands.{arranging_texts, closing, execution, openi
 use Rattle.my_reading.specs.Course.{Part, All, Head, Item, Set, Rest, Command, Find, Check, Run, Reply, Keep, Give, Learn, Forget, Offered, Clear, Text, Flag, Adopt, Renew, Drain, Undo, Undone, Refuse, Settle, GiveUp, Try, Back, Step, Goes, Stops, Stop, Owes, Awaits, Returns, after_kind, checked, closing_of, executed, found, is_drain, is_rows, offered, reads, refused_at, renewing, returned, run, step, step_of, undone, unless_owed, unless_refused, with_command}
 use Rattle.my_reading.specs.Errors.{server_error}
 use Rattle.my_reading.specs.Executions.{Values, Fitting, Unfitting, values_for}
-use Rattle.my_reading.specs.Facts.{prepared_by}
-use Rattle.my_reading.specs.Place.{Exchange, Place, connects_in, exchanges, facts_at, next_exchange, owed, terms_of, with_exchange, with_statements, with_talk}
+use Rattle.my_reading.specs.Facts.{facts_by, prepared_by}
+use Rattle.my_reading.specs.Place.{Exchange, Place, connects_in, exchanges, facts_at, facts_of, next_exchange, owed, terms_of, with_exchange, with_statements, with_talk}
 use Rattle.my_reading.specs.Statements.{Statements, held_in, is_mixed_text, leaving, query_of, with_columns, with_prepared}
 use Rattle.my_reading.specs.Told.{Told, ToldReady, ToldEnd, ToldError}
 use Rattle.my_reading.specs.Transactions.{begin_refusal, given_up, is_given_up, rollback_text, rolled_back}
 use Rattle.my_reading.specs.Versions.{can_reset}
 use Rattle.my_statements.specs.Cache.{Held as Cached}
 use Rattle.history_laws.specs.Groups.{Made}
-use Rattle.history_laws.specs.Owners.{IsTied, OwnsFirst, calls_in, may_lack, needs_own, owns_more, was_made}
+use Rattle.history_laws.specs.Ended.{was_made}
+use Rattle.history_laws.specs.Owners.{IsTied, OwnsFirst, calls_in, may_lack, needs_own, owns_more}
 use Rattle.history_laws.specs.Sent.{is_answered}
+use Rattle.history_laws.specs.Settled.{Knows, is_known}
 use Rattle.history_laws.specs.Table.{Follow, Opens, Opening, Closing, Running, Asking, Renewing, Undoing, queries_of, renews}
 use Rattle.history_laws.proofs.Having.{Comes, begun_has, drains_have, either, reads_have, row_at}
 use Rattle.history_laws.proofs.Hearing.{idle_bad}
 use Rattle.history_laws.proofs.Moving.{IsNew, closing_new, executed_new, opened_new, queried_new}
-use Rattle.history_laws.proofs.Sending.{grown_paid}
+use Rattle.history_laws.proofs.Sending.{fresh, grown_paid}
+use Rattle.history_laws.proofs.Setting.{known_on}
 use Rattle.history_laws.proofs.Shaping.{IsShook, executed_shook, opened_shook, shook_on}
 
 -- What the parts that are left of a call need, while it has surely begun an exchange or may not have, and where a transaction stands so:
@@ -87,6 +90,7 @@ pub record Held (login : Login) (c : Call) (ms : List Made) (own : Bool) (call :
   pub tied : Owned c ms call older ⊎ IsTied ms (call ∷ calls_in older)
   pub shook : IsShook talk
   pub arranged : was_made ms ≡ true → (connects_in (record { call = call; talk = talk } ∷ older) ≡ suc (length (arranging_texts login))) × (is_connect (kind_of call) ≡ true → (is_over talk ≡ true) × (is_answered talk ≡ true))
+  pub known : Knows login ms (record { call = call; talk = talk } ∷ older)
   pub fits : Fits talk
 
 abbrev pub HeldAt : Login → Call → List Made → Bool → Place → Type 0
@@ -154,6 +158,7 @@ module _ (login : Login) (c : Call) (ms : List Made) (other : is_connect (kind_o
         tied = w.tied;
         shook = shook_on p.talk k q w.shook;
         arranged = λ made. ((w.arranged made).0, λ e. absurd (let over = ((w.arranged made).1 e).0 in cc));
+        known = λ made. known_on (facts_of login p.older) (record { kind = k; payload = q }) (packets_of p.talk) (packets_of (grow k p.talk q)) g.packets_are (w.known made);
         fits = g.fits;
       }
 
@@ -167,6 +172,7 @@ module _ (login : Login) (c : Call) (ms : List Made) (other : is_connect (kind_o
         tied = inl owned;
         shook = shook;
         arranged = λ made. (ap (λ b. cond b (suc (connects_in (exchanges p))) (connects_in (exchanges p))) other ∙ (w.arranged made).0, λ e. absurd (cc));
+        known = λ made. ap (λ ps. is_known (facts_by ps (facts_of login (exchanges p))).settings.stage) (fresh t new.origin_is) ∙ w.known made;
         fits = new.fits;
       }
     where
@@ -175,7 +181,7 @@ module _ (login : Login) (c : Call) (ms : List Made) (other : is_connect (kind_o
       by_tied (inr t) = inl t
 
   looser : (own : Bool) (p : Place) → HeldAt login c ms true p → HeldAt login c ms own p
-  looser own p w = record { table = w.table; owns = λ _. w.owns refl; tied = w.tied; shook = w.shook; arranged = w.arranged; fits = w.fits }
+  looser own p w = record { table = w.table; owns = λ _. w.owns refl; tied = w.tied; shook = w.shook; arranged = w.arranged; known = w.known; fits = w.fits }
 
   module _ (p : Place) (own : Bool) (w : HeldAt login c ms own p) (calm : Calm c p) (paid : owed p ≡ []) where
     abbrev Fine : Step → Type 0

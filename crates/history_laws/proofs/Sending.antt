@@ -104,8 +104,11 @@ packets_none (Queried terms c x) = refl
 packets_none (Preparing terms c r) = refl
 packets_none (Silent terms c) = refl
 
+pub fresh : (t : Talk) → origin t ≡ t → packets_of t ≡ []
+fresh t e = ap packets_of (sym e) ∙ packets_none t
+
 unanswered : (t : Talk) → origin t ≡ t → is_answered t ≡ false
-unanswered t e = ap ends_answered (ap packets_of (sym e) ∙ packets_none t)
+unanswered t e = ap ends_answered (fresh t e)
 
 -- bytes that are sent later change nothing where all was sent
 drop_after : (a b xs : List ℕ) → drop (length a) xs ≡ [] → drop (length (a ++ b)) xs ≡ []

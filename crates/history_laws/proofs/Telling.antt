@@ -11,10 +11,11 @@ use Rattle.my_reading.specs.declared.transaction.TxStatus.TheVariants.{InTransac
 use Rattle.my_reading.specs.Calls.{kind_of}
 use Rattle.my_reading.specs.Commands.{arranging_texts, setup_texts}
 use Rattle.my_reading.specs.Course.{Part, Flag, Settle, Step, Goes, Stops, Stop, Owes, Awaits, Returns, Halt, course, enough, parts_of, parts_of_batch, parts_of_lists, parts_of_queries, parts_of_texts, run, step}
-use Rattle.my_reading.specs.Endings.{AreCalls, Ends, IsCut, IsOpen, IsCancelled, IsLinkFailure, IsLinkEnd, closes_cancelled}
+use Rattle.my_reading.specs.Endings.{AreCalls, Ends, IsCut, IsOpen, IsCancelled, IsLinkFailure, IsLinkEnd, IsTape, closes_cancelled}
+use Rattle.my_grammar.specs.Cut.{is_over}
 use Rattle.my_reading.specs.Place.{Place, exchanges, first_place, with_bytes}
 use Rattle.my_reading.specs.Reading.{ReadCall, closed_answer, is_closing, read_calls, reading}
-use Rattle.my_reading.specs.Tape.{Span, spans}
+use Rattle.my_reading.specs.Tape.{Span, Tape, spans}
 use Rattle.my_reading.specs.Told.{Told, ToldError, Dropped, closes}
 use Rattle.my_reading.specs.Transactions.{begin_texts}
 use Rattle.history_laws.specs.Errors.{AreHeard, AreHushed, EachIsHeard, PassedErrors, NoErrors, MoreErrors, NoneHeard, OneHeard, errors_of, errors_told, with_told, with_unheard}
@@ -117,11 +118,12 @@ told_rests closed c ms p t calm r = record {
   clear = r.clear;
   over = r.over;
   off = r.off;
+  spent = r.spent;
 }
 
 -- the same where less is known
 looser : (a b : Bool) (ms : List Made) (p : Place) → (b ≡ false → a ≡ false) → Rests a ms p → Rests b ms p
-looser a b ms p less r = record { hushed = r.hushed; unheard = r.unheard; heard = r.heard; clear = λ x. r.clear (less x); over = λ x. r.over (less x); off = λ x. r.off (less x) }
+looser a b ms p less r = record { hushed = r.hushed; unheard = r.unheard; heard = r.heard; clear = λ x. r.clear (less x); over = λ x. r.over (less x); off = λ x. r.off (less x); spent = r.spent }
 
 module _ (login : Login) (s : Span) (h : Halt) (mid : List Made) where
   abbrev call : ReadCall
@@ -151,19 +153,21 @@ module _ (login : Login) (s : Span) (h : Halt) (mid : List Made) where
   call_ended (Returns t) w e = so t e w
 
 -- where the reading stands after calls
-record Stood (ms : List Made) (ss : List Span) (p : Place) : Type 0 where
-  made : List Made
-  of_calls : AreHeard ms ss made
-  hushed : List Bool
-  are : AreHushed hushed (exchanges p)
-  unheard : Option ServerError
-  errors : errors_of hushed (exchanges p) ≡ with_unheard unheard (errors_told made)
+pub record Stood (ms : List Made) (ss : List Span) (p : Place) : Type 0 where
+  pub made : List Made
+  pub of_calls : AreHeard ms ss made
+  pub hushed : Bool
+  pub olds : List Bool
+  pub are : AreHushed (hushed ∷ olds) (exchanges p)
+  pub unheard : Option ServerError
+  pub errors : errors_of (hushed ∷ olds) (exchanges p) ≡ with_unheard unheard (errors_told made)
+  pub spent : hushed ≡ false → is_some unheard ≡ true → is_over p.talk ≡ true
 
 here_stood : (closed : Bool) (ms : List Made) (p : Place) → Rests closed ms p → Stood ms [] p
-here_stood closed ms p r = record { made = ms; of_calls = NoneHeard ms; hushed = r.hushed ∷ r.heard.olds; are = r.heard.are; unheard = r.unheard; errors = r.heard.errors }
+here_stood closed ms p r = record { made = ms; of_calls = NoneHeard ms; hushed = r.hushed; olds = r.heard.olds; are = r.heard.are; unheard = r.unheard; errors = r.heard.errors; spent = r.spent }
 
 before_stood : (ms mid : List Made) (s : Span) (ss : List Span) (p : Place) → PassedErrors s.call ms mid → Stood (with_ending s.call s.ending mid) ss p → Stood ms (s ∷ ss) p
-before_stood ms mid s ss p passed w = record { made = w.made; of_calls = OneHeard ms mid w.made s ss passed w.of_calls; hushed = w.hushed; are = w.are; unheard = w.unheard; errors = w.errors }
+before_stood ms mid s ss p passed w = record { made = w.made; of_calls = OneHeard ms mid w.made s ss passed w.of_calls; hushed = w.hushed; olds = w.olds; are = w.are; unheard = w.unheard; errors = w.errors; spent = w.spent }
 
 -- an open call is the newest
 open_stood : (login : Login) (s : Span) (ss : List Span) (closed : Bool) (ms mid : List Made) (p : Place) → have_ended (s ∷ ss) ≡ true → s.ending ≡ None → PassedErrors s.call ms mid → IsHalted s.call mid p → Stood ms (s ∷ ss) (read_calls login ss closed p).place
@@ -176,7 +180,7 @@ open_stood login s (t ∷ ss) closed ms mid p ended none passed r =
     absurd (cc)
 
 bytes_rest : (closed : Bool) (ms : List Made) (p : Place) (sent taken : List ℕ) → Rests closed ms p → Rests closed ms (with_bytes sent taken p)
-bytes_rest closed ms p sent taken r = record { hushed = r.hushed; unheard = r.unheard; heard = r.heard; clear = r.clear; over = r.over; off = r.off }
+bytes_rest closed ms p sent taken r = record { hushed = r.hushed; unheard = r.unheard; heard = r.heard; clear = r.clear; over = r.over; off = r.off; spent = r.spent }
 
 closed_rests : (s : Span) (ms : List Made) (p : Place) → s.ending ≡ Some (closed_answer s.call) → Rests true ms p → Rests true (with_ending s.call s.ending ms) p
 closed_rests s ms p e r = subst (λ (x : Option Told). Rests true (with_ending s.call x ms) p) (sym e) (told_rests true s.call ms p (closed_answer s.call) (closed_calm s.call) r)
@@ -210,6 +214,7 @@ first_rests login = record {
   clear = λ x. refl;
   over = λ x y. absurd (cc);
   off = λ x. refl;
+  spent = λ x y. absurd (cc);
 }
 
 -- after a call that isn't open
@@ -225,8 +230,12 @@ rests_on login s ms p r e =
     by_end h mid (inl w) = inl w.0
     by_end h mid (inr w) = inr (with_ending s.call s.ending mid, w)
 
-pub each_is_heard : EachIsHeard
+-- what callers of a tape heard
+pub tape_stood : (login : Login) (t : Tape) → IsTape login t → Stood [] (spans t) (reading login t).place
 unfolding reading
+tape_stood login t w = calls_stood login (spans t) false [] (first_place login) (first_rests login) (ended_from t t.calls w.order.order) w.calls
+
+pub each_is_heard : EachIsHeard
 each_is_heard login t w =
-    let v = calls_stood login (spans t) false [] (first_place login) (first_rests login) (ended_from t t.calls w.order.order) w.calls in
-    record { made = v.made; of_calls = v.of_calls; hushed = v.hushed; are_hushed = v.are; unheard = v.unheard; errors = v.errors }
+    let v = tape_stood login t w in
+    record { made = v.made; of_calls = v.of_calls; hushed = v.hushed ∷ v.olds; are_hushed = v.are; unheard = v.unheard; errors = v.errors }

@@ -3,10 +3,12 @@
 use Rattle.std.specs.Prelude.{◌≡◌, ℕ, List, [], ◌∷◌, ◌++◌, Option, Some, None, Bool, true, false}
 use Rattle.my_reply.specs.declared.err.ErrPacket.{ErrPacket}
 use Rattle.my_reply.specs.ErrPacket.{err_at}
+use Rattle.my_frame.specs.FrontLaws.{AreBytes}
 use Rattle.my_grammar.specs.declared.login.Login.{Login}
 use Rattle.my_grammar.specs.declared.spot.Kind.{Kind}
 use Rattle.my_grammar.specs.declared.spot.Kind.TheVariants as kinds
 use Rattle.my_grammar.specs.declared.spot.Terms.{Terms}
+use Rattle.my_grammar.specs.Cut.{cut}
 use Rattle.my_grammar.specs.Prepares.{Reply, Refused}
 use Rattle.my_grammar.specs.Sets.{Sets, NoSets, Lone, Failed, Heading, Headed, Begun, Ended, Broken}
 use Rattle.my_grammar.specs.Talk.{Talk, Unwelcome, Settled, Replied, Queried, Preparing, origin}
@@ -18,11 +20,12 @@ use Rattle.my_reading.specs.declared.error.ServerError.{ServerError}
 use Rattle.my_reading.specs.Commands.{queried}
 use Rattle.my_reading.specs.Endings.{IsTape}
 use Rattle.my_reading.specs.Errors.{server_error}
-use Rattle.my_reading.specs.Place.{Exchange, Place, exchanges}
+use Rattle.my_reading.specs.Place.{Exchange, Place, exchanges, terms_of}
 use Rattle.my_reading.specs.Reading.{reading}
 use Rattle.my_reading.specs.Tape.{Span, Tape, spans}
 use Rattle.my_reading.specs.Told.{Told, ToldError, ToldPassed}
 use Rattle.my_reading.specs.Transactions.{rollback_text}
+use Rattle.history_laws.specs.Found.{in_order, origins}
 use Rattle.history_laws.specs.Given.{with_ending}
 use Rattle.history_laws.specs.Groups.{Made}
 
@@ -76,18 +79,24 @@ EndedBy x [] = ⊥
 EndedBy x (e ∷ es) = (earlier : List ServerError) × (errors_in e.talk ≡ x ∷ earlier)
 
 -- the exchange is the ROLLBACK of a call that commits, after one that ended with an ERR
-pub record IsHushed (e : Exchange) (es : List Exchange) : Type 0 where
+pub record IsHushed (terms : Terms) (e : Exchange) (es : List Exchange) : Type 0 where
   pub commits : e.call ≡ Commit
-  pub terms : Terms
   pub rolls_back : origin e.talk ≡ queried terms rollback_text
   pub first : ServerError
   pub after : EndedBy first es
 
 abbrev pub AreHushed : List Bool → List Exchange → Type 0
 AreHushed [] [] = Unit {0}
-AreHushed (b ∷ bs) (e ∷ es) = (b ≡ true → IsHushed e es) × AreHushed bs es
+AreHushed (b ∷ bs) (e ∷ es) = (b ≡ true → (terms : Terms) × IsHushed terms e es) × AreHushed bs es
 AreHushed [] (e ∷ es) = ⊥
 AreHushed (b ∷ bs) [] = ⊥
+
+-- under the terms that hold after the exchanges before it
+abbrev pub AreHushedBy : Login → List Bool → List Exchange → Type 0
+AreHushedBy login [] [] = Unit {0}
+AreHushedBy login (b ∷ bs) (e ∷ es) = (b ≡ true → IsHushed (terms_of login es) e es) × AreHushedBy login bs es
+AreHushedBy login [] (e ∷ es) = ⊥
+AreHushedBy login (b ∷ bs) [] = ⊥
 
 -- the server's errors that callers got, or that a call passed over
 abbrev pub with_error : Error → List ServerError → List ServerError
@@ -134,3 +143,25 @@ pub record IsHeardOf (ss : List Span) (p : Place) : Type 0 where
 
 abbrev pub EachIsHeard : Type 0
 EachIsHeard = (login : Login) (t : Tape) → IsTape login t → IsHeardOf (spans t) (reading login t).place
+
+-- the ERRs of exchanges, in order, but those that are hushed
+abbrev pub errors_heard : List Bool → List Talk → List ServerError
+errors_heard hushed [] = []
+errors_heard [] (t ∷ ts) = in_order (errors_in t) ++ errors_heard [] ts
+errors_heard (b ∷ bs) (t ∷ ts) = unless_hushed b (in_order (errors_in t)) ++ errors_heard bs ts
+
+abbrev pub at_most_one : Option ServerError → List ServerError
+at_most_one None = []
+at_most_one (Some e) = e ∷ []
+
+-- So it is of the ERRs that the grammar finds in the bytes that were received.
+pub record IsHeardIn (ss : List Span) (p : Place) (taken : List ℕ) : Type 0 where
+  pub made : List Made
+  pub of_calls : AreHeard [] ss made
+  pub hushed : List Bool
+  pub are_hushed : AreHushed hushed (exchanges p)
+  pub unheard : Option ServerError
+  pub errors : errors_heard (in_order hushed) (cut (in_order (origins (exchanges p))) taken).talks ≡ in_order (errors_told made) ++ at_most_one unheard
+
+abbrev pub EachIsHeardIn : Type 0
+EachIsHeardIn = (login : Login) (t : Tape) → AreBytes t.taken → IsTape login t → IsHeardIn (spans t) (reading login t).place t.taken

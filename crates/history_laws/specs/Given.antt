@@ -2,6 +2,7 @@
 use Rattle.std.specs.Prelude.{◌≡◌, List, [], ◌∷◌, Option, Some, None, is_some, Bool, true, false, ◌&&◌}
 use Rattle.my_flags.specs.Sets.{deprecates_eof}
 use Rattle.my_grammar.specs.declared.login.Login.{Login}
+use Rattle.my_grammar.specs.FitSets.{FitSets}
 use Rattle.my_grammar.specs.Sets.{Sets, NoSets, ByText}
 use Rattle.my_grammar.specs.Talk.{Talk, Queried}
 use Rattle.my_reading.specs.declared.call.Call.{Call}
@@ -23,10 +24,10 @@ abbrev pub ends_with_ok : Talk → Bool
 ends_with_ok (Queried terms c sets) = deprecates_eof terms.kept
 ends_with_ok _ = true
 
--- what was given is what the response was at some moment
+-- what was given is what the response was at some moment, at which it was one that a server may send
 abbrev pub IsGiven : Option (List Group) → Talk → Type 0
 IsGiven None t = Unit {0}
-IsGiven (Some g) t = (y : Sets) × IsEarlier (ends_with_ok t) y (sets_of t) × (g ≡ groups y)
+IsGiven (Some g) t = (y : Sets) × IsEarlier (ends_with_ok t) y (sets_of t) × (g ≡ groups y) × FitSets (ends_with_ok t) y
 
 abbrev pub AreGiven : List (Option (List Group)) → List Exchange → Type 0
 AreGiven [] [] = Unit {0}

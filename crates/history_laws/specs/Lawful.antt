@@ -11,13 +11,15 @@ use Rattle.my_reading.specs.Place.{Exchange, client_side, exchanges}
 use Rattle.my_reading.specs.Reading.{reading}
 use Rattle.my_reading.specs.Tape.{Span, Tape, spans}
 use Rattle.my_reading.specs.Told.{Told, ToldPassed}
-use Rattle.history_laws.specs.Errors.{AreHushed, errors_of, errors_told, passes_errors, with_unheard}
+use Rattle.history_laws.specs.Errors.{AreHushedBy, at_most_one, errors_heard, errors_told, passes_errors}
 use Rattle.history_laws.specs.Found.{AreGivenIn, in_order, origins}
+use Rattle.history_laws.specs.Fronts.{AreFronts}
 use Rattle.history_laws.specs.Given.{IsItem, givens, passes_over, with_ending}
 use Rattle.history_laws.specs.Groups.{Group, Made, given}
 use Rattle.history_laws.specs.Order.{AreDone}
 use Rattle.history_laws.specs.Owners.{AreOf, IsArranged, begun_in, pending_in}
 use Rattle.history_laws.specs.Sent.{is_answered}
+use Rattle.history_laws.specs.Settled.{AreSettings}
 use Rattle.history_laws.specs.Table.{Follow}
 use Rattle.history_laws.specs.Taken.{taken_by}
 
@@ -65,6 +67,8 @@ pub record IsLawfulTape (login : Login) (t : Tape) : Type 0 where
   pub calls : AreOf (pending_in (spans t)) made (begun_in (exchanges_in (newest ∷ older)))
   -- a connection that was made was set up by all queries that it needs, and each was answered
   pub arranged : IsArranged login made (exchanges_in (newest ∷ older))
+  -- the settings are those of the options and of what the server said; that connection knows them
+  pub settings : AreSettings login made (exchanges_in (newest ∷ older))
   -- what was taken is the server's part of them, each as the protocol has it and all but the newest over, and bytes that weren't read
   pub unread : List ℕ
   pub taken : t.taken ≡ taken_by (exchanges_in (newest ∷ older)) ++ unread
@@ -80,11 +84,13 @@ pub record IsLawfulTape (login : Login) (t : Tape) : Type 0 where
   -- what callers were given is what was at some moment in the exchanges that the grammar finds in the bytes taken
   pub given_is : given made ≡ givens (shares (newest ∷ older))
   pub found : AreGivenIn (in_order (shares (newest ∷ older))) (cut (in_order (origins (exchanges_in (newest ∷ older)))) t.taken).talks
-  -- callers got each ERR of them, or a call passed over it, once and in order, but perhaps the last; not those of exchanges by which a
-  -- transaction that couldn't be committed was rolled back
-  pub hushed : AreHushed (hushes (newest ∷ older)) (exchanges_in (newest ∷ older))
+  -- so of each set, callers were given a beginning, in order, and an end only after the whole
+  pub fronts : AreFronts (in_order (shares (newest ∷ older))) (cut (in_order (origins (exchanges_in (newest ∷ older)))) t.taken).talks
+  -- callers got each ERR that the grammar finds there, or a call passed over it, once and in order, but perhaps the last; not those of
+  -- exchanges by which a transaction that couldn't be committed was rolled back
+  pub hushed : AreHushedBy login (hushes (newest ∷ older)) (exchanges_in (newest ∷ older))
   pub unheard : Option ServerError
-  pub errors : errors_of (hushes (newest ∷ older)) (exchanges_in (newest ∷ older)) ≡ with_unheard unheard (errors_told made)
+  pub errors : errors_heard (in_order (hushes (newest ∷ older))) (cut (in_order (origins (exchanges_in (newest ∷ older)))) t.taken).talks ≡ in_order (errors_told made) ++ at_most_one unheard
 
 abbrev pub EachIsLawful : Type 0
 EachIsLawful = (login : Login) (t : Tape) → AreBytes t.taken → IsTape login t → IsLawfulTape login t

@@ -6,5 +6,8 @@ pub mod Sent
 pub mod Found
 pub mod Errors
 pub mod Table
+pub mod Ended
+pub mod Settled
 pub mod Owners
 pub mod Lawful
+pub mod Fronts

@@ -13,9 +13,10 @@ use Rattle.my_reading.specs.Place.{Exchange, Place, connects_in, exchanges, owed
 use Rattle.my_reading.specs.Reading.{reading}
 use Rattle.my_reading.specs.Tape.{Span, Tape, spans}
 use Rattle.my_reading.specs.Told.{Told, ToldReady, ToldFlag}
-use Rattle.history_laws.specs.Given.{with_ending}
+use Rattle.history_laws.specs.Ended.{ended_after, was_made}
 use Rattle.history_laws.specs.Groups.{Made}
 use Rattle.history_laws.specs.Sent.{is_answered}
+use Rattle.history_laws.specs.Settled.{Knows}
 use Rattle.history_laws.specs.Table.{Follow}
 
 -- the calls that are answered only after an exchange of their own; a batch without any parameters has none
@@ -81,20 +82,6 @@ pending_in [] = None
 pending_in (s ∷ []) = open_call s.call s.ending
 pending_in (s ∷ t ∷ ss) = pending_in (t ∷ ss)
 
--- the calls of a tape that ended, with what they returned, the newest first
-abbrev pub ended_after : List Made → List Span → List Made
-ended_after ms [] = ms
-ended_after ms (s ∷ ss) = ended_after (with_ending s.call s.ending ms) ss
-
--- whether the connection was made
-abbrev pub makes : Told → CallKind → Bool
-makes ToldReady c = is_connect c
-makes t c = false
-
-abbrev pub was_made : List Made → Bool
-was_made [] = false
-was_made (m ∷ ms) = makes m.what (kind_of m.call) || was_made ms
-
 -- A connection that was made was set up whole: of the login and of each query there is an exchange, and the last of them was answered.
 abbrev pub ends_set_up : List Exchange → Bool
 ends_set_up [] = true
@@ -103,12 +90,13 @@ ends_set_up (e ∷ es) = not (is_connect (kind_of e.call)) || is_answered e.talk
 abbrev pub IsArranged : Login → List Made → List Exchange → Type 0
 IsArranged login made es = was_made made ≡ true → (connects_in es ≡ suc (length (arranging_texts login))) × (ends_set_up es ≡ true)
 
--- Each exchange is by the table and of a call, a connection that was made was set up, and all is sent where no call is open and the session
--- isn't closed.
+-- Each exchange is by the table and of a call, a connection that was made was set up and knows its settings, and all is sent where no call
+-- is open and the session isn't closed.
 pub record IsOwnedOf (login : Login) (made : List Made) (ss : List Span) (p : Place) (closed : Bool) : Type 0 where
   pub table : Follow login (exchanges p)
   pub calls : AreOf (pending_in ss) (ended_after made ss) (begun_in (exchanges p))
   pub arranged : IsArranged login (ended_after made ss) (exchanges p)
+  pub known : Knows login (ended_after made ss) (exchanges p)
   pub whole : pending_in ss ≡ None → closed ≡ false → owed p ≡ []
 
 abbrev pub EachIsOwned : Type 0

@@ -2,13 +2,15 @@
 //! No session is named: the laws are of bytes and calls alone.
 #![tactic(auto)]
 
-ghost use Rattle.history_laws.specs.Errors.{EachIsHeard};
+ghost use Rattle.history_laws.specs.Errors.{EachIsHeard, EachIsHeardIn};
 ghost use Rattle.history_laws.specs.Found.{EachIsFound};
+ghost use Rattle.history_laws.specs.Fronts.{EachIsFronted};
 ghost use Rattle.history_laws.specs.Given.{EachTapeGives, PrefixesAreGiven};
 ghost use Rattle.history_laws.specs.Lawful.{EachIsLawful};
 ghost use Rattle.history_laws.specs.Order.{EachIsOrderly};
 ghost use Rattle.history_laws.specs.Owners.{EachIsOwned};
 ghost use Rattle.history_laws.specs.Sent.{EachIsSaid, EachIsSent};
+ghost use Rattle.history_laws.specs.Settled.{EachIsSettled};
 ghost use Rattle.history_laws.specs.Taken.{EachIsSpelled};
 
 /// What calls returned and passed over of the sets of a response is, set by set, what the response was at some moment.
@@ -32,15 +34,19 @@ pub fn bytes_are_of_exchanges()
 {}
 
 /// What calls of a tape returned and passed over is, exchange by exchange and set by set, what was at some moment in the
-/// exchanges that the grammar finds in the bytes that were received.
+/// exchanges that the grammar finds in the bytes that were received (`found`): of each set a beginning of its rows, in order,
+/// and its end only after the whole (`fronts`).
 pub fn callers_are_given_what_is_found()
-    ensures { EachIsFound }
+    ensures found { EachIsFound }
+    ensures fronts { EachIsFronted }
 {}
 
 /// Callers of a tape got each ERR of its exchanges, or a call passed over it, once and in order, but perhaps the last; not
-/// those of exchanges by which a commit that the server refused was rolled back.
+/// those of exchanges by which a commit that the server refused was rolled back (`read`). So it is of the ERRs that the
+/// grammar finds in the bytes that were received (`found`).
 pub fn callers_hear_each_error()
-    ensures { EachIsHeard }
+    ensures read { EachIsHeard }
+    ensures found { EachIsHeardIn }
 {}
 
 /// Each exchange of a tape began by the command table, after the exchanges before it, and belongs to a call: one after another
@@ -48,6 +54,13 @@ pub fn callers_hear_each_error()
 /// needs, and each was answered. Where no call is open and the session isn't closed, nothing is left to be sent.
 pub fn exchanges_are_of_calls()
     ensures { EachIsOwned }
+{}
+
+/// An option that is set holds; else the last row of the first set does with which the server answers the query for the settings,
+/// from the end of that set on. A connection that was made knows its settings, and once they
+/// are known they stay as they are.
+pub fn settings_are_known()
+    ensures { EachIsSettled }
 {}
 
 /// All this holds of each tape that the reading accepts, of one list of its exchanges and one of its calls.

@@ -1,7 +1,7 @@
 -- Counts of a pool's connections that bound how long its loops go on, and how much room it has.
 use Rattle.std.specs.Prelude.{ℕ, ◌+◌, length}
 use Rattle.my_pool_parts.specs.Lists.{how_many}
-use Rattle.my_pool_parts.specs.Connections.{is_idle}
+use Rattle.my_pool_parts.specs.Connections.{is_idle, is_at_work}
 use Rattle.my_pool_core.specs.State.{State}
 use Rattle.my_pool_core.specs.Moves.{is_due_place}
 
@@ -16,3 +16,7 @@ due s = how_many (λ c. is_due_place s.closed c.place) s.connections
 -- idle ones
 abbrev pub idle : State → ℕ
 idle s = how_many is_idle s.connections
+
+-- those whose cleaning, reset or close goes on
+abbrev pub working : State → ℕ
+working s = how_many is_at_work s.connections

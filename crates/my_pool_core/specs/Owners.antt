@@ -6,7 +6,7 @@ use Rattle.my_pool_parts.specs.declared.connection.PlaceKind.{PlaceKind}
 use Rattle.my_pool_parts.specs.declared.request.Standing.{Standing}
 use Rattle.my_pool_parts.specs.declared.request.Standing.TheVariants.{Asks, Waits, Woken, Dials, Checks}
 use Rattle.my_pool_parts.specs.Lists.{found_is}
-use Rattle.my_pool_parts.specs.Connections.{is_kind, has_number, is_leased_place, mark_of_place}
+use Rattle.my_pool_parts.specs.Connections.{is_kind, has_number, is_leased_place, is_working_place, mark_of_place}
 use Rattle.my_pool_parts.specs.Requests.{has_age}
 use Rattle.my_pool_core.specs.State.{State}
 
@@ -31,14 +31,7 @@ is_held_place Connecting = true
 is_held_place Checking = true
 is_held_place _ = false
 
--- a place at which its cleaning, its reset or its close goes on
-abbrev pub is_working_place : Place → Bool
-is_working_place (Cleaning marked) = true
-is_working_place Resetting = true
-is_working_place Closing = true
-is_working_place _ = false
-
--- whether the connection of a number is at such a place
+-- whether the connection of a number is at such a place, and whether it is being cleaned, reset or closed
 abbrev pub is_home : ℕ → State → Bool
 is_home number s = found_is is_home_place (place_at number s)
 

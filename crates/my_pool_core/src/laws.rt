@@ -2,7 +2,7 @@
 //! definitions by which each event's method says what it does.
 
 ghost use Rattle.std.specs.Prelude.{◌≡◌, ℕ, ◌≤◌, ◌<◌, true, List, length, All, Bool, false, Some, None, ◌||◌, ◌&&◌, not, ◌⊎◌, ◌+◌, ◌++◌, [], ◌∷◌};
-ghost use Rattle.my_pool_parts.specs.declared.connection.Place.TheVariants.{Idle, Connecting, Checking, Cleaning};
+ghost use Rattle.my_pool_parts.specs.declared.connection.Place.TheVariants.{Idle, Connecting, Checking, Cleaning, Resetting};
 ghost use Rattle.my_pool_parts.specs.declared.connection.Times.{Times};
 ghost use Rattle.my_pool_parts.specs.Lists.{found_is};
 ghost use Rattle.my_pool_parts.specs.Connections.{latest_usable, is_cleaning_place};
@@ -13,6 +13,7 @@ ghost use Rattle.my_pool_core.specs.declared.event.PollAnswer.TheVariants.{Wait,
 ghost use Rattle.my_pool_core.specs.declared.event.PoolEvent.{PoolEvent};
 ghost use Rattle.my_pool_core.specs.declared.limits.Limits.{Limits};
 ghost use Rattle.my_pool_core.specs.declared.event.PoolEvent.TheVariants as events;
+ghost use Rattle.my_pool_core.specs.declared.event.Verdict.TheVariants as verdicts;
 ghost use Rattle.my_pool_core.specs.Counted.{room, due, idle};
 ghost use Rattle.my_pool_core.specs.Events.{new_pool, poll_request, takes_place, is_gone, is_at_end, request, request_age, take_returned, decide, done};
 ghost use Rattle.my_pool_core.specs.Moves.{token_after, PlacesMove, home_after, lease_after, verdict_place, is_ending_place, is_verdict_on, IsKeeping};
@@ -151,6 +152,23 @@ pub fn verdict_places()
         → place_at number (step s events.TakeReturned) ≡ Some (Cleaning (mark_at number s)) }
 {}
 
+/// A decision keeps or resets a connection only where its facts say that it is neither closed nor dirty. An end keeps
+/// one only where it was being reset, which was done well; no end has it cleaned or reset again.
+pub fn verdicts_tell()
+    ensures kept { (s : State) (number : ℕ) (facts : Facts) (now : ℕ)
+        → (decide number facts now s).answer ≡ verdicts.Keep
+        → (facts.link_closed ≡ false) × (facts.dirty ≡ false) }
+    ensures reset { (s : State) (number : ℕ) (facts : Facts) (now : ℕ)
+        → (decide number facts now s).answer ≡ verdicts.Reset
+        → (facts.link_closed ≡ false) × (facts.dirty ≡ false) }
+    ensures ended { (s : State) (number : ℕ) (ok : Bool) (facts : Facts) (now : ℕ)
+        → (done number ok facts now s).answer ≡ verdicts.Keep → (ok ≡ true) × (place_at number s ≡ Some Resetting) }
+    ensures cleans { (s : State) (number : ℕ) (ok : Bool) (facts : Facts) (now : ℕ)
+        → (done number ok facts now s).answer ≡ verdicts.Clean → ⊥ }
+    ensures resets { (s : State) (number : ℕ) (ok : Bool) (facts : Facts) (now : ℕ)
+        → (done number ok facts now s).answer ≡ verdicts.Reset → ⊥ }
+{}
+
 /// A connection whose cleaning, reset or close goes on stays where it is until a verdict on it.
 pub fn polled_stay()
     ensures { (s : State) (event : PoolEvent) (number : ℕ) → IsSound s → may s event ≡ true
@@ -207,6 +225,12 @@ pub fn ages_rise()
     ensures stays { (s : State) → is_at_end s ≡ true → (step s events.Request).next_age ≡ s.next_age }
     ensures others { (s : State) (event : PoolEvent) → (event ≡ events.Request → ⊥)
         → (step s event).next_age ≡ s.next_age }
+{}
+
+/// The request of the last age, once it is live, stays live whatever happens, and holds nothing.
+pub fn last_stays()
+    ensures { (s : State) (event : PoolEvent) → IsSound s → may s event ≡ true → token last_age s ≡ Some Free
+        → token last_age (step s event) ≡ Some Free }
 {}
 
 /// The number of each new connection is above all earlier ones.

@@ -7,7 +7,7 @@ use Rattle.std.proofs.lemmas.Bool.Decides.{nat_tests}
 use Rattle.my_pool_parts.specs.declared.connection.Connection.{Connection}
 use Rattle.my_pool_parts.specs.declared.connection.Place.{Place}
 use Rattle.my_pool_parts.specs.declared.connection.Place.TheVariants.{Connecting}
-use Rattle.my_pool_parts.specs.Connections.{has_number, placed, is_idle, is_returned, is_leased, is_leased_place, is_idle_place, is_returned_place, move_to}
+use Rattle.my_pool_parts.specs.Connections.{has_number, placed, is_idle, is_returned, is_leased, is_at_work, is_leased_place, is_working_place, is_idle_place, is_returned_place, move_to}
 use Rattle.my_frame.specs.Lists.{without}
 use Rattle.my_pool_parts.specs.Lists.{how_many, found_is}
 use Rattle.my_frame.proofs.Finding.{found-passes, without-unfound}
@@ -102,12 +102,12 @@ queue-room t n cs queue room any q few =
     let x = found-there (has_number n) cs any in
     omega (arith, ap length q, numbers-length t (without (has_number n) cs), count-le-length t (without (has_number n) cs), length-without (has_number n) cs x.0 x.1)
 
--- a leased one is counted
-pub leased-counted : (n : ℕ) (cs : List Connection) (leased : ℕ) (was : Bool) → leased ≡ how_many is_leased cs → was ≡ found_is is_leased_place (option_map (λ c. c.place) (find (has_number n) cs)) → one was ≤ leased
-leased-counted n cs leased was l e =
-    (elim (find (has_number n) cs) as (λ o. find (has_number n) cs ≡ o → was ≡ found_is is_leased_place (option_map (λ c. c.place) o) → one was ≤ leased) [
+-- one at such a place is counted
+pub one-counted : (q : Place → Bool) (n : ℕ) (cs : List Connection) (count : ℕ) (was : Bool) → count ≡ how_many (λ c. q c.place) cs → was ≡ found_is q (option_map (λ c. c.place) (find (has_number n) cs)) → one was ≤ count
+one-counted q n cs count was l e =
+    (elim (find (has_number n) cs) as (λ o. find (has_number n) cs ≡ o → was ≡ found_is q (option_map (λ c. c.place) o) → one was ≤ count) [
       | None ↦ λ f k. omega (arith, ap one k)
-      | Some c ↦ λ f k. omega (arith, ap one k, count-without is_leased (has_number n) cs c f)
+      | Some c ↦ λ f k. omega (arith, l, ap one k, count-without (λ c. q c.place) (has_number n) cs c f)
     ]) refl e
 
 -- a count after a connection left
@@ -124,11 +124,12 @@ own-number : (n m : ℕ) (place : Place) (c : Connection) → has_number n c ≡
 own-number n m place c e = let same : c.number ≡ n = grind (arith, nat_tests) in ap (λ k. k == m) (sym same)
 
 -- what holds after a connection was taken out
-pub stored-left : (n : ℕ) (cs : List Connection) (idle returned idle' returned' : List ℕ) (count leased leased' room ir rr ir' rr' : ℕ) (was : Bool) → IsStored cs idle returned count leased room ir rr
+pub stored-left : (n : ℕ) (cs : List Connection) (idle returned idle' returned' : List ℕ) (count leased leased' working working' room ir rr ir' rr' : ℕ) (was worked : Bool) → IsStored cs idle returned count leased working room ir rr
     → list_any (has_number n) cs ≡ true → was ≡ found_is is_leased_place (option_map (λ c. c.place) (find (has_number n) cs)) → leased' + one was ≡ leased
+    → worked ≡ found_is is_working_place (option_map (λ c. c.place) (find (has_number n) cs)) → working' + one worked ≡ working
     → idle' ≡ numbers_at is_idle (without (has_number n) cs) → returned' ≡ numbers_at is_returned (without (has_number n) cs) → ir' ≡ ir → rr' ≡ rr
-    → IsStored (without (has_number n) cs) idle' returned' (count - 1) leased' room ir' rr'
-stored-left n cs idle returned idle' returned' count leased leased' room ir rr ir' rr' was h any w l i r a b =
+    → IsStored (without (has_number n) cs) idle' returned' (count - 1) leased' working' room ir' rr'
+stored-left n cs idle returned idle' returned' count leased leased' working working' room ir rr ir' rr' was worked h any w l w2 l2 i r a b =
     let x = found-there (has_number n) cs any in
     record {
       once = λ m. omega (arith, h.once m, count-without-le (has_number m) (has_number n) cs);
@@ -136,6 +137,7 @@ stored-left n cs idle returned idle' returned' count leased leased' room ir rr i
       returned_are = r;
       counted = omega (arith, h.counted, length-without (has_number n) cs x.0 x.1);
       leased_are = omega (arith, l, h.leased_are, left-count is_leased n cs was any (w ∙ placed-found is_leased_place (find (has_number n) cs)));
+      working_are = omega (arith, l2, h.working_are, left-count is_at_work n cs worked any (w2 ∙ placed-found is_working_place (find (has_number n) cs)));
       few = omega (arith, h.few, length-without (has_number n) cs x.0 x.1);
       small = h.small;
       idle_fit = omega (arith, h.idle_fit, a);
@@ -143,12 +145,13 @@ stored-left n cs idle returned idle' returned' count leased leased' room ir rr i
     }
 
 -- and after it moved
-pub stored-moved : (n : ℕ) (place : Place) (cs : List Connection) (idle returned idle' returned' : List ℕ) (count leased leased' room ir rr ir' rr' : ℕ) (was : Bool) → IsStored cs idle returned count leased room ir rr
+pub stored-moved : (n : ℕ) (place : Place) (cs : List Connection) (idle returned idle' returned' : List ℕ) (count leased leased' working working' room ir rr ir' rr' : ℕ) (was worked : Bool) → IsStored cs idle returned count leased working room ir rr
     → list_any (has_number n) cs ≡ true → was ≡ found_is is_leased_place (option_map (λ c. c.place) (find (has_number n) cs)) → leased' + one was ≡ leased + one (is_leased_place place)
+    → worked ≡ found_is is_working_place (option_map (λ c. c.place) (find (has_number n) cs)) → working' + one worked ≡ working + one (is_working_place place)
     → idle' ≡ numbers_at is_idle (without (has_number n) cs) ++ cond (is_idle_place place) (n ∷ []) []
     → returned' ≡ numbers_at is_returned (without (has_number n) cs) ++ cond (is_returned_place place) (n ∷ []) [] → ir' ≡ ir → rr' ≡ rr
-    → IsStored (move_to n place cs) idle' returned' count leased' room ir' rr'
-stored-moved n place cs idle returned idle' returned' count leased leased' room ir rr ir' rr' was h any w l i r a b =
+    → IsStored (move_to n place cs) idle' returned' count leased' working' room ir' rr'
+stored-moved n place cs idle returned idle' returned' count leased leased' working working' room ir rr ir' rr' was worked h any w l w2 l2 i r a b =
     let x = found-there (has_number n) cs any in
     let left = without (has_number n) cs in
     let passes = found-passes (has_number n) cs x.0 x.1 in
@@ -158,6 +161,7 @@ stored-moved n place cs idle returned idle' returned' count leased leased' room 
       returned_are = r ∙ sym (numbers-snoc is_returned left (placed n place));
       counted = omega (arith, h.counted, length-without (has_number n) cs x.0 x.1, count-length left (placed n place));
       leased_are = omega (arith, l, h.leased_are, left-count is_leased n cs was any (w ∙ placed-found is_leased_place (find (has_number n) cs)), count-push is_leased left (placed n place));
+      working_are = omega (arith, l2, h.working_are, left-count is_at_work n cs worked any (w2 ∙ placed-found is_working_place (find (has_number n) cs)), count-push is_at_work left (placed n place));
       few = omega (arith, h.few, length-without (has_number n) cs x.0 x.1, count-length left (placed n place));
       small = h.small;
       idle_fit = omega (arith, h.idle_fit, a);
@@ -253,14 +257,15 @@ front-is t (c ∷ cs) d some once =
     ]) (once n)
 
 -- what holds once the next one came
-pub stored-next : (n : ℕ) (cs : List Connection) (idle returned : List ℕ) (count leased room ir rr : ℕ) → IsStored cs idle returned count leased room ir rr → find (has_number n) cs ≡ None → length cs < room
-    → IsStored (cs ++ placed n Connecting ∷ []) idle returned (count + 1) leased room ir rr
-stored-next n cs idle returned count leased room ir rr h none few = record {
+pub stored-next : (n : ℕ) (cs : List Connection) (idle returned : List ℕ) (count leased working room ir rr : ℕ) → IsStored cs idle returned count leased working room ir rr → find (has_number n) cs ≡ None → length cs < room
+    → IsStored (cs ++ placed n Connecting ∷ []) idle returned (count + 1) leased working room ir rr
+stored-next n cs idle returned count leased working room ir rr h none few = record {
   once = λ m. once-more m;
   idle_are = h.idle_are ∙ sym (append-nil (numbers_at is_idle cs)) ∙ sym (numbers-snoc is_idle cs (placed n Connecting));
   returned_are = h.returned_are ∙ sym (append-nil (numbers_at is_returned cs)) ∙ sym (numbers-snoc is_returned cs (placed n Connecting));
   counted = omega (arith, h.counted, length-append cs (placed n Connecting ∷ []));
   leased_are = omega (arith, h.leased_are, count-push is_leased cs (placed n Connecting));
+  working_are = omega (arith, h.working_are, count-push is_at_work cs (placed n Connecting));
   few = omega (arith, few, length-append cs (placed n Connecting ∷ []));
   small = h.small;
   idle_fit = h.idle_fit;

@@ -69,6 +69,13 @@ abbrev pub is_closing_place : Place → Bool
 is_closing_place Closing = true
 is_closing_place _ = false
 
+-- a place at which its cleaning, its reset or its close goes on
+abbrev pub is_working_place : Place → Bool
+is_working_place (Cleaning marked) = true
+is_working_place Resetting = true
+is_working_place Closing = true
+is_working_place _ = false
+
 -- whether it was marked when its time as an idle one was over; a mark lasts while it is returned or cleaning
 abbrev pub mark_of_place : Place → Bool
 mark_of_place (Returned marked) = marked
@@ -101,6 +108,9 @@ is_resetting c = is_resetting_place c.place
 
 abbrev pub is_closing : Connection → Bool
 is_closing c = is_closing_place c.place
+
+abbrev pub is_at_work : Connection → Bool
+is_at_work c = is_working_place c.place
 
 abbrev pub is_marked : Connection → Bool
 is_marked c = mark_of_place c.place

@@ -4,7 +4,7 @@ use Rattle.std.specs.List.{list_any}
 use Rattle.my_pool_parts.specs.declared.connection.Connection.{Connection}
 use Rattle.my_pool_parts.specs.declared.connection.Place.{Place}
 use Rattle.my_pool_parts.specs.declared.connection.Place.TheVariants.{Connecting}
-use Rattle.my_pool_parts.specs.Connections.{has_number, is_idle, is_leased, is_returned}
+use Rattle.my_pool_parts.specs.Connections.{has_number, is_idle, is_leased, is_returned, is_at_work}
 use Rattle.my_pool_parts.specs.Lists.{how_many}
 
 -- what is seen: the connections, in the order in which they came to their places; the next number; how many numbers
@@ -39,13 +39,14 @@ pub record IsIdleAt (index number : ℕ) (cs : List Connection) : Type 0 where
   pub alone : list_any (has_number number) front ≡ false
 
 -- what the queues and the counts say
-pub record IsStored (cs : List Connection) (idle returned : List ℕ) (count leased room idle_room returned_room : ℕ)
+pub record IsStored (cs : List Connection) (idle returned : List ℕ) (count leased working room idle_room returned_room : ℕ)
     : Type 0 where
   pub once : (n : ℕ) → how_many (has_number n) cs ≤ 1
   pub idle_are : idle ≡ numbers_at is_idle cs
   pub returned_are : returned ≡ numbers_at is_returned cs
   pub counted : count ≡ length cs
   pub leased_are : leased ≡ how_many is_leased cs
+  pub working_are : working ≡ how_many is_at_work cs
   pub few : length cs ≤ room
   pub small : room < 2 ^ 63
   pub idle_fit : room ≤ idle_room

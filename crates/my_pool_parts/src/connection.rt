@@ -1,7 +1,7 @@
 //! A counted connection and its place.
 
 ghost use Rattle.std.specs.Prelude.{◌≡◌};
-ghost use Rattle.my_pool_parts.specs.Connections.{is_kind, is_past, is_over, is_usable, is_usable_place, is_outdated, mark_of_place};
+ghost use Rattle.my_pool_parts.specs.Connections.{is_kind, is_past, is_over, is_usable, is_usable_place, is_outdated, is_working_place, mark_of_place};
 ghost use Rattle.my_pool_parts.specs.Lists.{found_is};
 
 /// What an idle connection's life is measured by, in milliseconds.
@@ -119,6 +119,16 @@ impl Place {
         }
     }
 
+    /// Whether its cleaning, its reset or its close goes on there.
+    fn is_working(&self) -> bool
+        ensures { result ≡ is_working_place self.now }
+    {
+        matches!(
+            self,
+            Place::Cleaning { .. } | Place::Resetting | Place::Closing
+        )
+    }
+
     /// Whether it was marked when its time as an idle one was over.
     pub fn mark(&self) -> bool
         ensures { result ≡ mark_of_place self.now }
@@ -136,6 +146,16 @@ pub(crate) fn is_at(place: &Option<Place>, kind: PlaceKind) -> bool
 {
     match place {
         Some(place) => place.is(kind),
+        None => false,
+    }
+}
+
+/// Whether a place, where there is one, is one at which a cleaning, a reset or a close goes on.
+pub(crate) fn is_at_work(place: &Option<Place>) -> bool
+    ensures { result ≡ found_is is_working_place place.now }
+{
+    match place {
+        Some(place) => place.is_working(),
         None => false,
     }
 }

@@ -2,14 +2,14 @@
 
 ghost use Rattle.std.specs.Prelude.{◌≡◌, ◌≤◌, ◌<◌, ◌+◌, ◌-◌, ◌^◌, ◌++◌, [], ◌∷◌, IsTrue, None, find, length, OnOk, IfOk};
 ghost use Rattle.std.specs.List.{list_any};
-ghost use Rattle.my_pool_parts.specs.Connections.{has_number, is_kind, is_marked, move_to, placed, is_idle, is_leased, latest_usable, retire, is_usable, is_outdated, lasting, outdated, next_to_clean};
+ghost use Rattle.my_pool_parts.specs.Connections.{has_number, is_kind, is_marked, move_to, placed, is_idle, is_leased, is_at_work, latest_usable, retire, is_usable, is_outdated, lasting, outdated, next_to_clean};
 ghost use Rattle.my_pool_parts.specs.Next.{least_at};
 ghost use Rattle.my_frame.specs.Lists.{without};
 ghost use Rattle.my_pool_parts.specs.Lists.{how_many, found_is};
 ghost use Rattle.my_pool_parts.specs.Stored.{stored, IsIdleAt, connecting};
 
 use crate::arrivals::Arrivals;
-use crate::connection::{Connection, Place, PlaceKind, is_at};
+use crate::connection::{Connection, Place, PlaceKind, is_at, is_at_work};
 use crate::turns::Turns;
 use my_frame::NoMemory;
 use std::alloc::Global;
@@ -27,6 +27,8 @@ pub struct Connections {
     returned: Turns,
     count: usize,
     leased: usize,
+    /// How many are being cleaned, reset or closed.
+    working: usize,
     /// For how many connections there is room in the queues.
     room: usize,
 }
@@ -38,8 +40,8 @@ impl Model for Connections {
 
     ghost view = { λ c. stored c.arrivals.list c.arrivals.next c.arrivals.coming c.room };
 
-    ghost invariant = { λ c. IsStored c.arrivals.list c.idle.items c.returned.items c.count c.leased c.room
-        c.idle.room c.returned.room };
+    ghost invariant = { λ c. IsStored c.arrivals.list c.idle.items c.returned.items c.count c.leased c.working
+        c.room c.idle.room c.returned.room };
 }
 
 impl Connections {
@@ -53,6 +55,7 @@ impl Connections {
             returned: Turns::new(alloc),
             count: 0,
             leased: 0,
+            working: 0,
             room: 0,
         }
     }
@@ -78,6 +81,13 @@ impl Connections {
         self.leased
     }
 
+    /// How many are being cleaned, reset or closed.
+    pub fn count_working(&self) -> usize
+        ensures { result ≡ how_many is_at_work self.now.list }
+    {
+        self.working
+    }
+
     /// The number of the idle one before which `index` others stand.
     fn idle_at(&self, index: usize) -> u64
         requires { index < how_many is_idle self.now.list }
@@ -97,6 +107,7 @@ impl Connections {
         self.returned
             .leave(is_at(&old, PlaceKind::Returned), number);
         self.leased -= usize::from(is_at(&old, PlaceKind::Leased));
+        self.working -= usize::from(is_at_work(&old));
         self.count -= 1;
         self.arrivals.take_out(number);
     }
@@ -117,6 +128,7 @@ impl Connections {
             .enter(is_at(&new, PlaceKind::Returned), number);
         self.leased = self.leased - usize::from(is_at(&old, PlaceKind::Leased))
             + usize::from(is_at(&new, PlaceKind::Leased));
+        self.working = self.working - usize::from(is_at_work(&old)) + usize::from(is_at_work(&new));
         self.arrivals.move_to(number, place);
     }
 

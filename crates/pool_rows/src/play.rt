@@ -123,6 +123,10 @@ fn looks(core: &Core, given: &str, want: &str) -> bool {
         },
         Some(_) => false,
         None if given == "metrics" => counts(core, want),
+        None if given == "live" => is_wanted(want, "number", &[core.count_live() as u64], 0),
+        None if given == "working" => {
+            is_wanted(want, "number", &[core.count_working() as u64], 0)
+        }
         None => match core.oldest_waiting() {
             Some(age) => given == "oldest" && is_wanted(want, "age", &[age], 0),
             None => given == "oldest" && want == "none",
@@ -197,7 +201,7 @@ fn pools(rt: HostRuntime) -> Result<(), Fail> {
         );
         ran = ran.saturating_add(count);
     }
-    assert_eq!(rt; ran, 453);
+    assert_eq!(rt; ran, 463);
     println!(rt; "{ran} rows of pools")?;
     Ok(())
 }

@@ -5,7 +5,8 @@
 //! least and the greatest number of ages that it may compare. `ask`, `poll AGE MOMENT`, `cancel AGE`, `ready AGE NUMBER`,
 //! `failed AGE NUMBER`, `give NUMBER`, `detach NUMBER`, `next`, `decide`, `done` and `badly` (`NUMBER MOMENT TTL DEADLINE` and
 //! what is known: `cut`, `dirty`, `expired`, `reset`), `ttl MOMENT`, `close` and `gone` are events. `wait FIRST LAST`: requests
-//! of these ages are asked for and wait. `oldest`, `request AGE` (`1`: it ever waited), `place NUMBER` and `metrics` look.
+//! of these ages are asked for and wait. `oldest`, `request AGE` (`1`: it ever waited), `place NUMBER`,
+//! `metrics`, `live` (requests) and `working` (connections that are cleaned, reset or closed) look.
 //!
 //! Heaps: `push SLOT AGE`, `remove SLOT`, `pop`, `least` and `len`.
 
@@ -18,17 +19,21 @@ ask = age 1
 poll 1 0 = wait
 ask = age 2
 poll 2 0 = wait
+live = number 2
 give 1000 = done
 next = number 1000
 decide 1000 0 0 - = keep
 next = none
 request 2 = waits 1
 request 1 = woken 1
+live = number 2
 cancel 1 = done
+live = number 1
 oldest = none
 request 2 = woken 1
 poll 2 0 = take 1000
 ready 2 1000 = done
+live = number 0
 oldest = none
 metrics = counts 1 0 1 0 0 0 0 0 0 0 1 0
 # pool 1 1 1 0 - 1000 a request that is given up while it looks at its connection frees it
@@ -165,19 +170,25 @@ poll 0 0 = dial 1000
 ready 0 1000 = done
 give 1000 = done
 decide 1000 0 0 - = no
+working = number 0
 next = number 1000
+working = number 1
 decide 1000 0 0 - dirty expired reset = clean
 done 1000 0 0 - = no
 decide 1000 0 0 - reset = reset
+working = number 1
 decide 1000 0 0 - = no
 done 1000 0 0 - = keep
+working = number 0
 ask = age 1
 poll 1 0 = take 1000
 ready 1 1000 = done
 give 1000 = done
 next = number 1000
 decide 1000 0 0 - expired reset = close
+working = number 1
 done 1000 0 0 - = drop
+working = number 0
 ask = age 2
 poll 2 0 = dial 1001
 ready 2 1001 = done

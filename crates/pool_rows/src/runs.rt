@@ -2,7 +2,9 @@
 
 use crate::dice::{Dice, some_event, some_word};
 use crate::scanned::follow;
-use crate::sound::{Shown, are_connections_sound, are_requests_sound, count_idle, is_covered};
+use crate::sound::{
+    Shown, are_connections_sound, are_requests_sound, count_idle, count_working, is_covered,
+};
 use crate::words::told;
 use my_frame::NoMemory;
 use my_opts_parts::{Millis, PoolConstraints, PoolOpts};
@@ -82,6 +84,8 @@ fn is_right(core: &Core, beside: &Beside) -> bool {
     are_connections_sound(core, connections, requests, shown)
         && connections.len() as u64 <= beside.max
         && count_idle(connections) <= beside.bound
+        && core.count_working() as u64 == count_working(connections)
+        && core.count_live() == requests.len()
         && are_requests_sound(core, requests, shown)
         && is_covered(core, connections, requests, beside.max)
         && core.poll_disconnect() == shown.settled

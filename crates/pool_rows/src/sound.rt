@@ -58,6 +58,21 @@ pub fn count_idle(connections: &[Connection]) -> u64 {
     count
 }
 
+/// How many connections are being cleaned, reset or closed.
+pub fn count_working(connections: &[Connection]) -> u64 {
+    let mut count = 0u64;
+    for connection in connections {
+        let place = connection.place;
+        if place.is(PlaceKind::Cleaning)
+            || place.is(PlaceKind::Resetting)
+            || place.is(PlaceKind::Closing)
+        {
+            count = count.saturating_add(1);
+        }
+    }
+    count
+}
+
 // The least number, not below `from`, of a connection at a kind of place.
 fn scanned_next(connections: &[Connection], kind: PlaceKind, from: u64) -> Option<u64> {
     let mut next: Option<u64> = None;

@@ -4,7 +4,7 @@ use Rattle.my_opts.specs.ChangeUser.{ChangeView}
 use Rattle.my_reading.specs.declared.transaction.TxStatus.{TxStatus}
 use Rattle.my_reading.specs.declared.transaction.TxStatus.TheVariants as txs
 use Rattle.my_reading.specs.Clean.{is_read_whole}
-use Rattle.my_reading.specs.Course.{Part, All, Text, Adopt, Renew, Clear, Drain, Undo, Undone, GiveUp, parts_of_queries}
+use Rattle.my_reading.specs.Course.{Part, All, Command, Text, Adopt, Renew, Clear, Drain, Undo, Undone, GiveUp, parts_of_queries, parts_of_texts}
 use Rattle.my_reading.specs.Place.{Place}
 use Rattle.my_reading.specs.Transactions.{given_up, rolled_back}
 
@@ -33,13 +33,14 @@ rolled_back_level Any = Any
 rolled_back_level Outside = Ended
 rolled_back_level Ended = Ended
 
--- the parts of the calls that clean a connection or renew its session
+-- the parts of the calls that make or clean a connection, or renew its session
 pub data IsCleaning : Part → Type 0 where
   Reads : IsCleaning All
   Drains : IsCleaning Drain
   Undoes : IsCleaning Undo
   Settles : IsCleaning Undone
   GivesUp : IsCleaning GiveUp
+  Commands : IsCleaning Command
   Asks : (text : List ℕ) → IsCleaning (Text text)
   Renews : IsCleaning Renew
   Adopts : (change : ChangeView) → IsCleaning (Adopt change)
@@ -56,6 +57,7 @@ after Drain k = known true k.level k.uncached
 after Undo k = known false k.level k.uncached
 after Undone k = known k.read (rolled_back_level k.level) k.uncached
 after GiveUp k = known k.read (given_up_level k.level) k.uncached
+after Command k = known false k.level k.uncached
 after (Text text) k = known false k.level k.uncached
 after Renew k = known false k.level k.uncached
 after Clear k = known k.read k.level true
@@ -110,3 +112,12 @@ queries_clean (text ∷ texts) = (Reads, (Asks text, queries_clean texts))
 pub queries_know : (texts : List (List ℕ)) (k : Known) → after_all (parts_of_queries texts []) k ≡ known true k.level k.uncached
 queries_know [] k = refl
 queries_know (text ∷ texts) k = queries_know texts (known false k.level k.uncached)
+
+-- the queries that set a connection up are sent, each once the response before it was read whole
+pub texts_clean : (texts : List (List ℕ)) → AreCleaning (All ∷ parts_of_texts texts)
+texts_clean [] = (Reads, tt)
+texts_clean (text ∷ texts) = (Reads, (Commands, texts_clean texts))
+
+pub texts_know : (texts : List (List ℕ)) (k : Known) → after_all (All ∷ parts_of_texts texts) k ≡ known true k.level k.uncached
+texts_know [] k = refl
+texts_know (text ∷ texts) k = texts_know texts (known false k.level k.uncached)

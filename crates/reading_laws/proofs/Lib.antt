@@ -15,4 +15,5 @@ pub mod Batching
 pub mod Knowing
 pub mod Settling
 pub mod Cleaned
+pub mod Newest
 pub mod Tapes

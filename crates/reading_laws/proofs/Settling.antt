@@ -1,4 +1,4 @@
--- A call that cleans a connection or renews its session: where it returns ready, what its parts make known holds.
+-- A call that makes or cleans a connection or renews its session: where it returns ready, what its parts make known holds.
 use Rattle.std.proofs.Common.{◌≡◌, ℕ, suc, zero, Bool, true, false, not, ◌&&◌, cond, List, [], ◌∷◌, refl, ap}
 use Rattle.my_grammar.specs.declared.login.Login.{Login}
 use Rattle.my_grammar.specs.declared.spot.Kind.TheVariants as kinds
@@ -12,16 +12,16 @@ use Rattle.my_reading.specs.declared.transaction.Trial.TheVariants as trials
 use Rattle.my_reading.specs.declared.transaction.TxStatus.TheVariants as txs
 use Rattle.my_reading.specs.Accounts.{changed}
 use Rattle.my_reading.specs.Commands.{queried}
-use Rattle.my_reading.specs.Course.{Part, All, Renew, Clear, Drain, Undo, Undone, GiveUp, Back, Step, Goes, Stops, Returns, enough, parts_of, refused_at, renewing, returned, run, step, step_of, undone, unless_owed}
+use Rattle.my_reading.specs.Course.{Part, All, Command, Renew, Clear, Drain, Undo, Undone, GiveUp, Back, Step, Goes, Stops, Returns, enough, parts_of, refused_at, renewing, returned, run, step, step_of, undone, unless_owed}
 use Rattle.my_reading.specs.Errors.{server_error}
-use Rattle.my_reading.specs.Place.{Place, exchanges, facts_at, owed, terms_of, with_account, with_exchange, with_statements, with_status, with_talk, with_trial, without_end}
+use Rattle.my_reading.specs.Place.{Place, exchanges, facts_at, next_exchange, owed, terms_of, with_account, with_exchange, with_statements, with_status, with_talk, with_trial, without_end}
 use Rattle.my_reading.specs.Statements.{cleared}
 use Rattle.my_reading.specs.Told.{ToldReady}
 use Rattle.my_reading.specs.Transactions.{given_up, is_given_up, rollback_text, rolled_back}
 use Rattle.reading_laws.specs.Cleaned.{Leaves}
 use Rattle.reading_laws.specs.Kept.{leaves_open}
-use Rattle.reading_laws.proofs.Having.{StopsHave, begun_has, drains_have, either, reads_have}
-use Rattle.reading_laws.proofs.Knowing.{IsCleaning, AreCleaning, Reads, Drains, Undoes, Settles, GivesUp, Asks, Renews, Adopts, Clears, Known, known, after, after_all, Holds, given_up_is, rolled_back_is}
+use Rattle.reading_laws.proofs.Having.{StopsHave, begun_has, command_has, drains_have, either, reads_have}
+use Rattle.reading_laws.proofs.Knowing.{IsCleaning, AreCleaning, Reads, Drains, Undoes, Settles, GivesUp, Commands, Asks, Renews, Adopts, Clears, Known, known, after, after_all, Holds, given_up_is, rolled_back_is}
 use Rattle.reading_laws.proofs.Phases.{IsRefused}
 
 -- one of two steps, each with the answer that leads to it
@@ -124,6 +124,10 @@ module _ (P : Place → Type 0) where
       part_fine GiveUp GivesUp shows =
           Knowing parts (with_status (given_up p.status) p) (after GiveUp k) left
           (record { read = h.read; level = given_up_is k.level p.status h.level; uncached = h.uncached }) shows
+      part_fine Command Commands shows =
+          command_has IsFine p (stops p) call parts (next_exchange login call p)
+          (Knowing parts p (unread k) left (record { read = tt; level = h.level; uncached = h.uncached }) shows)
+          (λ t _. begun t shows)
       part_fine part (Asks text) shows =
           let t = queried (terms_of login (exchanges p)) text in
           begun_has IsFine p (stops p) call parts t (begun t shows)

@@ -4,7 +4,7 @@
 
 ghost use Rattle.reading_laws.specs.Batches.{BatchesAreExecutions};
 ghost use Rattle.reading_laws.specs.CleanTapes.{AreClean, AreUnclean};
-ghost use Rattle.reading_laws.specs.Cleaned.{ChangeRefreshes, CleanedIsClean, CleaningCleans, RenewalRefreshes};
+ghost use Rattle.reading_laws.specs.Cleaned.{ChangeRefreshes, CleanedIsClean, CleaningCleans, ConnectedIsClean, ConnectingCleans, DroppedIsClean, DroppingReads, RenewalRefreshes, RenewedIsClean};
 ghost use Rattle.reading_laws.specs.Found.{CachedIsReturned, OthersAreAskedFor};
 ghost use Rattle.reading_laws.specs.Kept.{OpenAreKept, SettledAreKept, StatementsAreKept};
 ghost use Rattle.reading_laws.specs.RightTapes.{AreRight};
@@ -36,8 +36,9 @@ pub fn wrong_tapes_are_refuted()
     ensures { AreWrong }
 {}
 
-/// A connection is clean once it is made and once its pool has cleaned it; it isn't while a call is open, rows or a lone OK's
-/// end are left, a transaction is open or was given up, nor once it is closed.
+/// A connection is clean once it is made, once its pool has cleaned it or renewed its session, and once a result was dropped;
+/// it isn't while a call is open, rows or a lone OK's end are left, a transaction is open or was given up, nor once it is closed.
+/// A call more begins where the tape before it ends.
 pub fn clean_tapes_are_told_apart()
     ensures clean { AreClean }
     ensures unclean { AreUnclean }
@@ -75,4 +76,16 @@ pub fn cleaned_connections_are_clean()
     ensures cleaned { CleaningCleans }
     ensures renewed { RenewalRefreshes }
     ensures changed { ChangeRefreshes }
+{}
+
+/// A connection is clean where the newest of its calls was a connect call that returned ready (`made`), and where it was a
+/// drop of a result's rest that returned ready, and there is no transaction (`dropped`). One that was clean is clean after
+/// a renewal that returned ready (`renewed`). For the first two: where there is no transaction, connecting leaves none and
+/// each response read whole (`connecting`), and a drop leaves each read whole (`dropping`).
+pub fn newest_call_leaves_clean()
+    ensures made { ConnectedIsClean }
+    ensures dropped { DroppedIsClean }
+    ensures renewed { RenewedIsClean }
+    ensures connecting { ConnectingCleans }
+    ensures dropping { DroppingReads }
 {}

@@ -1,4 +1,4 @@
-use Rattle.history_laws.proofs.Tying as law
+use Rattle.history_laws.proofs.Joining as law
 use Rattle.history_laws.proofs.exchanges_are_of_calls.Goals as goal
 
 pub returns : goal.returns

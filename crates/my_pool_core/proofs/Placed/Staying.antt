@@ -17,13 +17,13 @@ use Rattle.my_pool_parts.specs.declared.request.Standing.{Standing}
 use Rattle.my_pool_parts.specs.declared.request.Standing.TheVariants.{Asks, Waits, Woken, Dials, Checks}
 use Rattle.my_frame.specs.Lists.{without}
 use Rattle.my_pool_parts.specs.Lists.{found_is, how_many}
-use Rattle.my_pool_parts.specs.Connections.{has_number, is_connecting, is_checking, is_idle_place, is_leased_place, is_cleaning_place, is_over, latest_usable, retire}
+use Rattle.my_pool_parts.specs.Connections.{has_number, is_connecting, is_checking, is_idle_place, is_leased_place, is_cleaning_place, is_working_place, is_over, latest_usable, retire}
 use Rattle.my_pool_parts.specs.Requests.{has_age, waits_up_to, is_queued, has_waited}
 use Rattle.my_pool_core.specs.State.{State}
 use Rattle.my_pool_core.specs.Events.{Polled, times_of, poll_request, queued, sought, full_answer, is_full, take_returned, decide, done}
 use Rattle.my_pool_core.specs.Steps.{may, step}
 use Rattle.my_pool_core.specs.Sound.{IsSound, dials, dials_standing, checks, checks_standing}
-use Rattle.my_pool_core.specs.Owners.{Token, Free, Making, Looking, token, token_of, number_in, place_at, is_home_place, is_home, is_lease, is_held_place, is_working_place, is_working, mark_at}
+use Rattle.my_pool_core.specs.Owners.{Token, Free, Making, Looking, token, token_of, number_in, place_at, is_home_place, is_home, is_lease, is_held_place, is_working, mark_at}
 use Rattle.my_pool_core.specs.Moves.{IsMove, MayReturn, IsAgingMove, PolledPlaces, CancelledPlaces, TakenPlaces, is_due_place, is_ending_place, is_aged, verdict_place, is_verdict_on, IsKeeping}
 use Rattle.my_frame.proofs.Finding.{found-passes}
 use Rattle.my_pool_parts.proofs.Finding.{one, count-found, count-and, count-without}

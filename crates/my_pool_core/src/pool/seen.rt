@@ -1,8 +1,9 @@
 //! What is seen of a pool.
 
-ghost use Rattle.std.specs.Prelude.{◌≡◌, MatchOption, IfOk, find};
+ghost use Rattle.std.specs.Prelude.{◌≡◌, ◌<◌, ◌^◌, MatchOption, IfOk, find, length};
 ghost use Rattle.my_pool_parts.specs.Connections.{has_number};
 ghost use Rattle.my_pool_parts.specs.Requests.{has_age, IsRising};
+ghost use Rattle.my_pool_core.specs.Counted.{working};
 ghost use Rattle.my_pool_core.specs.Owners.{IsNextAt, IsNoneAt};
 ghost use Rattle.my_pool_core.specs.Sound.{IsSound};
 ghost use Rattle.my_pool_core.specs.Wakes.{waits, oldest_waiting};
@@ -71,6 +72,21 @@ impl Core {
         ensures rising { IsRising 0 self.now.requests }
     {
         self.requests.list(alloc)
+    }
+
+    /// How many requests are live.
+    pub fn count_live(&self) -> usize
+        ensures count { result ≡ length self.now.requests }
+        ensures small { result < 2 ^ 63 }
+    {
+        self.requests.len()
+    }
+
+    /// How many connections are being cleaned, reset or closed.
+    pub fn count_working(&self) -> usize
+        ensures { result ≡ working self.now }
+    {
+        self.connections.count_working()
     }
 
     /// Whether the pool is closed.

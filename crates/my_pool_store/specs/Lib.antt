@@ -1,0 +1,5 @@
+pub mod Noted
+pub mod Listed
+pub mod Woken
+pub mod Shelves
+pub mod Slots
