@@ -1,3 +1,4 @@
+pub mod Parts
 pub mod Stands
 pub mod Tapes
 pub mod Courses

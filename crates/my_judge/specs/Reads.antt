@@ -11,7 +11,7 @@ use Rattle.my_reading.specs.Place.{Place}
 use Rattle.my_reading.specs.Reading.{ReadCall, closed_answer, halt_of, is_closing}
 use Rattle.my_reading.specs.Tape.{Tape, TapeCall, Span, between, sent_to, taken_to}
 use Rattle.my_judge.specs.declared.reader.Reader.{Reader}
-use Rattle.my_machine.specs.declared.step.Stop.{Stop}
+use Rattle.my_judge.specs.declared.step.Stop.{Stop}
 use Rattle.my_judge.specs.Courses.{HaltIs}
 use Rattle.my_judge.specs.Stands.{IsAt}
 

@@ -61,4 +61,4 @@ module _ (login : Login) (t : TapeSeen) (cancelled : Bool) (w : Walk) where
 
 -- what was sent by then
 pub sent_so : (login : Login) (p : Place) (s : Stand) → IsAt login p s → length s.sent ≡ length p.sent
-sent_so login p s at = ap length at.sent_is
+sent_so login p s at = ap (λ (x : Stand). length x.sent) at.stand_is

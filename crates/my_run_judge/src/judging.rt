@@ -86,7 +86,7 @@ impl Walker {
         match act {
             Act::Wrong => Ok(false),
             Act::Skips(_) => Ok(true),
-            Act::Tells => Ok(is_told_by(&self.reader.stand.machine.facts, outcome)),
+            Act::Tells => Ok(is_told_by(&self.reader.stand.facts, outcome)),
             Act::Holds => Ok(is_dial(number, false, outcome, uses)),
             Act::Fails => Ok(is_dial(number, true, outcome, uses)),
             Act::Connects(_) => self.connects(alloc, login, number, tape, outcome, uses),

@@ -132,7 +132,7 @@ impl Walker {
         if !self.polls(alloc, login, number, tape, outcome, first, uses)? {
             return Ok(false);
         }
-        Ok(is_told_by(&self.reader.stand.machine.facts, outcome))
+        Ok(is_told_by(&self.reader.stand.facts, outcome))
     }
 
     // The call that passes over a set's rest is polled, and then the one that takes the next set.

@@ -94,7 +94,7 @@ impl Walker {
     fn is_taken(&self) -> bool
         ensures { IsTakenAt self.now result }
     {
-        let stand = &self.reader.stand.machine;
+        let stand = &self.reader.stand;
         !self.reader.closed
             && stand.taken
             && (stand.end_left || stand.context.spot == Reading::Rows)
