@@ -56,9 +56,8 @@ pub fn exchanges_are_of_calls()
     ensures { EachIsOwned }
 {}
 
-/// An option that is set holds; else the last row of the first set does with which the server answers the query for the settings,
-/// from the end of that set on. A connection that was made knows its settings, and once they
-/// are known they stay as they are.
+/// An option that is set holds. Else the server is asked: the last row of the first set of its answer holds, from the end of
+/// that set on. A connection that was made knows its settings, and once they are known they stay as they are.
 pub fn settings_are_known()
     ensures { EachIsSettled }
 {}
