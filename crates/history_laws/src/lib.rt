@@ -12,6 +12,7 @@ ghost use Rattle.history_laws.specs.Owners.{EachIsOwned};
 ghost use Rattle.history_laws.specs.Sent.{EachIsSaid, EachIsSent};
 ghost use Rattle.history_laws.specs.Settled.{EachIsSettled};
 ghost use Rattle.history_laws.specs.Taken.{EachIsSpelled};
+ghost use Rattle.history_laws.specs.Tried.{AreTried};
 
 /// What calls returned and passed over of the sets of a response is, set by set, what the response was at some moment.
 pub fn prefixes_are_given()
@@ -65,4 +66,10 @@ pub fn settings_are_known()
 /// All this holds of each tape that the reading accepts, of one list of its exchanges and one of its calls.
 pub fn each_tape_is_lawful()
     ensures { EachIsLawful }
+{}
+
+/// The definitions of these laws accept right values, and refute wrong ones: a call that was answered without an exchange, an
+/// exchange of no call, another command, a connection that wasn't set up, an answer to what wasn't sent, another limit.
+pub fn wrong_values_are_refuted()
+    ensures { AreTried }
 {}
