@@ -27,3 +27,4 @@ pub mod Unheard
 pub mod Fronting
 pub mod Hushing
 pub mod Gathering
+pub mod Trying

@@ -11,3 +11,4 @@ pub mod Settled
 pub mod Owners
 pub mod Lawful
 pub mod Fronts
+pub mod Tried
