@@ -16,9 +16,9 @@ pub fn count_rows<L: BlockingLink>(
 ) -> Result<u64, Error>
     requires { conn.old.pending ≡ None }
 {
-    conn.query(alloc, Blob::from_slice(alloc, query)?)?;
+    conn.send_query(alloc, Blob::from_slice(alloc, query)?)?;
     'rows: for count in 0..u64::MAX {
-        match conn.next(alloc)? {
+        match conn.next_row(alloc)? {
             NextAnswer::Row(_) => {}
             NextAnswer::SetEnd | NextAnswer::NoSet => return Ok(count),
         }

@@ -144,10 +144,10 @@ fn held_call<L: BlockingLink>(
             let lists = lists_of(alloc, rest)?;
             said(
                 alloc,
-                word_of(Calls::exec_batch(conn, alloc, statement, lists), held),
+                word_of(conn.exec_batch(alloc, statement, lists), held),
             )
         }
-        "close" => said(alloc, word_of(Calls::close(conn, alloc, statement), held)),
+        "close" => said(alloc, word_of(conn.close(alloc, statement), held)),
         _ => executed(alloc, conn, statement, name, rest),
     }
 }
@@ -163,7 +163,7 @@ fn ask_idle<L: BlockingLink>(
     let (name, rest) = call.split_once(' ').unwrap_or((call, ""));
     match name {
         "prep" => {
-            let prepared = Calls::prep(conn, alloc, blob_of(alloc, rest));
+            let prepared = conn.prep(alloc, blob_of(alloc, rest));
             said(alloc, word_of(prepared, held))
         }
         "lend" => lend(alloc, conn, held, rest),

@@ -37,15 +37,15 @@ fn wait_held<L: BlockingLink>(
         return "unheld";
     };
     match name {
-        "execute" => { word_of(conn.execute(alloc, statement, params_of(alloc, rest)), held) }
+        "execute" => { word_of(conn.send_execution(alloc, statement, params_of(alloc, rest)), held) }
         "batch" => match lists_of(alloc, rest) {
-            Ok(lists) => word_of(conn.execute_batch(alloc, statement, lists), held),
+            Ok(lists) => word_of(conn.send_batch(alloc, statement, lists), held),
             Err(_) => {
                 drop(statement);
                 "memory"
             }
         },
-        _ => word_of(conn.close_statement(alloc, statement), held),
+        _ => word_of(conn.send_close(alloc, statement), held),
     }
 }
 
@@ -59,11 +59,11 @@ fn wait_idle<L: BlockingLink>(
 {
     let (name, rest) = call.split_once(' ').unwrap_or((call, ""));
     match name {
-        "query" => word_of(conn.query(alloc, blob_of(alloc, rest)), held),
-        "prepare" => word_of(conn.prepare(alloc, blob_of(alloc, rest)), held),
-        "next" => word_of(conn.next(alloc), held),
-        "stream" => word_of(conn.stream(alloc), held),
-        "drop" => word_of(conn.drop_result(alloc), held),
+        "query" => word_of(conn.send_query(alloc, blob_of(alloc, rest)), held),
+        "prepare" => word_of(conn.send_prepare(alloc, blob_of(alloc, rest)), held),
+        "next" => word_of(conn.next_row(alloc), held),
+        "stream" => word_of(conn.take_set(alloc), held),
+        "drop" => word_of(conn.drop_rest(alloc), held),
         "ping" => word_of(conn.ping(alloc), held),
         "reset" => word_of(conn.reset(alloc), held),
         "user" => word_of(conn.change_user(alloc, change_of(alloc, rest)), held),

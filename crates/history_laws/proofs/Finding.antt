@@ -2,12 +2,16 @@
 use Rattle.std.proofs.Common.{◌≡◌, ℕ, suc, zero, List, [], ◌∷◌, ◌++◌, length, Bool, true, false, cond, Option, refl, sym, ap, ◌∙◌, subst, append_assoc}
 use Rattle.my_frame.specs.Front.{Front, Waiting, Broken, Whole}
 use Rattle.my_grammar.proofs.Sound.{exchange_is_cut, over_is_cut}
+use Rattle.my_frame.specs.FrontLaws.{AreBytes}
+use Rattle.my_grammar.specs.declared.login.Login.{Login}
 use Rattle.my_grammar.specs.Contexts.{is_bad}
 use Rattle.my_grammar.specs.Cut.{Cut, Read, cut, cut_after, front_of, is_over, kind_of, onto, read_from, read_front, read_within, rest_of}
 use Rattle.my_grammar.specs.Growth.{grow}
 use Rattle.my_grammar.specs.Talk.{Talk, Fits, origin, server_bytes, turns}
+use Rattle.my_reading.specs.Endings.{IsTape}
 use Rattle.my_reading.specs.Place.{Exchange, Place, exchanges}
 use Rattle.my_reading.specs.Reading.{reading}
+use Rattle.my_reading.specs.Tape.{Tape}
 use Rattle.history_laws.specs.Found.{AreGivenIn, EachIsFound, in_order, origins}
 use Rattle.history_laws.specs.Given.{AreGiven, IsGiven}
 use Rattle.history_laws.specs.Groups.{Group}
@@ -93,18 +97,17 @@ given_found : (gs : List (Option (List Group))) (e : Exchange) (es : List Exchan
 given_found [] e es unread w = absurd w
 given_found (g ∷ gs) e es unread w = given_on_end (in_order gs) (in_order (talks es)) g (read_from e.talk unread).talk (older_given gs es w.1) (from_given g e.talk unread w.0)
 
-pub each_is_found : EachIsFound
-each_is_found login t are w =
+pub shares_found : (login : Login) (t : Tape) → AreBytes t.taken → IsTape login t → (gs : List (Option (List Group))) → AreGiven gs (exchanges (reading login t).place)
+    → AreGivenIn (in_order gs) (cut (in_order (origins (exchanges (reading login t).place))) t.taken).talks
+shares_found login t are w gs each =
     let p : Place = (reading login t).place in
     let newest : Exchange = record { call = p.call; talk = p.talk } in
-    let gave = each_tape_gives login t w in
     let orderly = each_is_orderly login t in
     let found : (cut (in_order (origins (exchanges p))) t.taken).talks ≡ in_order (talks p.older) ++ (read_from p.talk p.unread).talk ∷ []
     = ap (λ bs. (cut (in_order (origins (exchanges p))) bs).talks) (sym (each_is_spelled login t are w.order)) ∙ all_found newest p.older p.unread orderly.done orderly.fits in
-    record {
-      made = gave.made;
-      of_calls = gave.of_calls;
-      shares = gave.shares;
-      given_is = gave.given_is;
-      found = subst (λ ts. AreGivenIn (in_order gave.shares) ts) (sym found) (given_found gave.shares newest p.older p.unread gave.each);
-    }
+    subst (λ ts. AreGivenIn (in_order gs) ts) (sym found) (given_found gs newest p.older p.unread each)
+
+pub each_is_found : EachIsFound
+each_is_found login t are w =
+    let gave = each_tape_gives login t w in
+    record { made = gave.made; of_calls = gave.of_calls; shares = gave.shares; given_is = gave.given_is; found = shares_found login t are w gave.shares gave.each }

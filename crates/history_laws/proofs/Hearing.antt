@@ -60,7 +60,7 @@ record Comes (p : Place) (k : Kind) (q : List ℕ) : Type 0 where
   short : length q ≤ limit_of p.talk
 
 -- nothing is read of an exchange that is over
-idle_bad : (s : Spot) (rows : RowFormat) (d : Bool) (n : ℕ) (columns : List ColumnPacket) (q : List ℕ) (k : Kind) → kind_by s rows d n columns q ≡ k → is_bad k ≡ false → is_idle s ≡ false
+pub idle_bad : (s : Spot) (rows : RowFormat) (d : Bool) (n : ℕ) (columns : List ColumnPacket) (q : List ℕ) (k : Kind) → kind_by s rows d n columns q ≡ k → is_bad k ≡ false → is_idle s ≡ false
 idle_bad spots.Idle rows d n columns q k e good = let bad : is_bad k ≡ true = ap is_bad (sym e) in cc
 idle_bad spots.Greeting rows d n columns q k e good = refl
 idle_bad spots.Authentication rows d n columns q k e good = refl

@@ -13,3 +13,10 @@ pub mod Finding
 pub mod Blaming
 pub mod Hearing
 pub mod Telling
+pub mod Shaping
+pub mod Owning
+pub mod Parts
+pub mod Connecting
+pub mod Tying
+pub mod Merging
+pub mod Gathering

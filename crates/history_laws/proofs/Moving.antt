@@ -46,6 +46,7 @@ pub record IsAlike (p q : Place) : Type 0 where
   pub older : q.older ≡ p.older
   pub unread : q.unread ≡ p.unread
   pub sent : q.sent ≡ p.sent
+  pub call : q.call ≡ p.call
 
 -- an exchange that begins: nothing was received of it
 pub record IsNew (t : Talk) : Type 0 where
@@ -53,11 +54,12 @@ pub record IsNew (t : Talk) : Type 0 where
   pub silent : server_bytes (turns t) ≡ []
   pub origin_is : origin t ≡ t
 
+-- While bytes are owed nothing is read and nothing begins.
 pub data Moved (p : Place) : Place → Type 0 where
   Alters : (q : Place) → IsAlike p q → Moved p q
-  Takes : (q : Place) (k : Kind) (payload rest : List ℕ) (next : ℕ) → front_of p.talk p.unread ≡ Whole payload rest next → payload_kind p.talk payload ≡ k → is_bad k ≡ false
+  Takes : (q : Place) (k : Kind) (payload rest : List ℕ) (next : ℕ) → owed p ≡ [] → front_of p.talk p.unread ≡ Whole payload rest next → payload_kind p.talk payload ≡ k → is_bad k ≡ false
       → IsAlike (with_talk p (grow k p.talk payload) rest) q → Moved p q
-  Begins : (q : Place) (call : Call) (t : Talk) → IsNew t → IsAlike (with_exchange p call t) q → Moved p q
+  Begins : (q : Place) (call : Call) (t : Talk) → owed p ≡ [] → IsNew t → IsAlike (with_exchange p call t) q → Moved p q
 
 abbrev pub place_of : Step → Place
 place_of (Goes parts q) = q
@@ -107,9 +109,9 @@ opened_new login terms st CleanForPool n t e = cc
 opened_new login terms st ResetForPool n t e = cc
 opened_new login terms st Quit n t e = some_new _ t (record { fits = record { kinds = tt; within = tt }; silent = refl; origin_is = refl }) e
 
-module _ (p : Place) where
+module _ (p : Place) (paid : owed p ≡ []) where
   stays : Moved p p
-  stays = Alters p (record { talk = refl; older = refl; unread = refl; sent = refl })
+  stays = Alters p (record { talk = refl; older = refl; unread = refl; sent = refl; call = refl })
 
   alike : (q : Place) → IsAlike p q → Moved p q
   alike q a = Alters q a
@@ -120,12 +122,12 @@ module _ (p : Place) where
     new k = with_talk p (grow k p.talk payload) rest
 
     took : (k : Kind) → payload_kind p.talk payload ≡ k → is_bad k ≡ false → (q : Place) → IsAlike (new k) q → Moved p q
-    took k e good q a = Takes q k payload rest next front e good a
+    took k e good q a = Takes q k payload rest next paid front e good a
 
     refused_moves : payload_kind p.talk payload ≡ kinds.Failed → (x : Trial) (e : ServerError) → Moved p (place_of (refused_at x (new kinds.Failed) e))
-    refused_moves i trials.Off e = took kinds.Failed i refl _ (record { talk = refl; older = refl; unread = refl; sent = refl })
-    refused_moves i trials.On e = took kinds.Failed i refl _ (record { talk = refl; older = refl; unread = refl; sent = refl })
-    refused_moves i (trials.Refused first) e = took kinds.Failed i refl _ (record { talk = refl; older = refl; unread = refl; sent = refl })
+    refused_moves i trials.Off e = took kinds.Failed i refl _ (record { talk = refl; older = refl; unread = refl; sent = refl; call = refl })
+    refused_moves i trials.On e = took kinds.Failed i refl _ (record { talk = refl; older = refl; unread = refl; sent = refl; call = refl })
+    refused_moves i (trials.Refused first) e = took kinds.Failed i refl _ (record { talk = refl; older = refl; unread = refl; sent = refl; call = refl })
 
     err_moves : payload_kind p.talk payload ≡ kinds.Failed → (o : Option ErrPacket) → Moved p (place_of (after_err login p (new kinds.Failed) o))
     err_moves i None = stays
@@ -133,7 +135,7 @@ module _ (p : Place) where
 
     dropped_moves : payload_kind p.talk payload ≡ kinds.Failed → (o : Option ErrPacket) → Moved p (place_of (dropped_at login parts p (new kinds.Failed) o))
     dropped_moves i None = stays
-    dropped_moves i (Some e) = took kinds.Failed i refl _ (record { talk = refl; older = refl; unread = refl; sent = refl })
+    dropped_moves i (Some e) = took kinds.Failed i refl _ (record { talk = refl; older = refl; unread = refl; sent = refl; call = refl })
 
     failed_moves : payload_kind p.talk payload ≡ kinds.Failed → (b : Bool) (o : Option ErrPacket) → Moved p (place_of (cond b (dropped_at login parts p (new kinds.Failed) o) (after_err login p (new kinds.Failed) o)))
     failed_moves i true o = dropped_moves i o
@@ -141,78 +143,78 @@ module _ (p : Place) where
 
     long_moves : (n : CapabilityFlags) → payload_kind p.talk payload ≡ kinds.Greets n → (b : Bool) (e : Error) → Moved p (place_of (cond b (failure p e) (Goes (part ∷ parts) (new (kinds.Greets n)))))
     long_moves n i true e = stays
-    long_moves n i false e = took (kinds.Greets n) i refl _ (record { talk = refl; older = refl; unread = refl; sent = refl })
+    long_moves n i false e = took (kinds.Greets n) i refl _ (record { talk = refl; older = refl; unread = refl; sent = refl; call = refl })
 
     cached_moves : (m n : ℕ) → payload_kind p.talk payload ≡ kinds.Prepared m n → (o : Option PrepareOk) → Moved p (place_of (unless_cached login p o (Goes (part ∷ parts) (new (kinds.Prepared m n)))))
-    cached_moves m n i None = took (kinds.Prepared m n) i refl _ (record { talk = refl; older = refl; unread = refl; sent = refl })
+    cached_moves m n i None = took (kinds.Prepared m n) i refl _ (record { talk = refl; older = refl; unread = refl; sent = refl; call = refl })
     cached_moves m n i (Some ok) = by_id (is_cached p.statements ok.id)
       where
         by_id : (b : Bool) → Moved p (place_of (cond b (unfit login p) (Goes (part ∷ parts) (new (kinds.Prepared m n)))))
         by_id true = stays
-        by_id false = took (kinds.Prepared m n) i refl _ (record { talk = refl; older = refl; unread = refl; sent = refl })
+        by_id false = took (kinds.Prepared m n) i refl _ (record { talk = refl; older = refl; unread = refl; sent = refl; call = refl })
 
     kind_moves : (x : Part) (k : Kind) (row : Told) → payload_kind p.talk payload ≡ k → is_bad k ≡ false → Moved p (place_of (after_kind x parts k (new k) row))
-    kind_moves Head (kinds.Greets n) row i good = took (kinds.Greets n) i good _ (record { talk = refl; older = refl; unread = refl; sent = refl })
-    kind_moves Head (kinds.Good s) row i good = took (kinds.Good s) i good _ (record { talk = refl; older = refl; unread = refl; sent = refl })
-    kind_moves Head kinds.Failed row i good = took kinds.Failed i good _ (record { talk = refl; older = refl; unread = refl; sent = refl })
-    kind_moves Head (kinds.Count n) row i good = took (kinds.Count n) i good _ (record { talk = refl; older = refl; unread = refl; sent = refl })
-    kind_moves Head kinds.Column row i good = took kinds.Column i good _ (record { talk = refl; older = refl; unread = refl; sent = refl })
-    kind_moves Head kinds.ColumnsDone row i good = took kinds.ColumnsDone i good _ (record { talk = refl; older = refl; unread = refl; sent = refl })
-    kind_moves Head kinds.Row row i good = took kinds.Row i good _ (record { talk = refl; older = refl; unread = refl; sent = refl })
-    kind_moves Head (kinds.End s) row i good = took (kinds.End s) i good _ (record { talk = refl; older = refl; unread = refl; sent = refl })
-    kind_moves Head (kinds.Prepared m n) row i good = took (kinds.Prepared m n) i good _ (record { talk = refl; older = refl; unread = refl; sent = refl })
-    kind_moves Head kinds.Parameter row i good = took kinds.Parameter i good _ (record { talk = refl; older = refl; unread = refl; sent = refl })
-    kind_moves Head kinds.Field row i good = took kinds.Field i good _ (record { talk = refl; older = refl; unread = refl; sent = refl })
-    kind_moves Head kinds.Bad row i good = took kinds.Bad i good _ (record { talk = refl; older = refl; unread = refl; sent = refl })
-    kind_moves Item (kinds.Greets n) row i good = took (kinds.Greets n) i good _ (record { talk = refl; older = refl; unread = refl; sent = refl })
-    kind_moves Item (kinds.Good s) row i good = took (kinds.Good s) i good _ (record { talk = refl; older = refl; unread = refl; sent = refl })
-    kind_moves Item kinds.Failed row i good = took kinds.Failed i good _ (record { talk = refl; older = refl; unread = refl; sent = refl })
-    kind_moves Item (kinds.Count n) row i good = took (kinds.Count n) i good _ (record { talk = refl; older = refl; unread = refl; sent = refl })
-    kind_moves Item kinds.Column row i good = took kinds.Column i good _ (record { talk = refl; older = refl; unread = refl; sent = refl })
-    kind_moves Item kinds.ColumnsDone row i good = took kinds.ColumnsDone i good _ (record { talk = refl; older = refl; unread = refl; sent = refl })
-    kind_moves Item kinds.Row row i good = took kinds.Row i good _ (record { talk = refl; older = refl; unread = refl; sent = refl })
-    kind_moves Item (kinds.End s) row i good = took (kinds.End s) i good _ (record { talk = refl; older = refl; unread = refl; sent = refl })
-    kind_moves Item (kinds.Prepared m n) row i good = took (kinds.Prepared m n) i good _ (record { talk = refl; older = refl; unread = refl; sent = refl })
-    kind_moves Item kinds.Parameter row i good = took kinds.Parameter i good _ (record { talk = refl; older = refl; unread = refl; sent = refl })
-    kind_moves Item kinds.Field row i good = took kinds.Field i good _ (record { talk = refl; older = refl; unread = refl; sent = refl })
-    kind_moves Item kinds.Bad row i good = took kinds.Bad i good _ (record { talk = refl; older = refl; unread = refl; sent = refl })
-    kind_moves Set (kinds.Greets n) row i good = took (kinds.Greets n) i good _ (record { talk = refl; older = refl; unread = refl; sent = refl })
-    kind_moves Set (kinds.Good s) row i good = took (kinds.Good s) i good _ (record { talk = refl; older = refl; unread = refl; sent = refl })
-    kind_moves Set kinds.Failed row i good = took kinds.Failed i good _ (record { talk = refl; older = refl; unread = refl; sent = refl })
-    kind_moves Set (kinds.Count n) row i good = took (kinds.Count n) i good _ (record { talk = refl; older = refl; unread = refl; sent = refl })
-    kind_moves Set kinds.Column row i good = took kinds.Column i good _ (record { talk = refl; older = refl; unread = refl; sent = refl })
-    kind_moves Set kinds.ColumnsDone row i good = took kinds.ColumnsDone i good _ (record { talk = refl; older = refl; unread = refl; sent = refl })
-    kind_moves Set kinds.Row row i good = took kinds.Row i good _ (record { talk = refl; older = refl; unread = refl; sent = refl })
-    kind_moves Set (kinds.End s) row i good = took (kinds.End s) i good _ (record { talk = refl; older = refl; unread = refl; sent = refl })
-    kind_moves Set (kinds.Prepared m n) row i good = took (kinds.Prepared m n) i good _ (record { talk = refl; older = refl; unread = refl; sent = refl })
-    kind_moves Set kinds.Parameter row i good = took kinds.Parameter i good _ (record { talk = refl; older = refl; unread = refl; sent = refl })
-    kind_moves Set kinds.Field row i good = took kinds.Field i good _ (record { talk = refl; older = refl; unread = refl; sent = refl })
-    kind_moves Set kinds.Bad row i good = took kinds.Bad i good _ (record { talk = refl; older = refl; unread = refl; sent = refl })
-    kind_moves All k row i good = took k i good _ (record { talk = refl; older = refl; unread = refl; sent = refl })
-    kind_moves Rest k row i good = took k i good _ (record { talk = refl; older = refl; unread = refl; sent = refl })
-    kind_moves Command k row i good = took k i good _ (record { talk = refl; older = refl; unread = refl; sent = refl })
-    kind_moves Find k row i good = took k i good _ (record { talk = refl; older = refl; unread = refl; sent = refl })
-    kind_moves (Check params) k row i good = took k i good _ (record { talk = refl; older = refl; unread = refl; sent = refl })
-    kind_moves (Run params) k row i good = took k i good _ (record { talk = refl; older = refl; unread = refl; sent = refl })
-    kind_moves Reply k row i good = took k i good _ (record { talk = refl; older = refl; unread = refl; sent = refl })
-    kind_moves Keep k row i good = took k i good _ (record { talk = refl; older = refl; unread = refl; sent = refl })
-    kind_moves Give k row i good = took k i good _ (record { talk = refl; older = refl; unread = refl; sent = refl })
-    kind_moves Learn k row i good = took k i good _ (record { talk = refl; older = refl; unread = refl; sent = refl })
-    kind_moves Forget k row i good = took k i good _ (record { talk = refl; older = refl; unread = refl; sent = refl })
-    kind_moves Offered k row i good = took k i good _ (record { talk = refl; older = refl; unread = refl; sent = refl })
-    kind_moves Clear k row i good = took k i good _ (record { talk = refl; older = refl; unread = refl; sent = refl })
-    kind_moves (Text text) k row i good = took k i good _ (record { talk = refl; older = refl; unread = refl; sent = refl })
-    kind_moves (Flag flag) k row i good = took k i good _ (record { talk = refl; older = refl; unread = refl; sent = refl })
-    kind_moves (Adopt change) k row i good = took k i good _ (record { talk = refl; older = refl; unread = refl; sent = refl })
-    kind_moves Renew k row i good = took k i good _ (record { talk = refl; older = refl; unread = refl; sent = refl })
-    kind_moves Drain k row i good = took k i good _ (record { talk = refl; older = refl; unread = refl; sent = refl })
-    kind_moves Undo k row i good = took k i good _ (record { talk = refl; older = refl; unread = refl; sent = refl })
-    kind_moves Undone k row i good = took k i good _ (record { talk = refl; older = refl; unread = refl; sent = refl })
-    kind_moves (Refuse opts) k row i good = took k i good _ (record { talk = refl; older = refl; unread = refl; sent = refl })
-    kind_moves (Settle status) k row i good = took k i good _ (record { talk = refl; older = refl; unread = refl; sent = refl })
-    kind_moves GiveUp k row i good = took k i good _ (record { talk = refl; older = refl; unread = refl; sent = refl })
-    kind_moves Try k row i good = took k i good _ (record { talk = refl; older = refl; unread = refl; sent = refl })
-    kind_moves Back k row i good = took k i good _ (record { talk = refl; older = refl; unread = refl; sent = refl })
+    kind_moves Head (kinds.Greets n) row i good = took (kinds.Greets n) i good _ (record { talk = refl; older = refl; unread = refl; sent = refl; call = refl })
+    kind_moves Head (kinds.Good s) row i good = took (kinds.Good s) i good _ (record { talk = refl; older = refl; unread = refl; sent = refl; call = refl })
+    kind_moves Head kinds.Failed row i good = took kinds.Failed i good _ (record { talk = refl; older = refl; unread = refl; sent = refl; call = refl })
+    kind_moves Head (kinds.Count n) row i good = took (kinds.Count n) i good _ (record { talk = refl; older = refl; unread = refl; sent = refl; call = refl })
+    kind_moves Head kinds.Column row i good = took kinds.Column i good _ (record { talk = refl; older = refl; unread = refl; sent = refl; call = refl })
+    kind_moves Head kinds.ColumnsDone row i good = took kinds.ColumnsDone i good _ (record { talk = refl; older = refl; unread = refl; sent = refl; call = refl })
+    kind_moves Head kinds.Row row i good = took kinds.Row i good _ (record { talk = refl; older = refl; unread = refl; sent = refl; call = refl })
+    kind_moves Head (kinds.End s) row i good = took (kinds.End s) i good _ (record { talk = refl; older = refl; unread = refl; sent = refl; call = refl })
+    kind_moves Head (kinds.Prepared m n) row i good = took (kinds.Prepared m n) i good _ (record { talk = refl; older = refl; unread = refl; sent = refl; call = refl })
+    kind_moves Head kinds.Parameter row i good = took kinds.Parameter i good _ (record { talk = refl; older = refl; unread = refl; sent = refl; call = refl })
+    kind_moves Head kinds.Field row i good = took kinds.Field i good _ (record { talk = refl; older = refl; unread = refl; sent = refl; call = refl })
+    kind_moves Head kinds.Bad row i good = took kinds.Bad i good _ (record { talk = refl; older = refl; unread = refl; sent = refl; call = refl })
+    kind_moves Item (kinds.Greets n) row i good = took (kinds.Greets n) i good _ (record { talk = refl; older = refl; unread = refl; sent = refl; call = refl })
+    kind_moves Item (kinds.Good s) row i good = took (kinds.Good s) i good _ (record { talk = refl; older = refl; unread = refl; sent = refl; call = refl })
+    kind_moves Item kinds.Failed row i good = took kinds.Failed i good _ (record { talk = refl; older = refl; unread = refl; sent = refl; call = refl })
+    kind_moves Item (kinds.Count n) row i good = took (kinds.Count n) i good _ (record { talk = refl; older = refl; unread = refl; sent = refl; call = refl })
+    kind_moves Item kinds.Column row i good = took kinds.Column i good _ (record { talk = refl; older = refl; unread = refl; sent = refl; call = refl })
+    kind_moves Item kinds.ColumnsDone row i good = took kinds.ColumnsDone i good _ (record { talk = refl; older = refl; unread = refl; sent = refl; call = refl })
+    kind_moves Item kinds.Row row i good = took kinds.Row i good _ (record { talk = refl; older = refl; unread = refl; sent = refl; call = refl })
+    kind_moves Item (kinds.End s) row i good = took (kinds.End s) i good _ (record { talk = refl; older = refl; unread = refl; sent = refl; call = refl })
+    kind_moves Item (kinds.Prepared m n) row i good = took (kinds.Prepared m n) i good _ (record { talk = refl; older = refl; unread = refl; sent = refl; call = refl })
+    kind_moves Item kinds.Parameter row i good = took kinds.Parameter i good _ (record { talk = refl; older = refl; unread = refl; sent = refl; call = refl })
+    kind_moves Item kinds.Field row i good = took kinds.Field i good _ (record { talk = refl; older = refl; unread = refl; sent = refl; call = refl })
+    kind_moves Item kinds.Bad row i good = took kinds.Bad i good _ (record { talk = refl; older = refl; unread = refl; sent = refl; call = refl })
+    kind_moves Set (kinds.Greets n) row i good = took (kinds.Greets n) i good _ (record { talk = refl; older = refl; unread = refl; sent = refl; call = refl })
+    kind_moves Set (kinds.Good s) row i good = took (kinds.Good s) i good _ (record { talk = refl; older = refl; unread = refl; sent = refl; call = refl })
+    kind_moves Set kinds.Failed row i good = took kinds.Failed i good _ (record { talk = refl; older = refl; unread = refl; sent = refl; call = refl })
+    kind_moves Set (kinds.Count n) row i good = took (kinds.Count n) i good _ (record { talk = refl; older = refl; unread = refl; sent = refl; call = refl })
+    kind_moves Set kinds.Column row i good = took kinds.Column i good _ (record { talk = refl; older = refl; unread = refl; sent = refl; call = refl })
+    kind_moves Set kinds.ColumnsDone row i good = took kinds.ColumnsDone i good _ (record { talk = refl; older = refl; unread = refl; sent = refl; call = refl })
+    kind_moves Set kinds.Row row i good = took kinds.Row i good _ (record { talk = refl; older = refl; unread = refl; sent = refl; call = refl })
+    kind_moves Set (kinds.End s) row i good = took (kinds.End s) i good _ (record { talk = refl; older = refl; unread = refl; sent = refl; call = refl })
+    kind_moves Set (kinds.Prepared m n) row i good = took (kinds.Prepared m n) i good _ (record { talk = refl; older = refl; unread = refl; sent = refl; call = refl })
+    kind_moves Set kinds.Parameter row i good = took kinds.Parameter i good _ (record { talk = refl; older = refl; unread = refl; sent = refl; call = refl })
+    kind_moves Set kinds.Field row i good = took kinds.Field i good _ (record { talk = refl; older = refl; unread = refl; sent = refl; call = refl })
+    kind_moves Set kinds.Bad row i good = took kinds.Bad i good _ (record { talk = refl; older = refl; unread = refl; sent = refl; call = refl })
+    kind_moves All k row i good = took k i good _ (record { talk = refl; older = refl; unread = refl; sent = refl; call = refl })
+    kind_moves Rest k row i good = took k i good _ (record { talk = refl; older = refl; unread = refl; sent = refl; call = refl })
+    kind_moves Command k row i good = took k i good _ (record { talk = refl; older = refl; unread = refl; sent = refl; call = refl })
+    kind_moves Find k row i good = took k i good _ (record { talk = refl; older = refl; unread = refl; sent = refl; call = refl })
+    kind_moves (Check params) k row i good = took k i good _ (record { talk = refl; older = refl; unread = refl; sent = refl; call = refl })
+    kind_moves (Run params) k row i good = took k i good _ (record { talk = refl; older = refl; unread = refl; sent = refl; call = refl })
+    kind_moves Reply k row i good = took k i good _ (record { talk = refl; older = refl; unread = refl; sent = refl; call = refl })
+    kind_moves Keep k row i good = took k i good _ (record { talk = refl; older = refl; unread = refl; sent = refl; call = refl })
+    kind_moves Give k row i good = took k i good _ (record { talk = refl; older = refl; unread = refl; sent = refl; call = refl })
+    kind_moves Learn k row i good = took k i good _ (record { talk = refl; older = refl; unread = refl; sent = refl; call = refl })
+    kind_moves Forget k row i good = took k i good _ (record { talk = refl; older = refl; unread = refl; sent = refl; call = refl })
+    kind_moves Offered k row i good = took k i good _ (record { talk = refl; older = refl; unread = refl; sent = refl; call = refl })
+    kind_moves Clear k row i good = took k i good _ (record { talk = refl; older = refl; unread = refl; sent = refl; call = refl })
+    kind_moves (Text text) k row i good = took k i good _ (record { talk = refl; older = refl; unread = refl; sent = refl; call = refl })
+    kind_moves (Flag flag) k row i good = took k i good _ (record { talk = refl; older = refl; unread = refl; sent = refl; call = refl })
+    kind_moves (Adopt change) k row i good = took k i good _ (record { talk = refl; older = refl; unread = refl; sent = refl; call = refl })
+    kind_moves Renew k row i good = took k i good _ (record { talk = refl; older = refl; unread = refl; sent = refl; call = refl })
+    kind_moves Drain k row i good = took k i good _ (record { talk = refl; older = refl; unread = refl; sent = refl; call = refl })
+    kind_moves Undo k row i good = took k i good _ (record { talk = refl; older = refl; unread = refl; sent = refl; call = refl })
+    kind_moves Undone k row i good = took k i good _ (record { talk = refl; older = refl; unread = refl; sent = refl; call = refl })
+    kind_moves (Refuse opts) k row i good = took k i good _ (record { talk = refl; older = refl; unread = refl; sent = refl; call = refl })
+    kind_moves (Settle status) k row i good = took k i good _ (record { talk = refl; older = refl; unread = refl; sent = refl; call = refl })
+    kind_moves GiveUp k row i good = took k i good _ (record { talk = refl; older = refl; unread = refl; sent = refl; call = refl })
+    kind_moves Try k row i good = took k i good _ (record { talk = refl; older = refl; unread = refl; sent = refl; call = refl })
+    kind_moves Back k row i good = took k i good _ (record { talk = refl; older = refl; unread = refl; sent = refl; call = refl })
 
     payload_moves : (k : Kind) → payload_kind p.talk payload ≡ k → Moved p (place_of (after_payload login part parts p (new k) payload k))
     payload_moves kinds.Bad i = stays
@@ -249,10 +251,10 @@ module _ (p : Place) where
 
   module _ (call : Call) (parts : List Part) where
     begins_here : (t : Talk) → IsNew t → Moved p (with_exchange p call t)
-    begins_here t n = Begins (with_exchange p call t) call t n (record { talk = refl; older = refl; unread = refl; sent = refl })
+    begins_here t n = Begins (with_exchange p call t) call t paid n (record { talk = refl; older = refl; unread = refl; sent = refl; call = refl })
 
     here_moves : (x : Option Talk) → ((t : Talk) → x ≡ Some t → IsNew t) → Moved p (place_of (with_command call parts p x))
-    here_moves x fresh = command_moves p (record { talk = refl; older = refl; unread = refl; sent = refl }) call parts begins_here x fresh
+    here_moves x fresh = command_moves p (record { talk = refl; older = refl; unread = refl; sent = refl; call = refl }) call parts begins_here x fresh
 
     one_moves : (t : Talk) → IsNew t → Moved p (place_of (with_command call parts p (Some t)))
     one_moves t n = here_moves (Some t) (λ u e. some_new t u n e)
@@ -268,7 +270,7 @@ module _ (p : Place) where
 
     found_moves : (text : List ℕ) (h : Option Held) → Moved p (place_of (found parts p text h))
     found_moves text None = stays
-    found_moves text (Some h) = Alters _ (record { talk = refl; older = refl; unread = refl; sent = refl })
+    found_moves text (Some h) = Alters _ (record { talk = refl; older = refl; unread = refl; sent = refl; call = refl })
 
     offered_moves : (b : Bool) → Moved p (place_of (offered parts p b))
     offered_moves true = stays
@@ -285,24 +287,24 @@ module _ (p : Place) where
     returned_moves : (x : Trial) → Moved p (place_of (returned p x))
     returned_moves trials.Off = stays
     returned_moves trials.On = stays
-    returned_moves (trials.Refused first) = Alters _ (record { talk = refl; older = refl; unread = refl; sent = refl })
+    returned_moves (trials.Refused first) = Alters _ (record { talk = refl; older = refl; unread = refl; sent = refl; call = refl })
 
     learned_moves : (b : Bool) (st : Statements) → Moved p (cond b (with_statements st p) p)
-    learned_moves true st = Alters _ (record { talk = refl; older = refl; unread = refl; sent = refl })
+    learned_moves true st = Alters _ (record { talk = refl; older = refl; unread = refl; sent = refl; call = refl })
     learned_moves false st = stays
 
     kept_moves : (st : Statements) (terms : Terms) (x : Option ℕ) → Moved p (place_of (with_command (Prepare (text_in c)) parts (with_statements st p) (closing_of terms x)))
-    kept_moves st terms x = command_moves (with_statements st p) (record { talk = refl; older = refl; unread = refl; sent = refl }) (Prepare (text_in c)) parts
-        (λ t n. Begins (with_exchange (with_statements st p) (Prepare (text_in c)) t) (Prepare (text_in c)) t n (record { talk = refl; older = refl; unread = refl; sent = refl })) (closing_of terms x) (closing_new terms x)
+    kept_moves st terms x = command_moves (with_statements st p) (record { talk = refl; older = refl; unread = refl; sent = refl; call = refl }) (Prepare (text_in c)) parts
+        (λ t n. Begins (with_exchange (with_statements st p) (Prepare (text_in c)) t) (Prepare (text_in c)) t paid n (record { talk = refl; older = refl; unread = refl; sent = refl; call = refl })) (closing_of terms x) (closing_new terms x)
 
   -- each part
   part_moves : (login : Login) (c : Call) (parts : List Part) → Moved p (place_of (step_of login c parts p))
   part_moves login c [] = stays
-  part_moves login c (All ∷ parts) = if_moves login c parts p.end_left _ _ (Alters (without_end p) (record { talk = refl; older = refl; unread = refl; sent = refl })) (if_moves login c parts (is_over p.talk) _ _ stays (reads_move login All parts))
+  part_moves login c (All ∷ parts) = if_moves login c parts p.end_left _ _ (Alters (without_end p) (record { talk = refl; older = refl; unread = refl; sent = refl; call = refl })) (if_moves login c parts (is_over p.talk) _ _ stays (reads_move login All parts))
   part_moves login c (Head ∷ parts) = if_moves login c parts (is_rows (context_of p.talk).spot) _ _ stays (reads_move login Head parts)
-  part_moves login c (Item ∷ parts) = if_moves login c parts p.end_left _ _ (Alters (without_end p) (record { talk = refl; older = refl; unread = refl; sent = refl })) (if_moves login c parts (is_over p.talk) _ _ stays (reads_move login Item parts))
-  part_moves login c (Set ∷ parts) = if_moves login c parts (p.end_left || is_rows (context_of p.talk).spot) _ _ (Alters _ (record { talk = refl; older = refl; unread = refl; sent = refl })) (if_moves login c parts (is_over p.talk) _ _ stays (reads_move login Set parts))
-  part_moves login c (Rest ∷ parts) = if_moves login c parts p.end_left _ _ (Alters (without_end p) (record { talk = refl; older = refl; unread = refl; sent = refl })) (if_moves login c parts (is_rows (context_of p.talk).spot) _ _ (reads_move login Rest parts) stays)
+  part_moves login c (Item ∷ parts) = if_moves login c parts p.end_left _ _ (Alters (without_end p) (record { talk = refl; older = refl; unread = refl; sent = refl; call = refl })) (if_moves login c parts (is_over p.talk) _ _ stays (reads_move login Item parts))
+  part_moves login c (Set ∷ parts) = if_moves login c parts (p.end_left || is_rows (context_of p.talk).spot) _ _ (Alters _ (record { talk = refl; older = refl; unread = refl; sent = refl; call = refl })) (if_moves login c parts (is_over p.talk) _ _ stays (reads_move login Set parts))
+  part_moves login c (Rest ∷ parts) = if_moves login c parts p.end_left _ _ (Alters (without_end p) (record { talk = refl; older = refl; unread = refl; sent = refl; call = refl })) (if_moves login c parts (is_rows (context_of p.talk).spot) _ _ (reads_move login Rest parts) stays)
   part_moves login c (Command ∷ parts) = here_moves c parts (next_exchange login c p) (opened_new login (terms_of login (exchanges p)) p.statements c (connects_in (exchanges p)))
   part_moves login c (Find ∷ parts) = if_moves login c parts (is_mixed_text (text_in c)) _ _ stays (found_moves login c parts (text_in c) (held_in p.statements (query_of (text_in c))))
   part_moves login c (Check params ∷ parts) = checked_moves login c parts (values_for (statement_in c) params)
@@ -313,26 +315,26 @@ module _ (p : Place) where
       kept_moves login c parts (with_prepared (query_of (text_in c)) (prepared_by f) f.reply.fields p.statements) (terms_of login (exchanges p)) (leaving (query_of (text_in c)) (prepared_by f) p.statements)
   part_moves login c (Give ∷ parts) = stays
   part_moves login c (Learn ∷ parts) = learned_moves login c parts (is_rows (context_of p.talk).spot) (with_columns (id_in c) (facts_at login p).columns p.statements)
-  part_moves login c (Forget ∷ parts) = Alters _ (record { talk = refl; older = refl; unread = refl; sent = refl })
+  part_moves login c (Forget ∷ parts) = Alters _ (record { talk = refl; older = refl; unread = refl; sent = refl; call = refl })
   part_moves login c (Offered ∷ parts) = offered_moves login c parts (can_reset (version_of (facts_at login p).version))
-  part_moves login c (Clear ∷ parts) = Alters _ (record { talk = refl; older = refl; unread = refl; sent = refl })
+  part_moves login c (Clear ∷ parts) = Alters _ (record { talk = refl; older = refl; unread = refl; sent = refl; call = refl })
   part_moves login c (Text text ∷ parts) = one_moves c parts (queried (terms_of login (exchanges p)) text) (queried_new (terms_of login (exchanges p)) text)
   part_moves login c (Flag flag ∷ parts) = stays
-  part_moves login c (Adopt change ∷ parts) = Alters _ (record { talk = refl; older = refl; unread = refl; sent = refl })
+  part_moves login c (Adopt change ∷ parts) = Alters _ (record { talk = refl; older = refl; unread = refl; sent = refl; call = refl })
   part_moves login c (Renew ∷ parts) = one_moves c parts (renewing login c p (facts_at login p)) (record { fits = record { kinds = tt; within = tt }; silent = refl; origin_is = refl })
-  part_moves login c (Drain ∷ parts) = if_moves login c parts p.end_left _ _ (Alters (without_end p) (record { talk = refl; older = refl; unread = refl; sent = refl })) (if_moves login c parts (is_over p.talk) _ _ stays (reads_move login Drain parts))
+  part_moves login c (Drain ∷ parts) = if_moves login c parts p.end_left _ _ (Alters (without_end p) (record { talk = refl; older = refl; unread = refl; sent = refl; call = refl })) (if_moves login c parts (is_over p.talk) _ _ stays (reads_move login Drain parts))
   part_moves login c (Undo ∷ parts) = undone_moves login c parts (is_given_up p.status)
-  part_moves login c (Undone ∷ parts) = Alters _ (record { talk = refl; older = refl; unread = refl; sent = refl })
+  part_moves login c (Undone ∷ parts) = Alters _ (record { talk = refl; older = refl; unread = refl; sent = refl; call = refl })
   part_moves login c (Refuse opts ∷ parts) = unless_moves login c parts (begin_refusal opts (version_of (facts_at login p).version) p.status)
-  part_moves login c (Settle status ∷ parts) = Alters _ (record { talk = refl; older = refl; unread = refl; sent = refl })
-  part_moves login c (GiveUp ∷ parts) = Alters _ (record { talk = refl; older = refl; unread = refl; sent = refl })
-  part_moves login c (Try ∷ parts) = Alters _ (record { talk = refl; older = refl; unread = refl; sent = refl })
+  part_moves login c (Settle status ∷ parts) = Alters _ (record { talk = refl; older = refl; unread = refl; sent = refl; call = refl })
+  part_moves login c (GiveUp ∷ parts) = Alters _ (record { talk = refl; older = refl; unread = refl; sent = refl; call = refl })
+  part_moves login c (Try ∷ parts) = Alters _ (record { talk = refl; older = refl; unread = refl; sent = refl; call = refl })
   part_moves login c (Back ∷ parts) = if_moves login c parts (is_over p.talk) _ _ (returned_moves login c parts p.trial) (reads_move login Back parts)
 
-  pub step_moves : (login : Login) (c : Call) (parts : List Part) → Moved p (place_of (step login c parts p))
-  unfolding step
-  step_moves login c parts = by_owed (owed p)
-    where
-      by_owed : (x : List ℕ) → Moved p (place_of (unless_owed x p (step_of login c parts p)))
-      by_owed (b ∷ bytes) = stays
-      by_owed [] = part_moves login c parts
+pub step_moves : (p : Place) (login : Login) (c : Call) (parts : List Part) → Moved p (place_of (step login c parts p))
+unfolding step
+step_moves p login c parts = by_owed (owed p) refl
+  where
+    by_owed : (x : List ℕ) → owed p ≡ x → Moved p (place_of (unless_owed x p (step_of login c parts p)))
+    by_owed (b ∷ bytes) e = Alters p (record { talk = refl; older = refl; unread = refl; sent = refl; call = refl })
+    by_owed [] e = part_moves p e login c parts

@@ -76,9 +76,9 @@ begun_spelled b p t n w =
 
 keeps_spelled : (a b : List ℕ) (p q : Place) → (AreBytes b → IsSpelled b p) → Moved p q → AreBytes b → IsSpelled b q
 keeps_spelled a b p q w (Alters r alike) are = alike_spelled b p q alike (w are)
-keeps_spelled a b p q w (Takes r k payload rest next front kind good alike) are =
+keeps_spelled a b p q w (Takes r k payload rest next paid front kind good alike) are =
     alike_spelled b (with_talk p (grow k p.talk payload) rest) q alike (taken_spelled b p k payload rest next are front kind good (w are))
-keeps_spelled a b p q w (Begins r call t n alike) are =
+keeps_spelled a b p q w (Begins r call t paid n alike) are =
     let x = begun_spelled b p t n (w are) in
     alike_spelled b (with_exchange p call t) q alike (record { fits = x.0; spelled = x.1 })
 

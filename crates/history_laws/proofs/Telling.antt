@@ -201,17 +201,32 @@ calls_stood login (s ∷ ss) false ms p r ended calls =
     (λ v. calls_stood login ss (is_closing s.call s.ending) (with_ending s.call s.ending ran.0) h.place v (rest_ended s ss ended) calls.1)
     (call_ended login s h ran.0 h.stop ran.2 calls.0.ends)
 
+-- before the first call
+pub first_rests : (login : Login) → Rests false [] (first_place login)
+first_rests login = record {
+  hushed = false;
+  unheard = None;
+  heard = record { olds = []; are = (λ x. absurd (cc), tt); errors = refl; fits = record { kinds = tt; within = tt } };
+  clear = λ x. refl;
+  over = λ x y. absurd (cc);
+  off = λ x. refl;
+}
+
+-- after a call that isn't open
+pub rests_on : (login : Login) (s : Span) (ms : List Made) (p : Place) → Rests false ms p → Ends login (record { span = s; closed = false; halt = course login s.call (with_bytes s.sent s.taken p) }) (course login s.call (with_bytes s.sent s.taken p)).stop
+    → (s.ending ≡ None) ⊎ ((mid : List Made) × Rests (is_closing s.call s.ending) mid (course login s.call (with_bytes s.sent s.taken p)).place)
+rests_on login s ms p r e =
+    let q : Place = with_bytes s.sent s.taken p in
+    let h : Halt = course login s.call q in
+    let ran = run_fine (enough login s.call q) login s.call ms ms NoErrors (Goes (parts_of login s.call) q) (ms, NoErrors, begins_fine login s.call ms q (bytes_rest false ms p s.sent s.taken r)) in
+    by_end h ran.0 (call_ended login s h ran.0 h.stop ran.2 e)
+  where
+    by_end : (h : Halt) (mid : List Made) → ((s.ending ≡ None) × IsHalted s.call mid h.place) ⊎ Rests (is_closing s.call s.ending) (with_ending s.call s.ending mid) h.place → (s.ending ≡ None) ⊎ ((more : List Made) × Rests (is_closing s.call s.ending) more h.place)
+    by_end h mid (inl w) = inl w.0
+    by_end h mid (inr w) = inr (with_ending s.call s.ending mid, w)
+
 pub each_is_heard : EachIsHeard
 unfolding reading
 each_is_heard login t w =
-    let v = calls_stood login (spans t) false [] (first_place login)
-    (record {
-      hushed = false;
-      unheard = None;
-      heard = record { olds = []; are = (λ x. absurd (cc), tt); errors = refl; fits = record { kinds = tt; within = tt } };
-      clear = λ x. refl;
-      over = λ x y. absurd (cc);
-      off = λ x. refl;
-    })
-    (ended_from t t.calls w.order.order) w.calls in
+    let v = calls_stood login (spans t) false [] (first_place login) (first_rests login) (ended_from t t.calls w.order.order) w.calls in
     record { made = v.made; of_calls = v.of_calls; hushed = v.hushed; are_hushed = v.are; unheard = v.unheard; errors = v.errors }

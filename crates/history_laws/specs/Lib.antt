@@ -5,3 +5,6 @@ pub mod Taken
 pub mod Sent
 pub mod Found
 pub mod Errors
+pub mod Table
+pub mod Owners
+pub mod Lawful

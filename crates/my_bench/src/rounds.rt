@@ -34,7 +34,7 @@ fn ask<L: BlockingLink>(alloc: Global, conn: &mut Conn<L>, query: &[u8]) -> Resu
     ensures { conn.new.pending ≡ None }
 {
     let text = Blob::from_slice(alloc, query)?;
-    Ok(conn.query(alloc, text)?)
+    Ok(conn.send_query(alloc, text)?)
 }
 
 // The number of the row that comes next; what is left of the result is dropped.
@@ -42,8 +42,8 @@ fn read_number<L: BlockingLink>(alloc: Global, conn: &mut Conn<L>) -> Result<u64
     requires { conn.old.pending ≡ None }
     ensures { conn.new.pending ≡ None }
 {
-    let number = number_of(alloc, conn.next(alloc)?)?;
-    conn.drop_result(alloc)?;
+    let number = number_of(alloc, conn.next_row(alloc)?)?;
+    conn.drop_rest(alloc)?;
     Ok(number)
 }
 
@@ -66,7 +66,7 @@ fn executed_round<L: BlockingLink>(
     ensures { conn.new.pending ≡ None }
 {
     let statement = statement.copy(alloc)?;
-    conn.execute(alloc, statement, Params::Empty)?;
+    conn.send_execution(alloc, statement, Params::Empty)?;
     read_number(alloc, conn)
 }
 
@@ -80,7 +80,7 @@ fn executed_rounds<L: BlockingLink>(
     ensures { conn.new.pending ≡ None }
 {
     let text = Blob::from_slice(alloc, NUMBER)?;
-    let statement = conn.prepare(alloc, text)?;
+    let statement = conn.send_prepare(alloc, text)?;
     let mut sum = 0u64;
     'rounds: for _ in 0..count {
         sum = sum.saturating_add(executed_round(alloc, conn, &statement)?);
@@ -98,7 +98,7 @@ fn gather<L: BlockingLink>(
     ensures { conn.new.pending ≡ None }
 {
     'rows: for _ in 0..u64::MAX {
-        match conn.next(alloc)? {
+        match conn.next_row(alloc)? {
             NextAnswer::Row(row) => rows.push(row).map_err(|_| NoMemory)?,
             NextAnswer::SetEnd | NextAnswer::NoSet => return Ok(()),
         }
@@ -124,7 +124,7 @@ fn add_up<L: BlockingLink>(alloc: Global, conn: &mut Conn<L>) -> Result<u64, Fau
 {
     let mut sum = 0u64;
     'rows: for _ in 0..u64::MAX {
-        match conn.next(alloc)? {
+        match conn.next_row(alloc)? {
             NextAnswer::Row(row) => sum = sum.saturating_add(row_length(&row)),
             NextAnswer::SetEnd | NextAnswer::NoSet => return Ok(sum),
         }
@@ -138,7 +138,7 @@ fn streamed_round<L: BlockingLink>(alloc: Global, conn: &mut Conn<L>) -> Result<
     ensures { conn.new.pending ≡ None }
 {
     ask(alloc, conn, TABLE)?;
-    if conn.stream(alloc)? {
+    if conn.take_set(alloc)? {
         add_up(alloc, conn)
     } else {
         Err(Fault::Result)

@@ -15,6 +15,7 @@ use my_frame::{Blob, Listed};
 use my_line::{TOO_LONG, never_holds};
 use my_link::BlockingLink;
 use my_opts::ChangeUserOpts;
+use my_opts_parts::TxOpts;
 use my_params::Params;
 use my_reading::{Answer, Call, CallKind, DriverError, Error};
 use my_statements::Statement;
@@ -121,7 +122,7 @@ impl<L: BlockingLink> Conn<L> {
     }
 
     /// Sends a query, and waits until the server accepts it.
-    pub fn query(&mut self, alloc: Global, text: Blob) -> Result<(), Error>
+    pub fn send_query(&mut self, alloc: Global, text: Blob) -> Result<(), Error>
         requires { self.old.pending ≡ None }
         ensures { DoneIs L.looks kinds.Query (calls.Query text) self.old self.new result }
     {
@@ -130,7 +131,7 @@ impl<L: BlockingLink> Conn<L> {
 
     /// Prepares a statement of this text, which may have named parameters, and waits for it. One that is cached is returned
     /// at once.
-    pub fn prepare(&mut self, alloc: Global, text: Blob) -> Result<Statement, Error>
+    pub fn send_prepare(&mut self, alloc: Global, text: Blob) -> Result<Statement, Error>
         requires { self.old.pending ≡ None }
         ensures { PrepareIs L.looks text self.old self.new result }
     {
@@ -141,7 +142,7 @@ impl<L: BlockingLink> Conn<L> {
     }
 
     /// Executes a statement with these parameters, and waits until the server accepts it.
-    pub fn execute(
+    pub fn send_execution(
         &mut self,
         alloc: Global,
         statement: Statement,
@@ -155,7 +156,7 @@ impl<L: BlockingLink> Conn<L> {
     }
 
     /// Executes a statement once with each of these parameters, and waits until each result is read whole.
-    pub fn execute_batch(
+    pub fn send_batch(
         &mut self,
         alloc: Global,
         statement: Statement,
@@ -169,7 +170,7 @@ impl<L: BlockingLink> Conn<L> {
     }
 
     /// Closes a statement: it isn't cached any more, and the server forgets it.
-    pub fn close_statement(&mut self, alloc: Global, statement: Statement) -> Result<(), Error>
+    pub fn send_close(&mut self, alloc: Global, statement: Statement) -> Result<(), Error>
         requires { self.old.pending ≡ None }
         ensures { DoneIs L.looks kinds.CloseStmt (calls.CloseStmt statement.inner.id) self.old self.new result }
     {
@@ -179,7 +180,7 @@ impl<L: BlockingLink> Conn<L> {
     }
 
     /// Waits for the next row.
-    pub fn next(&mut self, alloc: Global) -> Result<NextAnswer, Error>
+    pub fn next_row(&mut self, alloc: Global) -> Result<NextAnswer, Error>
         requires { self.old.pending ≡ None }
         ensures { NextIs L.looks self.old self.new result }
     {
@@ -190,11 +191,35 @@ impl<L: BlockingLink> Conn<L> {
     }
 
     /// Passes over all that is left of a result.
-    pub fn drop_result(&mut self, alloc: Global) -> Result<(), Error>
+    pub fn drop_rest(&mut self, alloc: Global) -> Result<(), Error>
         requires { self.old.pending ≡ None }
         ensures { DoneIs L.looks kinds.DropResult calls.DropResult self.old self.new result }
     {
         self.wait(alloc, CallKind::DropResult, Call::DropResult)
+    }
+
+    /// Begins a transaction with these options, and waits until the server has begun it.
+    pub fn send_begin(&mut self, alloc: Global, opts: TxOpts) -> Result<(), Error>
+        requires { self.old.pending ≡ None }
+        ensures { DoneIs L.looks kinds.Begin (calls.Begin opts) self.old self.new result }
+    {
+        self.wait(alloc, CallKind::Begin, Call::Begin(opts))
+    }
+
+    /// Commits the transaction, and waits until the server has done it.
+    pub fn send_commit(&mut self, alloc: Global) -> Result<(), Error>
+        requires { self.old.pending ≡ None }
+        ensures { DoneIs L.looks kinds.Commit calls.Commit self.old self.new result }
+    {
+        self.wait(alloc, CallKind::Commit, Call::Commit)
+    }
+
+    /// Rolls the transaction back, and waits until the server has done it.
+    pub fn send_rollback(&mut self, alloc: Global) -> Result<(), Error>
+        requires { self.old.pending ≡ None }
+        ensures { DoneIs L.looks kinds.Rollback calls.Rollback self.old self.new result }
+    {
+        self.wait(alloc, CallKind::Rollback, Call::Rollback)
     }
 
     /// Asks whether the server is there.

@@ -23,7 +23,7 @@ pub fn taken_answer(given: &Answer) -> bool
 
 impl<L: BlockingLink> Conn<L> {
     // Takes the set that is read, or the next one.
-    fn take_set(&mut self, alloc: Global) -> Result<bool, Error>
+    fn take_next_set(&mut self, alloc: Global) -> Result<bool, Error>
         requires { self.old.pending ≡ None }
         ensures { TakeIs L.looks self.old self.new result }
     {
@@ -45,7 +45,7 @@ impl<L: BlockingLink> Conn<L> {
         match self.drive(alloc, CallKind::SkipTaken, Call::SkipTaken) {
             Ok(answer) => {
                 drop(answer);
-                return self.take_set(alloc);
+                return self.take_next_set(alloc);
             }
             Err(error) => return Err(error),
         }
@@ -53,13 +53,13 @@ impl<L: BlockingLink> Conn<L> {
 
     /// Lets a stream take the set that is read, or the next one, and waits for it. The rest of a set that an earlier stream
     /// took is passed over first. `false`: nothing is left.
-    pub fn stream(&mut self, alloc: Global) -> Result<bool, Error>
+    pub fn take_set(&mut self, alloc: Global) -> Result<bool, Error>
         requires { self.old.pending ≡ None }
         ensures { StreamWaits L.looks self.old self.new result }
     {
         if self.is_taken() {
             return self.skip_to_set(alloc);
         }
-        self.take_set(alloc)
+        self.take_next_set(alloc)
     }
 }

@@ -1,6 +1,5 @@
 -- What clauses see of what dials links, and what a dial does.
-use Rattle.std.specs.Prelude.{ℕ, ◌≡◌, ◌≢◌, ◌≤◌, List, [], ◌∷◌, Option, None, Some, Bool}
-use Rattle.my_frame.specs.Outside.{Rose}
+use Rattle.std.specs.Prelude.{ℕ, ◌≡◌, ◌≢◌, ◌≤◌, ◌+◌, ◌-◌, ◌^◌, min, zero, suc, List, [], ◌∷◌, Option, None, Some, Bool}
 use Rattle.my_link.specs.declared.link.ReadItem.{ReadItem}
 use Rattle.my_link.specs.declared.link.WriteItem.{WriteItem}
 use Rattle.my_link.specs.declared.dialer.DialItem.{DialItem}
@@ -89,15 +88,20 @@ PlaysDial old new (Link l) = GivenBy old new
 PlaysDial old new NotYet = HeldBy old new
 PlaysDial old new Failed = FailedBy old new
 
--- the faults rose, and nothing else
+-- a count with n more, up to the greatest that 64 bits hold
+abbrev pub counted : ℕ → ℕ → ℕ
+counted zero c = c
+counted (suc n) c = min (c + suc n) (2 ^ 64 - 1)
+
+-- one fault more, and nothing else
 pub record DialFailed (c d : DialCounts) : Type 0 where
-  pub faults : Rose c.faults d.faults
+  pub faults : d.faults ≡ counted 1 c.faults
   pub holds : d.holds ≡ c.holds
 
--- the holds rose, and nothing else
+-- one hold more, and nothing else
 pub record DialHeld (c d : DialCounts) : Type 0 where
   pub faults : d.faults ≡ c.faults
-  pub holds : Rose c.holds d.holds
+  pub holds : d.holds ≡ counted 1 c.holds
 
 abbrev pub CountsDial : {L : Type 0} → DialCounts → DialCounts → DialStep L → Type 0
 CountsDial c d (Link l) = d ≡ c

@@ -28,7 +28,7 @@ pub trait Dialer {
     type L: Link + Drop;
 
     /// The plan of each link and of its dials where it is known, how often a dial failed and wasn't ready, and what no dial
-    /// changes. A count never falls, and rises with each such result until it is at its greatest value.
+    /// changes. A count has one more after each such result, until it is at its greatest value.
     ghost seen: { Self → WorldSeen };
 
     /// Dials the link of `number` at `target`.

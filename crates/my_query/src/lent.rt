@@ -6,6 +6,7 @@ use crate::queryable::Queryable;
 use my_conn::{Conn, NextAnswer};
 use my_frame::Blob;
 use my_link::BlockingLink;
+use my_opts_parts::TxOpts;
 use my_params::Params;
 use my_reading::Error;
 use my_statements::Statement;
@@ -40,16 +41,16 @@ impl<'a, L: BlockingLink> Calls for Lent<'a, L> {
         Conn::ping(&mut *self.conn, alloc)
     }
 
-    fn prep(&mut self, alloc: Global, query: Blob) -> Result<Statement, Error> {
-        self.conn.prepare(alloc, query)
+    fn send_prepare(&mut self, alloc: Global, query: Blob) -> Result<Statement, Error> {
+        self.conn.send_prepare(alloc, query)
     }
 
-    fn close(&mut self, alloc: Global, statement: Statement) -> Result<(), Error> {
-        self.conn.close_statement(alloc, statement)
+    fn send_close(&mut self, alloc: Global, statement: Statement) -> Result<(), Error> {
+        self.conn.send_close(alloc, statement)
     }
 
     fn send_query(&mut self, alloc: Global, query: Blob) -> Result<(), Error> {
-        self.conn.query(alloc, query)
+        self.conn.send_query(alloc, query)
     }
 
     fn send_execution(
@@ -58,24 +59,36 @@ impl<'a, L: BlockingLink> Calls for Lent<'a, L> {
         statement: Statement,
         params: Params,
     ) -> Result<(), Error> {
-        self.conn.execute(alloc, statement, params)
+        self.conn.send_execution(alloc, statement, params)
     }
 
-    fn exec_batch(
+    fn send_batch(
         &mut self,
         alloc: Global,
         statement: Statement,
         lists: Vec<Params>,
     ) -> Result<(), Error> {
-        self.conn.execute_batch(alloc, statement, lists)
+        self.conn.send_batch(alloc, statement, lists)
     }
 
     fn next_row(&mut self, alloc: Global) -> Result<NextAnswer, Error> {
-        self.conn.next(alloc)
+        self.conn.next_row(alloc)
     }
 
     fn drop_rest(&mut self, alloc: Global) -> Result<(), Error> {
-        self.conn.drop_result(alloc)
+        self.conn.drop_rest(alloc)
+    }
+
+    fn send_begin(&mut self, alloc: Global, opts: TxOpts) -> Result<(), Error> {
+        Conn::send_begin(&mut *self.conn, alloc, opts)
+    }
+
+    fn send_commit(&mut self, alloc: Global) -> Result<(), Error> {
+        Conn::send_commit(&mut *self.conn, alloc)
+    }
+
+    fn send_rollback(&mut self, alloc: Global) -> Result<(), Error> {
+        Conn::send_rollback(&mut *self.conn, alloc)
     }
 }
 

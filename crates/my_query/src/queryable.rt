@@ -11,6 +11,7 @@ use my_conn::Conn;
 use my_frame::Blob;
 use my_link::BlockingLink;
 use my_params::Params;
+use my_reading::Error;
 use my_statements::Statement;
 use my_value::FromRow;
 use std::alloc::Global;
@@ -22,6 +23,7 @@ pub trait Queryable: Calls {
     ghost use Rattle.my_query.specs.Answers.{AnswerIs, NothingIs};
     ghost use Rattle.my_query.specs.Calls.{CollectsFirst, FoldsFirst, MapsFirst};
     ghost use Rattle.my_query.specs.Reads.{ItemIs};
+    ghost use Rattle.my_conn.specs.Drives.{DoneIs, PrepareIs};
 
     /// Sends a query, and returns what the rows of the first set became, in order. The rest of the answer is dropped.
     ///
@@ -247,6 +249,40 @@ pub trait Queryable: Calls {
     {
         let begun = self.send_execution(alloc, statement, params);
         drop_answer(self, alloc, begun)
+    }
+
+    /// Prepares a statement of this text, which may have named parameters. One that is cached is returned at once.
+    fn prep(&mut self, alloc: Global, query: Blob) -> Result<Statement, Error>
+        requires { (Self.conn_of self.old).pending ≡ None }
+        ensures prepares { PrepareIs Self.L.looks query (Self.conn_of self.old) (Self.conn_of self.new) result }
+        ensures loan { Self.loan_of self.new ≡ Self.loan_of self.old }
+    {
+        self.send_prepare(alloc, query)
+    }
+
+    /// Closes a statement: it isn't cached any more, and the server forgets it.
+    fn close(&mut self, alloc: Global, statement: Statement) -> Result<(), Error>
+        requires { (Self.conn_of self.old).pending ≡ None }
+        ensures done { DoneIs Self.L.looks kinds.CloseStmt (calls.CloseStmt statement.inner.id)
+            (Self.conn_of self.old) (Self.conn_of self.new) result }
+        ensures loan { Self.loan_of self.new ≡ Self.loan_of self.old }
+    {
+        self.send_close(alloc, statement)
+    }
+
+    /// Executes a statement once with each of these parameters, and passes over each result.
+    fn exec_batch(
+        &mut self,
+        alloc: Global,
+        statement: Statement,
+        lists: Vec<Params>,
+    ) -> Result<(), Error>
+        requires { (Self.conn_of self.old).pending ≡ None }
+        ensures done { DoneIs Self.L.looks kinds.Batch (calls.Batch statement lists.items)
+            (Self.conn_of self.old) (Self.conn_of self.new) result }
+        ensures loan { Self.loan_of self.new ≡ Self.loan_of self.old }
+    {
+        self.send_batch(alloc, statement, lists)
     }
 }
 

@@ -2,7 +2,6 @@
 use Rattle.std.proofs.Common.{ℕ, ◌≡◌, ◌==◌, ◌<◌, ◌≤◌, ◌⊎◌, inl, inr, zero, suc, List, [], ◌∷◌, ◌++◌, length, map, slice_set, Option, Some, None, option_map, unwrap_or, Bool, true, false, refl, sym, ap, ◌∙◌, subst, arith, eq-eqb, if◌then◌else◌}
 use Rattle.std.proofs.lemmas.List.{append-nil, length-append}
 use Rattle.my_grammar.specs.declared.login.Login.{Login}
-use Rattle.my_frame.specs.Outside.{Rose}
 use Rattle.my_frame.specs.Sources.{SourceSeen}
 use Rattle.my_frame.specs.Sinks.{SinkSeen}
 use Rattle.my_link.specs.declared.link.ReadItem.{ReadItem}
@@ -44,7 +43,7 @@ use Rattle.my_client.specs.Kept.{Asked, Kept, made_of, asking, asked_by, first_a
 use Rattle.my_link.specs.declared.dialer.DialItem.{DialItem}
 use Rattle.my_link.specs.declared.dialer.DialItem.TheVariants.{Wait, Fail}
 use Rattle.my_world.specs.Plan.{moment_after}
-use Rattle.my_world.specs.World.{Plans, WorldSeen, DialCounts, Chance, FailedBy, no_dials}
+use Rattle.my_world.specs.World.{Plans, WorldSeen, DialCounts, Chance, FailedBy, counted, no_dials}
 use Rattle.my_run.specs.declared.tool.Status.{Status}
 use Rattle.my_run.specs.declared.tool.Status.TheVariants as ends
 use Rattle.my_steps.specs.Dialing.{Course, DialsTo, chance_by, dial_met, has_dialed, moved_by, AreDialed}
@@ -60,7 +59,7 @@ use Rattle.my_run.specs.Headline.{AnswerView, answer_view, steps_of, answers_of,
 use Rattle.my_steps.specs.Sums.{use_of, quiet, held_use, failed_use}
 use Rattle.my_run.specs.Tapes.{TapeView, tape_view, tape_call, open_call, tapes_in, tape_of, tape_at}
 use Rattle.my_run.specs.Tool.{ToolEnds}
-use Rattle.my_run.specs.WrongRuns.{NoPlannedDialFault, NoWaitAsFault, NoHeldDialFault, MayFail, DialFault, NoStillMoment, one_hold, one_fault, NoEarlyEnd, NoHoldAfterTurn, NoHoldInTurn, NoZeroSent, NoOtherTaken, NoFaultAtRest, HasRead, NoBrokenInput, NoClosedExecution, NoUngivenExecution, NoForgottenRollback}
+use Rattle.my_run.specs.WrongRuns.{NoPlannedDialFault, NoWaitAsFault, NoHeldDialFault, NoHiddenDials, MayFail, DialFault, NoStillMoment, one_hold, one_fault, NoEarlyEnd, NoHoldAfterTurn, NoHoldInTurn, NoZeroSent, NoOtherTaken, NoFaultAtRest, HasRead, NoBrokenInput, NoClosedExecution, NoUngivenExecution, NoForgottenRollback}
 
 -- what was told
 told_some : {I : Type 0} (x y : Option (List I)) (is : List I) (R : List I → List I → Type 0) → x ≡ Some is → Told x y R → (js : List I) × (y ≡ Some js) × R is js
@@ -239,8 +238,14 @@ no_wait_as_fault login plans before later more a told is w =
 pub no_held_dial_fault : NoHeldDialFault
 no_held_dial_fault login plans first last a is w =
     let r = lone login plans (record { dials = no_dials; chance = first }) (record { dials = one_hold; chance = last }) a [] w in
-    let rose : Rose 0 0 = (subst (λ (us : List Use). DialsTo no_dials one_hold (dial_met true us)) is.uses r.counts).faults in
-    omega (arith, rose.1)
+    let none : 0 ≡ counted 1 0 = (subst (λ (us : List Use). DialsTo no_dials one_hold (dial_met true us)) is.uses r.counts).faults in
+    omega (arith, none)
+
+pub no_hidden_dials : NoHiddenDials
+no_hidden_dials login plans first last n a more is w =
+    let r = lone login plans (record { dials = no_dials; chance = first }) (record { dials = record { faults = n; holds = 0 }; chance = last }) a [] w in
+    let one : n ≡ counted 1 0 = (subst (λ (us : List Use). DialsTo no_dials (record { faults = n; holds = 0 }) (dial_met true us)) is.uses r.counts).faults in
+    omega (arith, one, more)
 
 -- what is left of the items after a planned fault
 fault_left : (items : Option (List DialItem)) → MayFail items → (left : Option (List DialItem)) × FailedBy items left
@@ -255,7 +260,7 @@ dial_fault login plans chance a may is =
       steps_are = refl;
       answered = ap (λ (n : ℕ). record { number = n; outcome = a.outcome; uses = a.uses.items } ∷ []) is.number;
       grown = (record { number = refl; answer = record { made = Absent; dials = Fails f.0 is.outcome is.uses refl f.1; others = refl } }, tt);
-      dialed = (no_dials, refl, subst (λ (us : List Use). DialsTo no_dials one_fault (dial_met true us)) (sym is.uses) (record { faults = (omega arith, omega arith); holds = refl }));
+      dialed = (no_dials, refl, subst (λ (us : List Use). DialsTo no_dials one_fault (dial_met true us)) (sym is.uses) (record { faults = omega arith; holds = refl }));
       moved = refl;
       explained = (nothing, tt);
       tapes_are = refl;

@@ -66,6 +66,12 @@ NoHeldDialFault = (login : Login) (plans : Plans) (first last : Chance) (a : Ste
     → Headline login plans (record { dials = no_dials; chance = first }) (record { dials = one_hold; chance = last })
     (steps.Conn ∷ []) (a ∷ []) [] → ⊥
 
+-- over a world whose dialer counted more dials that failed than the one that is shown
+abbrev pub NoHiddenDials : Type 0
+NoHiddenDials = (login : Login) (plans : Plans) (first last : Chance) (n : ℕ) (a : StepAnswer) → 1 < n → IsFailedDial a
+    → Headline login plans (record { dials = no_dials; chance = first })
+    (record { dials = record { faults = n; holds = 0 }; chance = last }) (steps.Conn ∷ []) (a ∷ []) [] → ⊥
+
 -- it is right over a world that told no items for dials, or planned the fault, and counted it
 abbrev pub MayFail : Option (List DialItem) → Type 0
 MayFail None = Unit {0}

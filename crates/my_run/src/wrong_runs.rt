@@ -1,5 +1,5 @@
 //! Runs that no user would call right, each of which the headline refutes, and beside them runs that it accepts.
-ghost use Rattle.my_run.specs.WrongRuns.{NoPlannedDialFault, NoWaitAsFault, NoHeldDialFault, DialFault, NoStillMoment, NoEarlyEnd, NoHoldAfterTurn, NoHoldInTurn, NoZeroSent, NoOtherTaken, NoFaultAtRest, NoBrokenInput, NoClosedExecution, NoUngivenExecution, NoForgottenRollback};
+ghost use Rattle.my_run.specs.WrongRuns.{NoPlannedDialFault, NoWaitAsFault, NoHeldDialFault, NoHiddenDials, DialFault, NoStillMoment, NoEarlyEnd, NoHoldAfterTurn, NoHoldInTurn, NoZeroSent, NoOtherTaken, NoFaultAtRest, NoBrokenInput, NoClosedExecution, NoUngivenExecution, NoForgottenRollback};
 
 /// Over a world that planned no wait and no fault of the dial, none is said to have failed.
 pub fn no_planned_dial_fault()
@@ -14,6 +14,11 @@ pub fn no_wait_as_fault()
 /// A dial that wasn't ready isn't said to have failed.
 pub fn no_held_dial_fault()
     ensures { NoHeldDialFault }
+{}
+
+/// A dial that failed isn't left out: the dialer counted no more of them than are shown.
+pub fn no_hidden_dials()
+    ensures { NoHiddenDials }
 {}
 
 /// A dial that failed, as the world counted it, is accepted.

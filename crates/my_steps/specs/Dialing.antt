@@ -1,26 +1,20 @@
 -- How the counts of a world's dials rise by what steps met, and how steps move its moment and its random words.
-use Rattle.std.specs.Prelude.{ℕ, ◌≡◌, zero, suc, List, [], ◌∷◌, Bool, true, false}
-use Rattle.my_frame.specs.Outside.{Rose}
+use Rattle.std.specs.Prelude.{ℕ, ◌≡◌, List, [], ◌∷◌, Bool, true, false}
 use Rattle.my_link.specs.Met.{nothing_met}
 use Rattle.my_link.specs.declared.met.Met.{Met}
 use Rattle.my_script.specs.declared.step.Step.{Step}
 use Rattle.my_script.specs.declared.step.Step.TheVariants as steps
 use Rattle.my_script.specs.declared.transcript.Use.{Use}
-use Rattle.my_world.specs.World.{DialCounts, Chance, WorldSeen, drawn}
+use Rattle.my_world.specs.World.{DialCounts, Chance, WorldSeen, counted, drawn}
 use Rattle.my_world.specs.declared.line.WorldLine.TheVariants as lines
 use Rattle.my_world.specs.Plan.{chance_on}
 use Rattle.my_steps.specs.Grows.{Line, handles_after}
 use Rattle.my_steps.specs.Handle.{Handle, Absent, Dialing, Joined, at_number}
 
--- a count rose, or it stayed, by how often its answer was met
-abbrev pub RoseBy : ℕ → ℕ → ℕ → Type 0
-RoseBy zero c d = d ≡ c
-RoseBy (suc n) c d = Rose c d
-
--- the dialer's faults rose exactly where a dial failed, and its holds exactly where one wasn't ready
+-- the dialer counted each dial that failed and each that wasn't ready, as they were met, and no other
 pub record DialsTo (c d : DialCounts) (m : Met) : Type 0 where
-  pub faults : RoseBy m.faults c.faults d.faults
-  pub holds : RoseBy m.holds c.holds d.holds
+  pub faults : d.faults ≡ counted m.faults c.faults
+  pub holds : d.holds ≡ counted m.holds c.holds
 
 abbrev pub is_dialing : Handle → Bool
 is_dialing Absent = false

@@ -7,3 +7,6 @@ returns-clause-received c = spelling.each_is_spelled
 
 pub returns-clause-sent : goal.returns-clause-sent
 returns-clause-sent c = sending.each_is_sent
+
+pub returns-clause-said : goal.returns-clause-said
+returns-clause-said c = sending.each_is_said

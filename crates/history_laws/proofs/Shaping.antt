@@ -1,0 +1,166 @@
+-- Which exchanges await a greeting, and which are over only once they were answered.
+use Rattle.std.proofs.Common.{◌≡◌, ℕ, List, Bool, true, false, cond, Some, refl, subst}
+use Rattle.my_flags.specs.declared.flags.StatusFlags.{StatusFlags}
+use Rattle.my_flags.specs.Sets.{deprecates_eof, has_more_results}
+use Rattle.my_grammar.proofs.Growth.Known.{is_single_kind, is_then, known_single}
+use Rattle.my_grammar.specs.declared.login.Login.{Login}
+use Rattle.my_grammar.specs.declared.spot.Kind.{Kind}
+use Rattle.my_grammar.specs.declared.spot.Kind.TheVariants as kinds
+use Rattle.my_grammar.specs.declared.spot.Spot.TheVariants.{Idle, Further}
+use Rattle.my_grammar.specs.declared.spot.Terms.{Terms}
+use Rattle.my_grammar.specs.Contexts.{more}
+use Rattle.my_grammar.specs.Cut.{is_idle, is_over}
+use Rattle.my_grammar.specs.Growth.{grow, not_greets}
+use Rattle.my_grammar.specs.Kinds.{single_kind}
+use Rattle.my_grammar.specs.Prepares.{Reply, Unanswered, Refused, InParameters, AfterParameters, InFields, AfterFields, Complete, grow_reply, spot_in_reply}
+use Rattle.my_grammar.specs.Sets.{Sets, NoSets, Lone, Failed, Heading, Headed, Begun, Ended, Broken, grow_sets, packets_in, spot_in}
+use Rattle.my_grammar.specs.Talk.{Talk, Start, Unwelcome, Greeted, Settled, Asked, Replied, Queried, Preparing, Silent, Fits, context_of}
+use Rattle.my_reading.specs.declared.call.Call.{Call}
+use Rattle.my_reading.specs.declared.call.Call.TheVariants.{Connect, Query, Prepare, Execute, Batch, CloseStmt, NextRow, DropResult, TakeSet, SkipTaken, Ping, Reset, ChangeUser, Begin, Commit, Rollback, ForgetTransaction, CleanForPool, ResetForPool, Quit}
+use Rattle.my_reading.specs.Calls.{is_connect, kind_of}
+use Rattle.my_reading.specs.Commands.{execution, opening}
+use Rattle.my_reading.specs.Course.{is_greeting}
+use Rattle.my_reading.specs.Executions.{Values, Fitting, Unfitting, values_for}
+use Rattle.my_reading.specs.Statements.{Statements}
+use Rattle.history_laws.specs.Sent.{ends_answered, is_answered}
+
+-- an exchange that doesn't await the greeting
+abbrev pub IsShook : Talk → Type 0
+IsShook t = is_greeting (context_of t).spot ≡ false
+
+more_shook : (s : StatusFlags) → is_greeting (more s) ≡ false
+more_shook s = by_more (has_more_results s)
+  where
+    by_more : (b : Bool) → is_greeting (cond b Further Idle) ≡ false
+    by_more true = refl
+    by_more false = refl
+
+sets_shook : (x : Sets) → is_greeting (spot_in x) ≡ false
+sets_shook (NoSets asking) = refl
+sets_shook (Lone older p status) = more_shook status
+sets_shook (Failed older p) = refl
+sets_shook (Heading older head left) = refl
+sets_shook (Headed older head) = refl
+sets_shook (Begun older head rows) = refl
+sets_shook (Ended older head rows last status) = more_shook status
+sets_shook (Broken older head rows last) = refl
+
+reply_shook : (r : Reply) → is_greeting (spot_in_reply r) ≡ false
+reply_shook Unanswered = refl
+reply_shook (Refused p) = refl
+reply_shook (InParameters head parameters left) = refl
+reply_shook (AfterParameters head parameters) = refl
+reply_shook (InFields head parameters fields left) = refl
+reply_shook (AfterFields head parameters fields) = refl
+reply_shook (Complete head parameters fields) = refl
+
+pub shook_on : (t : Talk) (k : Kind) (q : List ℕ) → IsShook t → IsShook (grow k t q)
+shook_on (Start login) k q e = absurd (cc)
+shook_on (Unwelcome login p) k q e = refl
+shook_on (Greeted login p n) k q e = refl
+shook_on (Settled login p n last kind) k q e = refl
+shook_on (Asked terms c) k q e = refl
+shook_on (Replied terms c last kind) k q e = refl
+shook_on (Queried terms c x) k q e = sets_shook (grow_sets (deprecates_eof terms.kept) k x q)
+shook_on (Preparing terms c r) k q e = reply_shook (grow_reply (deprecates_eof terms.kept) k r q)
+shook_on (Silent terms c) k q e = refl
+
+-- what any call but the one that connects begins
+pub some_shook : (u t : Talk) → IsShook u → Some u ≡ Some t → IsShook t
+some_shook u t n e = let same : u ≡ t = cc in subst (λ (x : Talk). is_greeting (context_of x).spot ≡ false) same n
+
+pub executed_shook : (terms : Terms) (st : Statements) (id : ℕ) (v : Values) (t : Talk) → execution terms st id v ≡ Some t → IsShook t
+executed_shook terms st id (Fitting values) t e = some_shook _ t refl e
+executed_shook terms st id (Unfitting x) t e = cc
+
+pub opened_shook : (login : Login) (terms : Terms) (st : Statements) (c : Call) (n : ℕ) (t : Talk) → is_connect (kind_of c) ≡ false → opening login terms st c n ≡ Some t → IsShook t
+opened_shook login terms st Connect n t other e = absurd (cc)
+opened_shook login terms st (Execute statement params) n t other e = executed_shook terms st statement.inner.id (values_for statement params) t e
+opened_shook login terms st (Query text) n t other e = some_shook _ t refl e
+opened_shook login terms st (Prepare text) n t other e = some_shook _ t refl e
+opened_shook login terms st (Batch statement lists) n t other e = cc
+opened_shook login terms st (CloseStmt id) n t other e = some_shook _ t refl e
+opened_shook login terms st NextRow n t other e = cc
+opened_shook login terms st DropResult n t other e = cc
+opened_shook login terms st TakeSet n t other e = cc
+opened_shook login terms st SkipTaken n t other e = cc
+opened_shook login terms st Ping n t other e = some_shook _ t refl e
+opened_shook login terms st Reset n t other e = some_shook _ t refl e
+opened_shook login terms st (ChangeUser change) n t other e = cc
+opened_shook login terms st (Begin opts) n t other e = cc
+opened_shook login terms st Commit n t other e = cc
+opened_shook login terms st Rollback n t other e = cc
+opened_shook login terms st ForgetTransaction n t other e = cc
+opened_shook login terms st CleanForPool n t other e = cc
+opened_shook login terms st ResetForPool n t other e = cc
+opened_shook login terms st Quit n t other e = some_shook _ t refl e
+
+-- the exchanges of connecting
+abbrev pub connects : Talk → Bool
+connects (Start login) = true
+connects (Unwelcome login p) = true
+connects (Greeted login p n) = true
+connects (Settled login p n last kind) = true
+connects (Queried terms c x) = true
+connects t = false
+
+start_connects : (login : Login) (k : Kind) (q : List ℕ) → connects (grow k (Start login) q) ≡ true
+start_connects login (kinds.Greets n) q = refl
+start_connects login (kinds.Good s) q = refl
+start_connects login kinds.Failed q = refl
+start_connects login (kinds.Count n) q = refl
+start_connects login kinds.Column q = refl
+start_connects login kinds.ColumnsDone q = refl
+start_connects login kinds.Row q = refl
+start_connects login (kinds.End s) q = refl
+start_connects login (kinds.Prepared m n) q = refl
+start_connects login kinds.Parameter q = refl
+start_connects login kinds.Field q = refl
+start_connects login kinds.Bad q = refl
+
+pub connects_on : (t : Talk) (k : Kind) (q : List ℕ) → connects t ≡ true → connects (grow k t q) ≡ true
+connects_on (Start login) k q e = start_connects login k q
+connects_on (Unwelcome login p) k q e = refl
+connects_on (Greeted login p n) k q e = refl
+connects_on (Settled login p n last kind) k q e = refl
+connects_on (Asked terms c) k q e = absurd (cc)
+connects_on (Replied terms c last kind) k q e = absurd (cc)
+connects_on (Queried terms c x) k q e = refl
+connects_on (Preparing terms c r) k q e = absurd (cc)
+connects_on (Silent terms c) k q e = absurd (cc)
+
+single_calm : (k : Kind) → is_single_kind k ≡ true → not_greets k ≡ true
+single_calm (kinds.Greets n) e = absurd (cc)
+single_calm (kinds.Good s) e = refl
+single_calm kinds.Failed e = refl
+single_calm (kinds.Count n) e = refl
+single_calm kinds.Column e = refl
+single_calm kinds.ColumnsDone e = refl
+single_calm kinds.Row e = refl
+single_calm (kinds.End s) e = refl
+single_calm (kinds.Prepared m n) e = refl
+single_calm kinds.Parameter e = refl
+single_calm kinds.Field e = refl
+single_calm kinds.Bad e = refl
+
+sets_answered : (x : Sets) → is_idle (spot_in x) ≡ true → ends_answered (packets_in x) ≡ true
+sets_answered (NoSets asking) e = absurd (cc)
+sets_answered (Lone older p status) e = refl
+sets_answered (Failed older p) e = refl
+sets_answered (Heading older head left) e = absurd (cc)
+sets_answered (Headed older head) e = absurd (cc)
+sets_answered (Begun older head rows) e = absurd (cc)
+sets_answered (Ended older head rows last status) e = refl
+sets_answered (Broken older head rows last) e = refl
+
+-- one that is over was answered
+pub over_answered : (t : Talk) → connects t ≡ true → Fits t → is_over t ≡ true → is_answered t ≡ true
+over_answered (Start login) s f e = absurd (cc)
+over_answered (Unwelcome login p) s f e = refl
+over_answered (Greeted login p n) s f e = absurd (cc)
+over_answered (Settled login p n last kind) s f e = single_calm kind (is_then is_single_kind (single_kind last) kind (known_single last) f.kinds.1)
+over_answered (Asked terms c) s f e = absurd (cc)
+over_answered (Replied terms c last kind) s f e = absurd (cc)
+over_answered (Queried terms c x) s f e = sets_answered x e
+over_answered (Preparing terms c r) s f e = absurd (cc)
+over_answered (Silent terms c) s f e = absurd (cc)
