@@ -91,15 +91,29 @@ fn dial(alloc: Global, world: &mut MemWorld, opts: &Opts) -> Result<MemLink, NoM
     }
 }
 
-/// A link that plays what the lines of a talk say, and isn't ready once before the byte of the number `hold`.
-pub fn link_of(alloc: Global, opts: &Opts, talk: &str, hold: usize) -> Result<MemLink, NoMemory> {
+/// A world that plays what the lines of a talk say, on a link that isn't ready once before the byte of the number `hold`.
+pub fn world_of(alloc: Global, talk: &str, hold: usize) -> Result<MemWorld, NoMemory> {
     let mut world = MemWorld::new(alloc);
-    let link = match play_all(alloc, &mut world, talk, hold) {
-        Ok(()) => dial(alloc, &mut world, opts),
+    match play_all(alloc, &mut world, talk, hold) {
+        Ok(()) => Ok(world),
+        Err(NoMemory) => {
+            drop(world);
+            Err(NoMemory)
+        }
+    }
+}
+
+/// The link of such a world.
+pub fn link_of(alloc: Global, opts: &Opts, talk: &str, hold: usize) -> Result<MemLink, NoMemory> {
+    match world_of(alloc, talk, hold) {
+        Ok(world) => {
+            let mut world = world;
+            let link = dial(alloc, &mut world, opts);
+            drop(world);
+            link
+        }
         Err(NoMemory) => Err(NoMemory),
-    };
-    drop(world);
-    link
+    }
 }
 
 /// The options of a connection for which the row gives no URL.

@@ -1,9 +1,10 @@
-//! Calls whose rows are returned at once.
+//! Calls whose rows are returned at once, at what holds a connection.
 
 ghost use Rattle.std.specs.Prelude.{◌≡◌, None};
 
 use crate::answers::{failure, word_of};
 use crate::given::{copy_of, lists_of, params_of};
+use crate::sends::sent;
 use crate::words::blob_of;
 use my_conn::Conn;
 use my_link::BlockingLink;
@@ -39,6 +40,125 @@ fn said(alloc: Global, word: &'static str) -> Result<String, AllocError> {
     String::from_str(alloc, word)
 }
 
+// A query of numbers with names.
+fn queried<C: Queryable>(
+    alloc: Global,
+    holder: &mut C,
+    name: &str,
+    text: &str,
+) -> Result<String, AllocError>
+    requires { (C.conn_of holder.old).pending ≡ None }
+{
+    let text = blob_of(alloc, text);
+    match name {
+        "collect" => shown(alloc, holder.query::<(u64, String)>(alloc, text)),
+        "first" => shown(alloc, holder.query_first::<(u64, String)>(alloc, text)),
+        "first_row" => {
+            let first = holder.query_first::<Row>(alloc, text);
+            shown(alloc, first.map(|row| row.map(|row| row.len())))
+        }
+        "first_numbers" => shown(alloc, holder.query_first::<(u64, u64)>(alloc, text)),
+        "fold" => {
+            let folded = holder.query_fold::<(u64, String), u64, _>(alloc, text, 1, |sum, row| {
+                sum.wrapping_mul(10).wrapping_add(row.0)
+            });
+            shown(alloc, folded)
+        }
+        "fold_rows" => {
+            shown(
+                alloc,
+                holder.query_fold::<Row, u64, _>(alloc, text, 4, |_sum, _row| 0),
+            )
+        }
+        "map" => {
+            let numbers = holder.query_map::<(u64, String), u64, _>(alloc, text, |row| row.0);
+            shown(alloc, numbers)
+        }
+        _ => shown(alloc, holder.query_drop(alloc, text)),
+    }
+}
+
+// An execution of the statement that is held, which gives numbers.
+fn executed<C: Queryable>(
+    alloc: Global,
+    holder: &mut C,
+    statement: Statement,
+    name: &str,
+    rest: &str,
+) -> Result<String, AllocError>
+    requires { (C.conn_of holder.old).pending ≡ None }
+{
+    let params = params_of(alloc, rest);
+    match name {
+        "exec" => shown(alloc, holder.exec::<u64>(alloc, statement, params)),
+        "exec_first" => shown(alloc, holder.exec_first::<u64>(alloc, statement, params)),
+        "exec_fold" => {
+            let folded = holder.exec_fold::<u64, u64, _>(alloc, statement, params, 1, |sum, n| {
+                sum.wrapping_mul(10).wrapping_add(n)
+            });
+            shown(alloc, folded)
+        }
+        "exec_map" => {
+            shown(
+                alloc,
+                holder.exec_map::<u64, bool, _>(alloc, statement, params, |n| n > 4),
+            )
+        }
+        _ => shown(alloc, holder.exec_drop(alloc, statement, params)),
+    }
+}
+
+fn held_call<C: Queryable>(
+    alloc: Global,
+    holder: &mut C,
+    held: &mut Option<Statement>,
+    name: &str,
+    rest: &str,
+) -> Result<String, AllocError>
+    requires { (C.conn_of holder.old).pending ≡ None }
+{
+    let Some(statement) = copy_of(alloc, held) else {
+        return said(alloc, "unheld");
+    };
+    match name {
+        "exec_batch" => {
+            let lists = lists_of(alloc, rest)?;
+            said(
+                alloc,
+                word_of(holder.exec_batch(alloc, statement, lists), held),
+            )
+        }
+        "close" => said(alloc, word_of(holder.close(alloc, statement), held)),
+        _ => executed(alloc, holder, statement, name, rest),
+    }
+}
+
+/// What a call returns, in the text of `{:?}`. After `send ` is one that only sends or reads.
+pub fn answer_at<C: Queryable>(
+    alloc: Global,
+    holder: &mut C,
+    held: &mut Option<Statement>,
+    call: &str,
+) -> Result<String, AllocError>
+    requires { (C.conn_of holder.old).pending ≡ None }
+{
+    let (name, rest) = call.split_once(' ').unwrap_or((call, ""));
+    match name {
+        "prep" => {
+            let prepared = holder.prep(alloc, blob_of(alloc, rest));
+            said(alloc, word_of(prepared, held))
+        }
+        "send" => said(alloc, sent(alloc, holder, held, rest)),
+        _ => {
+            if name == "close" || name.starts_with("exec") {
+                held_call(alloc, holder, held, name, rest)
+            } else {
+                queried(alloc, holder, name, rest)
+            }
+        }
+    }
+}
+
 // The connection is lent for a query and a ping.
 fn lend<L: BlockingLink>(
     alloc: Global,
@@ -59,125 +179,7 @@ fn lend<L: BlockingLink>(
     }
 }
 
-// A query of numbers with names.
-fn queried<L: BlockingLink>(
-    alloc: Global,
-    conn: &mut Conn<L>,
-    name: &str,
-    text: &str,
-) -> Result<String, AllocError>
-    requires { conn.old.pending ≡ None }
-{
-    let text = blob_of(alloc, text);
-    match name {
-        "collect" => shown(alloc, Queryable::query::<(u64, String)>(conn, alloc, text)),
-        "first" => shown(alloc, conn.query_first::<(u64, String)>(alloc, text)),
-        "first_row" => {
-            let first = conn.query_first::<Row>(alloc, text);
-            shown(alloc, first.map(|row| row.map(|row| row.len())))
-        }
-        "first_numbers" => shown(alloc, conn.query_first::<(u64, u64)>(alloc, text)),
-        "fold" => {
-            let folded = conn.query_fold::<(u64, String), u64, _>(alloc, text, 1, |sum, row| {
-                sum.wrapping_mul(10).wrapping_add(row.0)
-            });
-            shown(alloc, folded)
-        }
-        "fold_rows" => {
-            shown(
-                alloc,
-                conn.query_fold::<Row, u64, _>(alloc, text, 4, |_sum, _row| 0),
-            )
-        }
-        "map" => {
-            let numbers = conn.query_map::<(u64, String), u64, _>(alloc, text, |row| row.0);
-            shown(alloc, numbers)
-        }
-        _ => shown(alloc, conn.query_drop(alloc, text)),
-    }
-}
-
-// An execution of the statement that is held, which gives numbers.
-fn executed<L: BlockingLink>(
-    alloc: Global,
-    conn: &mut Conn<L>,
-    statement: Statement,
-    name: &str,
-    rest: &str,
-) -> Result<String, AllocError>
-    requires { conn.old.pending ≡ None }
-{
-    let params = params_of(alloc, rest);
-    match name {
-        "exec" => shown(alloc, conn.exec::<u64>(alloc, statement, params)),
-        "exec_first" => shown(alloc, conn.exec_first::<u64>(alloc, statement, params)),
-        "exec_fold" => {
-            let folded = conn.exec_fold::<u64, u64, _>(alloc, statement, params, 1, |sum, n| {
-                sum.wrapping_mul(10).wrapping_add(n)
-            });
-            shown(alloc, folded)
-        }
-        "exec_map" => {
-            shown(
-                alloc,
-                conn.exec_map::<u64, bool, _>(alloc, statement, params, |n| n > 4),
-            )
-        }
-        _ => shown(alloc, conn.exec_drop(alloc, statement, params)),
-    }
-}
-
-fn held_call<L: BlockingLink>(
-    alloc: Global,
-    conn: &mut Conn<L>,
-    held: &mut Option<Statement>,
-    name: &str,
-    rest: &str,
-) -> Result<String, AllocError>
-    requires { conn.old.pending ≡ None }
-{
-    let Some(statement) = copy_of(alloc, held) else {
-        return said(alloc, "unheld");
-    };
-    match name {
-        "exec_batch" => {
-            let lists = lists_of(alloc, rest)?;
-            said(
-                alloc,
-                word_of(conn.exec_batch(alloc, statement, lists), held),
-            )
-        }
-        "close" => said(alloc, word_of(conn.close(alloc, statement), held)),
-        _ => executed(alloc, conn, statement, name, rest),
-    }
-}
-
-fn ask_idle<L: BlockingLink>(
-    alloc: Global,
-    conn: &mut Conn<L>,
-    held: &mut Option<Statement>,
-    call: &str,
-) -> Result<String, AllocError>
-    requires { conn.old.pending ≡ None }
-{
-    let (name, rest) = call.split_once(' ').unwrap_or((call, ""));
-    match name {
-        "prep" => {
-            let prepared = conn.prep(alloc, blob_of(alloc, rest));
-            said(alloc, word_of(prepared, held))
-        }
-        "lend" => lend(alloc, conn, held, rest),
-        _ => {
-            if name == "close" || name.starts_with("exec") {
-                held_call(alloc, conn, held, name, rest)
-            } else {
-                queried(alloc, conn, name, rest)
-            }
-        }
-    }
-}
-
-/// What a call returns, in the text of `{:?}`.
+/// What a call returns at a connection.
 pub fn asked<L: BlockingLink>(
     alloc: Global,
     conn: &mut Conn<L>,
@@ -185,7 +187,10 @@ pub fn asked<L: BlockingLink>(
     call: &str,
 ) -> Result<String, AllocError> {
     match conn.open_call() {
-        None => ask_idle(alloc, conn, held, call),
+        None => match call.strip_prefix("lend ") {
+            Some(text) => lend(alloc, conn, held, text),
+            None => answer_at(alloc, conn, held, call),
+        },
         Some(_) => said(alloc, "open"),
     }
 }

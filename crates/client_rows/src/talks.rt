@@ -68,7 +68,8 @@ fn is_right(alloc: Global, connected: &mut Connected<MemLink>, talk: &str) -> bo
     }
 }
 
-fn begun(alloc: Global, talk: &str, hold: usize) -> Result<Connecting<MemLink>, NoMemory> {
+/// A connection that is being made, with options.
+pub fn begun(alloc: Global, talk: &str, hold: usize) -> Result<Connecting<MemLink>, NoMemory> {
     let opts = opts_of(alloc)?;
     match link_of(alloc, &opts, talk, hold) {
         Ok(link) => {
@@ -98,7 +99,7 @@ fn is_polled(alloc: Global, talk: &str, hold: usize) -> bool {
 }
 
 /// A connection whose calls wait.
-type Waiting = Conn<ReadyLink<MemLink>>;
+pub type Waiting = Conn<ReadyLink<MemLink>>;
 
 fn new_by_url(alloc: Global, url: &str, link: ReadyLink<MemLink>) -> Result<Waiting, Error> {
     if url.len() > LONGEST_URL {
@@ -108,8 +109,8 @@ fn new_by_url(alloc: Global, url: &str, link: ReadyLink<MemLink>) -> Result<Wait
     Conn::from_url(alloc, url, link, 5, 0)
 }
 
-// Connects with options, or by the URL of the row.
-fn new_by(alloc: Global, talk: &str) -> Result<Waiting, Error> {
+/// Connects with options, or by the URL of the row.
+pub fn new_by(alloc: Global, talk: &str) -> Result<Waiting, Error> {
     let opts = opts_of(alloc)?;
     match link_of(alloc, &opts, talk, usize::MAX) {
         Ok(link) => match field(talk, 0).strip_prefix("connect ") {
@@ -229,6 +230,6 @@ fn ample_query(rt: HostRuntime) -> Result<(), Fail> {
         assert!(rt; is_asked(rt.alloc(), talk), "{talk}");
         ran = ran.wrapping_add(1);
     }
-    assert!(rt; ran == 12);
+    assert!(rt; ran == 15);
     Ok(())
 }

@@ -296,4 +296,25 @@ connect | @greeting turn @login_ok | ok
 prep SELECT ? | turn @number_statement | statement
 exec_batch 42 42 | turn @ok turn @ok | ok
 prep SELECT ? || statement
-close || ok";
+close || ok
+
+connect | @greeting turn @login_ok | ok
+send query SELECT 1 | turn @head @row @end | ok
+send next || row
+send drop || ok
+send ping | turn @ok | ok
+
+connect | @greeting turn @login_ok | ok
+send prepare SELECT :a | turn @statement | statement of a
+send execute a=42 | turn @head @binary_row @end | ok
+send next || row
+send next || end
+send batch a=42 a=42 | turn @ok turn @ok | ok
+send close || ok
+
+connect | @greeting turn @login_ok | ok
+send begin serializable read only with snapshot | turn @ok turn @ok turn @ok | ok
+send commit | turn @ok | ok
+send begin | turn @ok | ok
+send begin || error nested
+send rollback | turn @ok | ok";

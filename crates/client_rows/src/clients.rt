@@ -1,0 +1,173 @@
+//! Talks of a client.
+
+use crate::answers::word_of;
+use crate::polls::made;
+use crate::queries::answer_at;
+use crate::talks::{Waiting, begun, new_by};
+use crate::waiting::ASKED;
+use crate::words::field;
+use my_conn::{Conn, Connected};
+use my_connect::Client;
+use my_frame::NoMemory;
+use my_link::{MemLink, ReadyLink};
+use my_reading::{Call, CallKind, Error};
+use std::alloc::Global;
+use std::test::Fail;
+
+/// A client over a link in memory.
+type Near = Client<ReadyLink<MemLink>>;
+
+fn idle(conn: Waiting) -> Result<Near, Error> {
+    match Client::new(conn) {
+        Ok(client) => Ok(client),
+        Err(conn) => {
+            drop(conn);
+            Err(Error::NoMemory)
+        }
+    }
+}
+
+fn client_of(alloc: Global, talk: &str) -> Result<Near, Error> {
+    match new_by(alloc, talk) {
+        Ok(conn) => idle(conn),
+        Err(error) => Err(error),
+    }
+}
+
+// Whether each line after the first returns what it should.
+fn goes_on(alloc: Global, client: &mut Near, talk: &str) -> bool {
+    let mut held = None;
+    let mut well = true;
+    for line in talk.lines().skip(1) {
+        match answer_at(alloc, client, &mut held, field(line, 0)) {
+            Ok(text) => well = well && text.as_str() == field(line, 2),
+            Err(_) => well = false,
+        }
+    }
+    drop(held);
+    well
+}
+
+// Whether the calls of a talk return what it says.
+fn is_right(alloc: Global, talk: &str) -> bool {
+    match client_of(alloc, talk) {
+        Ok(client) => {
+            let mut client = client;
+            let right = goes_on(alloc, &mut client, talk);
+            drop(client);
+            right
+        }
+        Err(error) => {
+            drop(error);
+            false
+        }
+    }
+}
+
+#[test]
+fn ample_client(rt: HostRuntime) -> Result<(), Fail> {
+    let mut ran = 0u64;
+    for talk in ASKED.split("\n\n") {
+        // Only a connection is lent.
+        if !talk.contains("\nlend ") {
+            assert!(rt; is_right(rt.alloc(), talk), "{talk}");
+            ran = ran.wrapping_add(1);
+        }
+    }
+    assert!(rt; ran == 14);
+    Ok(())
+}
+
+// Whether the client says what the last OK and the greeting said, and has its moment.
+fn is_told(client: &mut Near) -> bool {
+    client.set_now(7);
+    client.conn().now() == 7
+        && client.id() == 7
+        && client.server_version() == (8, 0, 36)
+        && client.affected_rows() == 3
+        && client.last_insert_id() == Some(7)
+        && client.get_warnings() == 1
+        && client.info() == b"note".as_slice()
+}
+
+// Whether a connection at which no call is open is a client again.
+fn is_again(alloc: Global, client: Near) -> bool {
+    match Client::new(client.into_conn()) {
+        Ok(client) => word_of(client.disconnect(alloc), &mut None) == "ok",
+        Err(conn) => {
+            drop(conn);
+            false
+        }
+    }
+}
+
+const TOLD: &str = "\
+connect | @greeting turn @login_ok | ok
+send ping | turn @changed | ok";
+
+fn tells(alloc: Global) -> bool {
+    match client_of(alloc, TOLD) {
+        Ok(client) => {
+            let mut client = client;
+            let right = goes_on(alloc, &mut client, TOLD) && is_told(&mut client);
+            is_again(alloc, client) && right
+        }
+        Err(error) => {
+            drop(error);
+            false
+        }
+    }
+}
+
+#[test]
+fn clients_tell(rt: HostRuntime) -> Result<(), Fail> {
+    assert!(rt; tells(rt.alloc()));
+    Ok(())
+}
+
+// Whether a connection at which a ping is open is given back.
+fn gives_back(alloc: Global, conn: Conn<MemLink>) -> bool {
+    let mut conn = conn;
+    match conn.open_call() {
+        None => {
+            let (after, _met) = conn.poll_call(alloc, CallKind::Ping, Some(Call::Ping), 3);
+            drop(after);
+        }
+        Some(_) => {}
+    }
+    match Client::new(conn) {
+        Ok(client) => {
+            drop(client);
+            false
+        }
+        Err(conn) => {
+            let open = matches!(conn.open_call(), Some(CallKind::Ping));
+            drop(conn);
+            open
+        }
+    }
+}
+
+fn is_open(alloc: Global) -> bool {
+    let talk = "connect | @greeting turn @login_ok turn wait | ok";
+    match begun(alloc, talk, usize::MAX) {
+        Ok(connecting) => match made(alloc, connecting, 9, "") {
+            Connected::Made(conn) => gives_back(alloc, conn),
+            Connected::Pending(connecting) => {
+                drop(connecting);
+                false
+            }
+            Connected::Failed(error) => {
+                drop(error);
+                false
+            }
+        },
+        Err(NoMemory) => false,
+    }
+}
+
+#[test]
+fn no_client_is_open(rt: HostRuntime) -> Result<(), Fail> {
+    assert!(rt; is_open(rt.alloc()));
+    Ok(())
+}

@@ -1,0 +1,20 @@
+//! Clients: connections at which no call is open, by their type, and how one is made over a world. It hands on what a program needs
+//! beside them.
+#![tactic(auto)]
+
+mod client;
+mod dialed;
+
+pub use client::Client;
+pub use dialed::{connect, connect_with};
+pub use my_conn::{Conn, NextAnswer};
+pub use my_frame::{Blob, Listed, NoMemory};
+pub use my_link::BlockingLink;
+pub use my_opts::Opts;
+pub use my_opts_parts::TxOpts;
+pub use my_params::Params;
+pub use my_query::{Calls, Lent, QueryError, Queryable};
+pub use my_reading::Error;
+pub use my_statements::Statement;
+pub use my_value::{FromRow, Row, Value};
+pub use my_world::World;
