@@ -88,9 +88,13 @@ impl Session {
 
     /// Whether a call is open.
     pub fn is_open(&self) -> bool
-        ensures { result ≡ not (is_none self.now.opened) }
+        ensures value { result ≡ not (is_none self.now.opened) }
+        ensures idle { result ≡ false → self.now.opened ≡ None }
     {
-        self.opened.is_some()
+        match self.opened {
+            Some(_) => true,
+            None => false,
+        }
     }
 
     /// Whether the session is closed.
