@@ -1,31 +1,26 @@
 -- Where a connection in hand is kept, after a verdict.
-use Rattle.std.proofs.Common.{◌≡◌, ◌⊎◌, ℕ, ◌<◌, ◌≤◌, Bool, true, false, Option, Some, None, List, length, refl, sym, ap, ◌∙◌, subst, inl, inr}
-use Rattle.std.specs.Prelude.{find, option_map, ◌==◌, ◌&&◌, ◌||◌, not, nat_le, if◌then◌else◌}
-use Rattle.my_pool_parts.specs.declared.connection.Connection.{Connection}
+use Rattle.std.proofs.Common.{◌≡◌, ℕ, ◌≤◌, Bool, true, false, Option, Some, None, List, refl, sym, ap, ◌∙◌, subst, inl}
+use Rattle.std.specs.Prelude.{find, ◌==◌, ◌&&◌, ◌||◌}
 use Rattle.my_pool_parts.specs.declared.connection.Place.{Place}
 use Rattle.my_pool_parts.specs.declared.connection.Place.TheVariants.{Idle, Leased, Connecting, Checking, Returned, Cleaning, Resetting, Closing}
 use Rattle.my_pool_parts.specs.Lists.{how_many, found_is}
-use Rattle.my_pool_parts.specs.Connections.{has_number, is_idle, is_marked, is_resetting, is_resetting_place, is_cleaning_place, is_idle_place, is_returned_place}
-use Rattle.my_pool_core.specs.declared.event.Facts.{Facts}
+use Rattle.my_pool_parts.specs.Connections.{has_number, is_resetting, is_cleaning_place}
 use Rattle.my_pool_core.specs.declared.event.PoolEvent.TheVariants as events
 use Rattle.my_pool_core.specs.declared.event.Verdict.{Verdict}
 use Rattle.my_pool_core.specs.declared.event.Verdict.TheVariants.{Drop, Clean, Close, Reset, Keep}
-use Rattle.my_pool_core.specs.Counted.{due}
-use Rattle.my_pool_core.specs.Events.{Decided, decide, done, take_returned, resting}
-use Rattle.my_pool_core.specs.Moves.{IsMove, IsStill, TakenPlaces, verdict_place, is_drop, is_ending_place, is_due_place}
+use Rattle.my_pool_core.specs.Events.{decide, done, take_returned}
+use Rattle.my_pool_core.specs.Moves.{IsMove, TakenPlaces, verdict_place, is_ending_place, is_due_place}
 use Rattle.my_pool_core.specs.Owners.{place_at, mark_at}
 use Rattle.my_pool_core.specs.Sound.{IsSound}
 use Rattle.my_pool_core.specs.State.{State}
-use Rattle.my_pool_core.specs.Steps.{may}
 use Rattle.my_pool_core.proofs.Kept.Moving.{both}
 use Rattle.my_pool_core.proofs.Placed.Allowing.{may-decide, may-done}
 use Rattle.my_pool_core.proofs.Placed.Moves.{places-move}
 use Rattle.my_pool_core.proofs.Placed.Verdicts.{Says, DoneSays, decide-says, done-says, resetting-found}
-use Rattle.my_session.specs.Rest.{is_dirty}
 use Rattle.my_conn.specs.Conn.{ConnSeen}
 use Rattle.my_pool.specs.Fit.{IsStill as IsStillConn, IsFit, facts_of}
-use Rattle.my_pool_store.specs.Shelves.{Shelved, Entry, entry, has, kept_at, put_by, without_number}
-use Rattle.my_pool.specs.Stored.{Stored, StoredAt, IsStored, IsThere, IsOutOr}
+use Rattle.my_pool_store.specs.Shelves.{Entry, entry, has, kept_at, put_by, without_number}
+use Rattle.my_pool.specs.Stored.{Stored, IsStored, IsThere}
 use Rattle.my_pool_store.proofs.Keeping.{put-there, put-others, put-once, out-there, out-others, out-once}
 use Rattle.my_pool.proofs.Wholes.{stored-moved, stored-still}
 

@@ -1,10 +1,10 @@
 -- What an exchange keeps after the events of a request.
-use Rattle.std.proofs.Common.{◌≡◌, ◌⊎◌, cond, ℕ, ◌+◌, ◌<◌, ◌≤◌, Bool, true, false, Option, Some, None, List, length, refl, sym, ap, ◌∙◌, arith, subst, inl, inr, max}
-use Rattle.std.specs.Prelude.{find, option_map, ◌==◌, ◌&&◌, not, if◌then◌else◌}
-use Rattle.std.specs.List.{filter, list_all}
+use Rattle.std.proofs.Common.{◌≡◌, ◌⊎◌, cond, ℕ, ◌≤◌, Bool, true, false, Option, Some, None, List, refl, sym, ap, ◌∙◌, arith, subst, inl, inr}
+use Rattle.std.specs.Prelude.{find, option_map, ◌==◌, if◌then◌else◌}
+use Rattle.std.specs.List.{list_all}
 use Rattle.std.proofs.lemmas.Bool.{eqb-true, eq-eqb}
 use Rattle.my_pool_parts.specs.declared.connection.Place.{Place}
-use Rattle.my_pool_parts.specs.declared.connection.Place.TheVariants.{Idle, Leased, Connecting, Checking, Returned, Cleaning, Resetting, Closing}
+use Rattle.my_pool_parts.specs.declared.connection.Place.TheVariants.{Connecting, Checking}
 use Rattle.my_pool_parts.specs.declared.connection.Times.{Times}
 use Rattle.my_pool_parts.specs.Lists.{how_many, found_is}
 use Rattle.my_pool_parts.specs.Connections.{is_over}
@@ -16,7 +16,7 @@ use Rattle.my_pool_core.specs.Counted.{room}
 use Rattle.my_pool_core.specs.Events.{cancel, failed, may_cancel, poll_request, request, request_age, is_at_end}
 use Rattle.my_pool_parts.specs.declared.request.Request.{Request}
 use Rattle.my_pool_parts.specs.Requests.{has_age, is_live}
-use Rattle.my_pool_core.specs.Moves.{IsMove, IsStill, IsAging, IsAgingMove, IsTaken, MayReturn, PolledPlaces, CancelledPlaces, failed_token, polled_token}
+use Rattle.my_pool_core.specs.Moves.{IsMove, IsAging, MayReturn, PolledPlaces, CancelledPlaces, failed_token, polled_token}
 use Rattle.my_pool_core.specs.Owners.{Token, Free, Making, Looking, number_in, token, token_of, place_at, is_held_place}
 use Rattle.my_pool_core.specs.Sound.{IsSound, IsCovered}
 use Rattle.my_pool_core.specs.State.{State}
@@ -31,8 +31,8 @@ use Rattle.my_conn.specs.Conn.{ConnSeen}
 use Rattle.my_pool.specs.Asks.{GivesFit, room_wanted}
 use Rattle.my_pool.specs.Fit.{IsFit, IsStill as IsStillConn}
 use Rattle.my_pool_store.specs.Noted.{IsNoted, Replays}
-use Rattle.my_pool_store.specs.Shelves.{Shelved, Entry, has, kept_at, left_by, taken_by, without_number}
-use Rattle.my_pool.specs.Stored.{Stored, StoredAt, IsStored, IsThere, IsWhole, IsResting}
+use Rattle.my_pool_store.specs.Shelves.{Shelved, Entry, kept_at, left_by, taken_by, without_number}
+use Rattle.my_pool.specs.Stored.{Stored, IsStored, IsThere, IsWhole, IsResting}
 use Rattle.my_pool_store.specs.Woken.{Called, waiting}
 use Rattle.my_pool_store.proofs.Keeping.{out-there, out-others, out-once}
 use Rattle.my_pool_store.proofs.Calling.{filter-all, filter-fewer}

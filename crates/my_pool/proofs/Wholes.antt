@@ -1,7 +1,7 @@
 -- What an exchange keeps, after each event.
-use Rattle.std.proofs.Common.{◌≡◌, ℕ, ◌+◌, ◌<◌, ◌≤◌, Bool, true, false, cond, Option, Some, None, List, [], ◌∷◌, ◌++◌, length, refl, sym, ap, ◌∙◌, arith, subst, inl, inr}
+use Rattle.std.proofs.Common.{◌≡◌, ℕ, ◌+◌, ◌<◌, ◌≤◌, Bool, true, false, cond, Option, Some, None, List, [], ◌∷◌, ◌++◌, length, refl, sym, ap, ◌∙◌, arith, subst}
 use Rattle.std.specs.Prelude.{find, option_map, ◌==◌}
-use Rattle.std.specs.List.{filter, list_all}
+use Rattle.std.specs.List.{list_all}
 use Rattle.std.proofs.lemmas.Bool.{eqb-true}
 use Rattle.my_pool_parts.specs.declared.connection.Connection.{Connection}
 use Rattle.my_pool_parts.specs.declared.connection.Place.{Place}
@@ -19,7 +19,7 @@ use Rattle.my_pool_core.specs.Moves.{IsMove, IsStill}
 use Rattle.my_pool_core.specs.Owners.{place_at, is_lease}
 use Rattle.my_pool_core.specs.Sound.{IsSound, IsCovered}
 use Rattle.my_pool_core.specs.State.{State}
-use Rattle.my_pool_core.specs.Steps.{may, step, AllMay, after}
+use Rattle.my_pool_core.specs.Steps.{may, step}
 use Rattle.my_pool_core.specs.Wakes.{waits}
 use Rattle.my_pool_core.proofs.Always.{sound-step, sound-new, covered-step, covered-new}
 use Rattle.my_pool_core.proofs.Placed.Allowing.{may-give-back}
@@ -29,7 +29,7 @@ use Rattle.my_conn.specs.Conn.{ConnSeen}
 use Rattle.my_pool.specs.Fit.{IsStill as IsStillConn}
 use Rattle.my_pool_store.specs.Noted.{Leads, IsNoted, Replays}
 use Rattle.my_pool_store.specs.Shelves.{Shelved, Entry, entry, has, kept_at}
-use Rattle.my_pool.specs.Stored.{Stored, StoredAt, IsAbsent, IsStored, IsWhole, IsFresh}
+use Rattle.my_pool.specs.Stored.{Stored, IsStored, IsWhole, IsFresh}
 use Rattle.my_pool_store.specs.Woken.{Called, waiting}
 use Rattle.my_pool_store.proofs.Calling.{filter-all, filter-fewer}
 use Rattle.my_pool_store.proofs.Keeping.{put-there, put-others, put-once, few-kept, none-kept}

@@ -1,5 +1,5 @@
 -- What a pool asks of a connection, and what it tells the core of one.
-use Rattle.std.specs.Prelude.{ℕ, ◌≡◌, ◌⊎◌, Bool, true, false, ◌||◌, Option, Some, None}
+use Rattle.std.specs.Prelude.{ℕ, ◌≡◌, ◌⊎◌, Bool, false, ◌||◌, Option, Some, None}
 use Rattle.my_session.specs.Rest.{is_dirty}
 use Rattle.my_reading.specs.declared.call.CallKind.{CallKind}
 use Rattle.my_reading.specs.declared.call.CallKind.TheVariants.{CleanForPool, ResetForPool, Quit}

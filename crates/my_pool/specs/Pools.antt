@@ -1,5 +1,5 @@
 -- What contracts see of an exchange, and of an event of it.
-use Rattle.std.specs.Prelude.{◌≡◌, ℕ, Bool, true, Option, Some, None, List, [], ◌∷◌, ◌++◌}
+use Rattle.std.specs.Prelude.{◌≡◌, ℕ, Bool, true, Option, Some, None, List}
 use Rattle.my_pool_parts.specs.Connections.{is_cleaning_place, is_working_place}
 use Rattle.my_pool_parts.specs.Lists.{found_is}
 use Rattle.my_pool_parts.specs.declared.connection.Place.{Place}

@@ -1,13 +1,12 @@
-use Rattle.std.proofs.Common.{◌≡◌, ◌≤◌, ℕ, true, false, ap, sym, ◌∙◌, refl, arith}
+use Rattle.std.proofs.Common.{◌≡◌, true, false, ap, ◌∙◌, refl, arith}
 use Rattle.std.specs.Prelude.{find, ◌==◌}
-use Rattle.my_frame.specs.Lists.{without}
-use Rattle.my_pool_parts.specs.Lists.{how_many, found_is}
+use Rattle.my_pool_parts.specs.Lists.{found_is}
 use Rattle.my_pool_parts.specs.Requests.{has_age}
 use Rattle.my_pool_parts.proofs.Finding.{count-without-le}
 use Rattle.my_pool_core.specs.declared.event.PoolEvent.TheVariants as events
 use Rattle.my_pool_core.specs.Events.{may_cancel}
 use Rattle.my_pool_core.specs.Wakes.{hands_on, oldest_waiting}
-use Rattle.my_pool_store.specs.Woken.{called_at, waiting}
+use Rattle.my_pool_store.specs.Woken.{called_at}
 use Rattle.my_pool_store.proofs.Calling.{kept-waits, kept-once, left-of}
 use Rattle.my_pool.proofs.Requesting.{cancel-stored, live-holds}
 use Rattle.my_pool.proofs.Waiting.{at-most-oldest, own-oldest}

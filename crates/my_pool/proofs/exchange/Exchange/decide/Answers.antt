@@ -1,17 +1,14 @@
-use Rattle.std.proofs.Common.{◌≡◌, Some, true, false, None, sym, ap, ◌∙◌, refl, subst}
-use Rattle.std.specs.Prelude.{◌&&◌}
+use Rattle.std.proofs.Common.{◌≡◌, true, None, ap, ◌∙◌, refl}
 use Rattle.my_pool_parts.specs.Lists.{found_is}
 use Rattle.my_pool_parts.specs.Connections.{is_cleaning_place}
 use Rattle.my_pool_core.specs.declared.event.PoolEvent.TheVariants as events
-use Rattle.my_pool_core.specs.declared.event.Facts.{Facts}
-use Rattle.my_pool_core.specs.declared.event.Verdict.{Verdict}
 use Rattle.my_pool_core.specs.Events.{decide}
 use Rattle.my_pool_core.specs.Owners.{place_at}
 use Rattle.my_pool_core.specs.Wakes.{frees}
 use Rattle.my_pool_core.proofs.Placed.Allowing.{may-decide}
-use Rattle.my_pool_store.specs.Shelves.{Entry, kept_at}
+use Rattle.my_pool_store.specs.Shelves.{kept_at}
 use Rattle.my_pool_store.specs.Woken.{called_at}
-use Rattle.my_pool.specs.Fit.{IsFit, IsStill}
+use Rattle.my_pool.specs.Fit.{IsStill}
 use Rattle.my_pool.proofs.Deciding.{decide-stored}
 use Rattle.my_pool.proofs.Waiting.{oldest-ages, at-most-oldest}
 use Rattle.my_pool.proofs.Wholes.{in-hand-room, whole-step}

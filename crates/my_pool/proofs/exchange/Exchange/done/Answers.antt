@@ -1,11 +1,8 @@
-use Rattle.std.proofs.Common.{◌≡◌, Some, true, false, None, sym, ap, ◌∙◌, refl, subst}
-use Rattle.std.specs.Prelude.{◌&&◌}
+use Rattle.std.proofs.Common.{◌≡◌, Some, true, None, sym, ap, ◌∙◌, refl, subst}
 use Rattle.my_pool_parts.specs.Lists.{found_is}
 use Rattle.my_pool_parts.specs.declared.connection.Place.TheVariants.{Resetting}
 use Rattle.my_pool_core.specs.Moves.{is_ending_place}
 use Rattle.my_pool_core.specs.declared.event.PoolEvent.TheVariants as events
-use Rattle.my_pool_core.specs.declared.event.Facts.{Facts}
-use Rattle.my_pool_core.specs.declared.event.Verdict.{Verdict}
 use Rattle.my_pool_core.specs.Events.{done}
 use Rattle.my_pool_core.specs.Owners.{place_at}
 use Rattle.my_pool_core.specs.Wakes.{frees}

@@ -16,7 +16,6 @@ use Rattle.my_pool_core.proofs.Asked.Tokens.{may-poll}
 use Rattle.my_pool_core.proofs.Placed.Counts.{room-stays, take-idle}
 use Rattle.my_pool_core.proofs.Placed.Moves.{places-move}
 use Rattle.my_pool.specs.Asks.{is_wait, GivesFit, TakesOneLess}
-use Rattle.my_pool_store.specs.Shelves.{taken_by}
 use Rattle.my_pool_store.specs.Woken.{kept_for}
 use Rattle.my_pool_store.proofs.Calling.{waker-room, kept-waits, kept-once, left-of}
 use Rattle.my_pool.proofs.Requesting.{poll-gives, poll-stored, polled-own, polled-waits}

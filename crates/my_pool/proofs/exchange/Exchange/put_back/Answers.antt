@@ -1,4 +1,4 @@
-use Rattle.std.proofs.Common.{◌≡◌, true, None, Some, ap, sym, subst, ◌∙◌, refl}
+use Rattle.std.proofs.Common.{◌≡◌, None, Some, ap, sym, subst, ◌∙◌}
 use Rattle.my_pool_parts.specs.Connections.{is_working_place}
 use Rattle.my_pool_parts.specs.Lists.{found_is}
 use Rattle.my_pool_core.specs.Owners.{place_at}

@@ -1,6 +1,5 @@
-use Rattle.std.proofs.Common.{◌≡◌, ◌≤◌, refl, arith, Some, ap, sym, ◌∙◌}
+use Rattle.std.proofs.Common.{◌≡◌, ◌≤◌, arith, ap, sym, ◌∙◌}
 use Rattle.my_pool_core.specs.Events.{request, request_age}
-use Rattle.my_pool_core.specs.Owners.{Free, token}
 use Rattle.my_pool_store.specs.Woken.{called_closed, waiting}
 use Rattle.my_pool.specs.Asks.{room_wanted}
 use Rattle.my_pool.proofs.Requesting.{request-holds, whole-request}

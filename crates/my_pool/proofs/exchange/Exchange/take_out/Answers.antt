@@ -1,4 +1,4 @@
-use Rattle.std.proofs.Common.{◌≡◌, true, None, Some, sym, ap, ◌∙◌, refl, arith}
+use Rattle.std.proofs.Common.{◌≡◌, true, None, sym, ap, ◌∙◌, refl, arith}
 use Rattle.my_pool_core.specs.Owners.{is_working}
 use Rattle.my_pool_store.specs.Shelves.{kept_at}
 use Rattle.my_pool_store.proofs.Keeping.{out-there}

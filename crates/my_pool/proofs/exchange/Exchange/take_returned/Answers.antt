@@ -1,12 +1,10 @@
-use Rattle.std.proofs.Common.{◌≡◌, ◌<◌, ◌≤◌, Some, sym, ap, ◌∙◌, refl, arith, subst}
+use Rattle.std.proofs.Common.{◌≡◌, Some, sym, ap, ◌∙◌, refl, arith, subst}
 use Rattle.my_pool_parts.specs.Connections.{is_cleaning_place}
 use Rattle.my_pool_parts.specs.Lists.{found_is}
 use Rattle.my_pool_core.specs.declared.event.PoolEvent.TheVariants as events
-use Rattle.my_pool_core.specs.Counted.{due}
 use Rattle.my_pool_core.specs.Owners.{place_at}
 use Rattle.my_pool_core.proofs.Placed.Counts.{take-counts}
 use Rattle.my_pool_store.specs.Shelves.{kept_at}
-use Rattle.my_conn.specs.Conn.{ConnSeen}
 use Rattle.my_pool.specs.Fit.{IsStill}
 use Rattle.my_pool.proofs.Deciding.{takes-one, takes-none, taken-kept, taken-stored, taken-cleaned}
 use Rattle.my_pool.proofs.Waiting.{quiet-ages}
