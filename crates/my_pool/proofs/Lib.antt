@@ -1,0 +1,5 @@
+pub mod Wholes
+pub mod Waiting
+pub mod Deciding
+pub mod Requesting
+pub mod Moving

@@ -1,0 +1,10 @@
+use Rattle.std.proofs.Common.{◌≡◌, Bool, true, false, ◌∙◌}
+use Rattle.std.specs.Prelude.{◌||◌}
+use Rattle.my_pool.proofs.facts.fit_is_clean.Goals as goal
+
+second-false : (a b : Bool) → (a || b) ≡ false → b ≡ false
+second-false true b e = absurd (cc)
+second-false false b e = e
+
+pub returns : goal.returns
+returns g c = λ fit login k stands. (c.is_dirty.ensures.did login k stands).1 (second-false c.args.conn.now.lost c.args.conn.now.seen.closed fit.alive, c.is_dirty.ensures.value ∙ fit.clean)

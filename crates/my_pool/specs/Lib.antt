@@ -1,0 +1,4 @@
+pub mod Fit
+pub mod Stored
+pub mod Pools
+pub mod Asks

@@ -1,0 +1,85 @@
+//! A pool that nobody shares.
+
+mod asking;
+mod ending;
+mod moving;
+mod returning;
+
+use my_conn::Conn;
+use my_frame::NoMemory;
+use my_opts::Opts;
+use my_pool_core::Core;
+use my_pool_store::{Journal, Shelf, Wake, Wakers};
+use std::alloc::Global;
+use std::marker::Model;
+
+/// A pool on one thread, without its requests: each event of its core is a method, which moves the connection that the
+/// event is about and calls whom it wakes.
+#[derive(Drop)]
+pub struct Exchange<L, J: Journal, W: Wake> {
+    opts: Opts,
+    core: Core,
+    shelf: Shelf<Conn<L>>,
+    wakers: Wakers<W>,
+    journal: J,
+    first: u64,
+}
+
+impl<L, J: Journal, W: Wake> Model for Exchange<L, J, W> {
+    ghost use Rattle.my_pool_core.specs.Events.{new_pool};
+    ghost use Rattle.my_pool_core.specs.Made.{limits_of};
+    ghost use Rattle.my_pool.specs.Pools.{Pool};
+    ghost use Rattle.my_pool.specs.Stored.{IsWhole};
+
+    ghost Value = { Pool L };
+
+    ghost view = { λ e. record {
+      state = e.core;
+      kept = e.shelf.kept;
+      ages = e.wakers.ages;
+      told = J.told e.journal;
+      start = new_pool (limits_of e.opts.pool_opts) e.first;
+    } };
+
+    ghost invariant = { λ e. IsWhole (new_pool (limits_of e.opts.pool_opts) e.first) e.core e.shelf e.wakers
+        (J.told e.journal) };
+}
+
+impl<L: Drop, J: Journal, W: Wake> Exchange<L, J, W> {
+    ghost use Rattle.std.specs.Prelude.{◌≡◌, [], IfOk};
+    ghost use Rattle.my_pool_core.specs.Events.{new_pool};
+    ghost use Rattle.my_pool_core.specs.Made.{limits_of};
+    ghost use Rattle.my_pool.specs.Stored.{IsFresh};
+
+    /// A pool with no connection, by the pool's options among these; its first connection will have the number `first`. The
+    /// journal tells no event yet.
+    pub fn new(
+        alloc: Global,
+        opts: Opts,
+        journal: J,
+        first: u64,
+    ) -> Result<Exchange<L, J, W>, NoMemory>
+        requires { IsFresh (J.told journal) }
+        ensures state { IfOk result (λ e. e.state ≡ new_pool (limits_of opts.pool_opts) first) }
+        ensures start { IfOk result (λ e. e.start ≡ new_pool (limits_of opts.pool_opts) first) }
+        ensures kept { IfOk result (λ e. e.kept ≡ []) }
+        ensures ages { IfOk result (λ e. e.ages ≡ []) }
+        ensures told { IfOk result (λ e. e.told ≡ J.told journal) }
+    {
+        match Core::new(alloc, opts.pool_opts(), first) {
+            Ok(core) => Ok(Exchange {
+                opts,
+                core,
+                shelf: Shelf::new(alloc),
+                wakers: Wakers::new(alloc),
+                journal,
+                first,
+            }),
+            Err(error) => {
+                drop(opts);
+                drop(journal);
+                Err(error)
+            }
+        }
+    }
+}
