@@ -12,6 +12,8 @@ pub struct NearWorld<'a> {
     inner: MemWorld,
     host: &'a str,
     port: u16,
+    // Whether lines of its plan are taken: none is.
+    plans: bool,
     faults: u64,
 }
 
@@ -21,6 +23,7 @@ impl<'a> NearWorld<'a> {
             inner,
             host,
             port,
+            plans: false,
             faults: 0,
         }
     }
@@ -34,13 +37,13 @@ impl<'a> NearWorld<'a> {
 }
 
 impl Dialer for NearWorld<'_> {
-    ghost use Rattle.std.specs.Prelude.{None, false};
+    ghost use Rattle.std.specs.Prelude.{None};
     ghost use Rattle.my_link.specs.Dials.{no_chance};
 
     type L = ReadyLink<MemLink>;
 
     ghost seen = { λ w. record {
-      takes = false;
+      takes = w.plans;
       plans = record { reads = λ n. None; writes = λ n. None; dials = λ n. None };
       dials = record { faults = w.faults; holds = 0 };
       chance = no_chance;
@@ -86,7 +89,7 @@ impl Aid for NearWorld<'_> {}
 
 impl World for NearWorld<'_> {
     fn plans(&self) -> bool {
-        false
+        self.plans
     }
 
     fn prepare(&mut self, _line: &WorldLine) -> Result<(), NoMemory> {
