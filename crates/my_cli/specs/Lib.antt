@@ -1,3 +1,5 @@
 pub mod Page
+pub mod Unread
+pub mod Cause
 pub mod Message
 pub mod Live

@@ -3,7 +3,10 @@ use Rattle.std.specs.Prelude.{◌≡◌, ℕ, ◌==◌, ◌||◌, List, [], ◌�
 use Rattle.std.specs.Char.{is_ascii_graphic}
 use Rattle.std.specs.Fmt.{decimal}
 use Rattle.my_run.specs.declared.tool.Status.{Status}
-use Rattle.my_run.specs.declared.tool.Status.TheVariants.{Done, NoCommand, Unread, SourceFailed, SinkFailed, Refused, TooLong, NoMemory}
+use Rattle.my_run.specs.declared.tool.Status.TheVariants as status
+use Rattle.my_cli.specs.declared.help.TheConstants.{USAGE}
+use Rattle.my_cli.specs.declared.unread.Unread.{Unread}
+use Rattle.my_cli.specs.Unread.{unread_text}
 
 -- a byte that can be printed, or `?`
 abbrev pub printable : ℕ → ℕ
@@ -17,19 +20,21 @@ abbrev pub words_text : List (List ℕ) → List ℕ
 words_text [] = []
 words_text (word ∷ words) = 32 ∷ printed word ++ words_text words
 
+-- without words the usage, in three lines
 abbrev pub no_command_text : List (List ℕ) → List ℕ
+no_command_text [] = USAGE.now
 no_command_text words = codes "no such command:" ++ words_text words ++ codes "; --help teaches the words"
 
-abbrev pub bad_line_text : ℕ → List ℕ → List ℕ
-bad_line_text number line = codes "line " ++ decimal number ++ codes " doesn't read: " ++ printed line
+abbrev pub bad_line_text : ℕ → Unread → List ℕ → List ℕ
+bad_line_text number cause line = codes "line " ++ decimal number ++ codes " doesn't read (" ++ unread_text cause ++ codes "): " ++ printed line
 
--- the message of a status; that of a refused word is its fault's own text
+-- the message of a status; that of a refused word is its fault's own text, and a line that doesn't read has one of the causes
 abbrev pub MessageIs : List (List ℕ) → Status → Option (List ℕ) → Type 0
-MessageIs words Done m = m ≡ None
-MessageIs words NoCommand m = m ≡ Some (no_command_text words)
-MessageIs words (Unread line) m = m ≡ Some (bad_line_text line.number line.text)
-MessageIs words SourceFailed m = m ≡ Some (codes "standard input failed")
-MessageIs words SinkFailed m = m ≡ Some (codes "standard output failed")
-MessageIs words (Refused fault) m = (text : List ℕ) × (m ≡ Some text)
-MessageIs words TooLong m = m ≡ Some (codes "standard input has more than 67108864 bytes")
-MessageIs words NoMemory m = m ≡ Some (codes "out of memory")
+MessageIs words status.Done m = m ≡ None
+MessageIs words status.NoCommand m = m ≡ Some (no_command_text words)
+MessageIs words (status.Unread line) m = (cause : Unread) × (m ≡ Some (bad_line_text line.number cause line.text))
+MessageIs words status.SourceFailed m = m ≡ Some (codes "standard input failed")
+MessageIs words status.SinkFailed m = m ≡ Some (codes "standard output failed")
+MessageIs words (status.Refused fault) m = (text : List ℕ) × (m ≡ Some text)
+MessageIs words status.TooLong m = m ≡ Some (codes "standard input has more than 67108864 bytes")
+MessageIs words status.NoMemory m = m ≡ Some (codes "out of memory")

@@ -1,6 +1,6 @@
 //! The pages that describe the program.
 ghost use Rattle.std.specs.Prelude.{◌≡◌, map, string_bytes};
-ghost use Rattle.my_cli.specs.Page.{page_for};
+ghost use Rattle.my_cli.specs.Page.{asks_help, asks_version, page_for};
 
 /// What a lone word asks for.
 #[derive(Clone, Copy, PartialEq, Eq)]
@@ -9,15 +9,27 @@ pub enum Page {
     Version,
 }
 
+fn asks_help(word: &str) -> bool
+    ensures { result ≡ asks_help word.now }
+{
+    word == "--help" || word == "-h" || word == "help"
+}
+
+fn asks_version(word: &str) -> bool
+    ensures { result ≡ asks_version word.now }
+{
+    word == "--version" || word == "-V"
+}
+
 /// The page that the words ask for, or none where they are another command.
 pub fn asked_page(words: &[String]) -> Option<Page>
     ensures { result ≡ page_for (map string_bytes words.now) }
 {
     match words {
         [word] => {
-            if word.as_str() == "--help" {
+            if asks_help(word.as_str()) {
                 Some(Page::Help)
-            } else if word.as_str() == "--version" {
+            } else if asks_version(word.as_str()) {
                 Some(Page::Version)
             } else {
                 None
@@ -42,15 +54,26 @@ impl Page {
     }
 }
 
+/// What is said where there are no words.
+pub const USAGE: &str = "\
+usage: my_cli live WORD < SCRIPT    steps at real servers; WORD is a URL or env:NAME
+       my_cli script WORD < SCRIPT  steps at servers that the script plays
+       my_cli --help                what WORD and SCRIPT are";
+
 const VERSION: &str = "my_cli 0.1.0\n";
 
 const HELP: &str = "\
 my_cli runs a script of steps over MySQL connections, and prints what each step came to.
 
-  my_cli script WORD < SCRIPT
-  my_cli live WORD < SCRIPT
+  my_cli live WORD < SCRIPT     runs steps at real servers
+  my_cli script WORD < SCRIPT   runs steps at servers that the script plays
+  my_cli --help                 prints this page, as -h and help do; --version or -V the version
 
-In script the input also says what the servers do; live connects to real servers.
+WORD is a URL, or env:NAME for the URL that NAME has in the environment: each user of the
+machine can see the words of a program, as by ps, and so a password in them. In the repository
+./run starts my_cli and builds it first, ./run sql URL 'SELECT 1' takes no script, and ./run show
+prints an output for a reader. docs/SCRIPTS.md is the manual: each step with an example, errors
+with what to do. Below are WORD, the lines of a script, the answers and the statuses.
 
 WORD says how to connect: plain,USER,PASS,PACKET,WAIT. An empty USER or PASS is none.
 PACKET is the longest packet in bytes, from 1024 to 1073741824; WAIT is the seconds that
@@ -177,7 +200,4 @@ The status tells how the run ended. A status other than 0 prints its cause on st
   6   WORD is refused
   7   the script is longer than 67108864 bytes
   12  out of memory
-
-  my_cli --help      prints this page
-  my_cli --version   prints the version
 ";
