@@ -47,6 +47,7 @@ impl Dialer for NearWorld<'_> {
       plans = record { reads = λ n. None; writes = λ n. None; dials = λ n. None };
       dials = record { faults = w.faults; holds = 0 };
       chance = no_chance;
+      back = None;
     } };
 
     fn dial(&mut self, number: u64, target: &Target) -> DialStep<ReadyLink<MemLink>> {
@@ -58,6 +59,11 @@ impl Dialer for NearWorld<'_> {
         }
         self.faults = self.faults.saturating_add(1);
         DialStep::Failed
+    }
+
+    fn hang_up(&mut self, _number: u64, link: ReadyLink<MemLink>) -> Result<(), NoMemory> {
+        drop(link);
+        Ok(())
     }
 }
 

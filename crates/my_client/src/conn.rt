@@ -1,5 +1,5 @@
 //! A connection: a session on its link.
-ghost use Rattle.std.specs.Prelude.{◌≡◌, None, Some, false, is_some, option_map, true, IfOk, OnErr, OnOk};
+ghost use Rattle.std.specs.Prelude.{◌≡◌, None, Some, false, is_some, option_map, true, IfOk, IfErr, OnErr, OnOk};
 ghost use Rattle.my_reading.specs.Calls.{is_connect, kind_of};
 ghost use Rattle.my_session.specs.Tasks.{is_open};
 ghost use Rattle.my_session.specs.History.{beginning};
@@ -33,42 +33,46 @@ pub struct TapedConn<L> {
     pub tape: Tape,
 }
 
-// A connection over `link` on which no call began.
-fn new_conn<L: Link + Drop>(
+// A connection over `link` on which no call began. Out of memory the link is returned.
+fn new_conn<L: Link>(
     alloc: Global,
     opts: Opts,
     link: L,
     deadline: Option<u128>,
-) -> Result<TapedConn<L>, NoMemory>
+) -> Result<TapedConn<L>, L>
     ensures seen { IfOk result (λ c. c.session.seen ≡ fresh (login_of opts)) }
     ensures lifetime { IfOk result (λ c. c.session.lifetime ≡ first_lifetime opts (L.socket link) deadline) }
     ensures stands { IfOk result (λ c. Stands c.session.seen beginning) }
     ensures kept { IfOk result (λ c. kept_of c ≡ nothing_kept) }
     ensures link { IfOk result (λ c. c.link ≡ link) }
+    ensures back { IfErr result (λ l. l ≡ link) }
 {
-    let session = Session::new(alloc, opts, link.is_socket(), deadline)?;
-    Ok(TapedConn {
-        session,
-        link,
-        tape: Tape::new(alloc),
-    })
+    match Session::new(alloc, opts, link.is_socket(), deadline) {
+        Ok(session) => Ok(TapedConn {
+            session,
+            link,
+            tape: Tape::new(alloc),
+        }),
+        Err(NoMemory) => Err(link),
+    }
 }
 
 /// A connection over `link` whose handshake is begun. Where the options say that a connection ends, its deadline is that of one
-/// that is made at `now`, in milliseconds; `random` picks among its moments.
-pub fn begin_conn<L: Link + Drop>(
+/// that is made at `now`, in milliseconds; `random` picks among its moments. Out of memory the link is returned.
+pub fn begin_conn<L: Link>(
     alloc: Global,
     opts: Opts,
     link: L,
     now: u64,
     random: u64,
-) -> Result<TapedConn<L>, NoMemory>
+) -> Result<TapedConn<L>, L>
     ensures asked { IfOk result (λ c. IsAsked (login_of opts) c.session.seen (kept_of c) first_asked) }
     ensures lifetime { IfOk result (λ c. c.session.lifetime ≡
         first_lifetime opts (L.socket link) (deadline_of opts.pool_opts now random)) }
     ensures kept { IfOk result (λ c. kept_of c ≡ first_kept) }
     ensures is_on { IfOk result (λ c. is_open c.session.seen.task ≡ true) }
     ensures link { IfOk result (λ c. c.link ≡ link) }
+    ensures back { IfErr result (λ l. l ≡ link) }
 {
     let deadline = opts.pool_opts().new_deadline(now, random);
     let mut conn = new_conn(alloc, opts, link, deadline)?;
@@ -77,11 +81,22 @@ pub fn begin_conn<L: Link + Drop>(
             Ok(()) => Ok(conn),
             Err(_) => unreachable!(),
         },
-        Err(NoMemory) => {
-            drop(conn);
-            Err(NoMemory)
-        }
+        Err(NoMemory) => Err(end_conn(conn)),
     }
+}
+
+// The link of a connection that ends here.
+fn end_conn<L>(conn: TapedConn<L>) -> L
+    ensures { result ≡ conn.link }
+{
+    let TapedConn {
+        session,
+        link,
+        tape,
+    } = conn;
+    drop(session);
+    drop(tape);
+    link
 }
 
 /// Keeps that this call is open, and the rows that it gathers, where it gathers any. It takes room for how the call ends.

@@ -30,7 +30,10 @@ impl<L: BlockingLink + Drop> Conn<L> {
         let fixed = Fixed::first(&opts, now);
         let begun = match begin_conn(alloc, opts, link, now, random) {
             Ok(begun) => begun,
-            Err(NoMemory) => return Err(Error::NoMemory),
+            Err(link) => {
+                drop(link);
+                return Err(Error::NoMemory);
+            }
         };
         let TapedConn {
             mut session,

@@ -102,7 +102,13 @@ impl<L: Link + Drop> Connecting<L> {
         ensures fixed { IfOk result (λ c. c.fixed ≡ first_fixed opts now) }
     {
         let fixed = Fixed::first(&opts, now);
-        let begun = begin_conn(alloc, opts, link, now, random)?;
+        let begun = match begin_conn(alloc, opts, link, now, random) {
+            Ok(begun) => begun,
+            Err(link) => {
+                drop(link);
+                return Err(NoMemory);
+            }
+        };
         let TapedConn {
             session,
             link,

@@ -61,7 +61,7 @@ pub fn connect_with<W: World>(
     world: &mut W,
 ) -> Result<Client<W::L>, Error>
 where
-    W::L: BlockingLink,
+    W::L: BlockingLink + Drop,
     ensures { ConnectIs W.L.looks opts (W.seen world.old).chance result }
 {
     let now = world.now();
@@ -82,7 +82,7 @@ where
 /// `LONGEST_URL` bytes, which is out of memory.
 pub fn connect<W: World>(alloc: Global, url: &str, world: &mut W) -> Result<Client<W::L>, Error>
 where
-    W::L: BlockingLink,
+    W::L: BlockingLink + Drop,
     ensures { UrlConnectIs W.L.looks (options_of url.now) (W.seen world.old).chance result }
 {
     match options(alloc, url) {

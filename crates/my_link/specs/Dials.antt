@@ -1,5 +1,5 @@
 -- What clauses see of what dials links, and what a dial does.
-use Rattle.std.specs.Prelude.{ℕ, ◌≡◌, ◌≢◌, ◌≤◌, ◌+◌, ◌-◌, ◌^◌, min, zero, suc, List, [], ◌∷◌, Option, None, Some, Bool}
+use Rattle.std.specs.Prelude.{ℕ, ◌≡◌, ◌≢◌, ◌≤◌, ◌+◌, ◌-◌, ◌^◌, min, zero, suc, List, [], ◌∷◌, ◌++◌, Option, None, Some, option_map, Bool}
 use Rattle.my_link.specs.declared.link.ReadItem.{ReadItem}
 use Rattle.my_link.specs.declared.link.WriteItem.{WriteItem}
 use Rattle.my_link.specs.declared.dialer.DialItem.{DialItem}
@@ -7,6 +7,7 @@ use Rattle.my_link.specs.declared.dialer.DialItem.TheVariants.{Wait, Fail}
 use Rattle.my_link.specs.declared.dialer.DialStep.{DialStep}
 use Rattle.my_link.specs.declared.dialer.DialStep.TheVariants.{Link, NotYet, Failed}
 use Rattle.my_link.specs.Link.{Told}
+use Rattle.my_link.specs.Looks.{Looks}
 
 -- for the link of each number, where it is known: what can be read, what becomes of writes, and what its dials do before one
 -- gives the link
@@ -31,12 +32,23 @@ pub record Chance : Type 0 where
 abbrev pub no_chance : Chance
 no_chance = record { moment = None; randoms = None }
 
--- whether a plan is taken, the plan, the counts of the dials, and what is known of the time and of random words
+-- a link that was handed back: its number, and what it showed then
+pub record Back : Type 0 where
+  pub number : ℕ
+  pub looks : Looks
+
+-- one link more was handed back, where that is told
+abbrev pub with_back : ℕ → Looks → Option (List Back) → Option (List Back)
+with_back n x back = option_map (λ bs. bs ++ record { number = n; looks = x } ∷ []) back
+
+-- whether a plan is taken, the plan, the counts of the dials, what is known of the time and of random words, and the links that
+-- were handed back, the first of them first, where these are told
 pub record WorldSeen : Type 0 where
   pub takes : Bool
   pub plans : Plans
   pub dials : DialCounts
   pub chance : Chance
+  pub back : Option (List Back)
 
 -- both plans have the same items for link n
 pub record SameAt (old new : Plans) (n : ℕ) : Type 0 where

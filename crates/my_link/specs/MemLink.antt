@@ -1,5 +1,5 @@
 -- What clauses see of a link in memory.
-use Rattle.std.specs.Prelude.{ℕ, ◌≡◌, List, ◌++◌, length, drop}
+use Rattle.std.specs.Prelude.{ℕ, ◌≡◌, List, ◌++◌, length, drop, Some}
 use Rattle.my_link.specs.declared.memory.MemLink.{MemLink}
 use Rattle.my_link.specs.declared.link.ReadItem.{ReadItem}
 use Rattle.my_link.specs.declared.link.WriteItem.{WriteItem}
@@ -7,6 +7,7 @@ use Rattle.my_link.specs.declared.link.WriteStep.{WriteStep}
 use Rattle.my_link.specs.declared.link.WriteStep.TheVariants as writes
 use Rattle.my_link.specs.Link.{after_write, after_taken}
 use Rattle.my_link.specs.Memory.{left_items}
+use Rattle.my_link.specs.Looks.{Looks}
 use Rattle.my_link.specs.Outside.{Counts}
 
 -- the items that it has left
@@ -24,6 +25,10 @@ counted m = record { faults = m.faults; holds = m.holds; ends = m.ends; deaths =
 -- the bytes that it was sent
 abbrev pub sent_to : MemLink → List ℕ
 sent_to m = m.got.items
+
+-- it tells all of this
+abbrev pub looks_of : MemLink → Looks
+looks_of m = record { items = Some (unread m); writes = Some (unwritten m); got = Some (sent_to m); counts = counted m }
 
 -- these bytes were kept
 pub record HasKept (m k : MemLink) (bytes : List ℕ) (n : ℕ) : Type 0 where

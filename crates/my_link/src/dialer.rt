@@ -1,9 +1,10 @@
 //! What dials links.
-ghost use Rattle.std.specs.Prelude.{◌≡◌};
+ghost use Rattle.std.specs.Prelude.{◌≡◌, OnOk};
 ghost use Rattle.my_link.specs.Outside.{no_counts};
-ghost use Rattle.my_link.specs.Dials.{WorldSeen, SameBut, SameLink, IfLink, IfNoLink, PlaysDial, CountsDial, IsFresh};
+ghost use Rattle.my_link.specs.Dials.{WorldSeen, SameBut, SameLink, SamePlans, IfLink, IfNoLink, PlaysDial, CountsDial, IsFresh, with_back};
 
 use crate::link::Link;
+use my_frame::NoMemory;
 use my_opts_parts::Target;
 
 /// What the dials of a link do before one gives it, one item after another. With no item left a dial gives the link.
@@ -23,12 +24,13 @@ pub enum DialStep<L> {
     Failed,
 }
 
-/// What dials links.
+/// What dials links, and takes them back.
 pub trait Dialer {
-    type L: Link + Drop;
+    /// Code that is generic over the dialer can't let a link go: only `hang_up` ends it.
+    type L: Link;
 
-    /// The plan of each link and of its dials where it is known, how often a dial failed and wasn't ready, and what no dial
-    /// changes. A count has one more after each such result, until it is at its greatest value.
+    /// The plan of each link and of its dials where it is known, how often a dial failed and wasn't ready, what was handed back
+    /// where that is told, and what no dial changes. A count has one more after each such result, until it is at its greatest value.
     ghost seen: { Self → WorldSeen };
 
     /// Dials the link of `number` at `target`.
@@ -42,5 +44,14 @@ pub trait Dialer {
         ensures others { SameBut number (seen self.old).plans (seen self.new).plans }
         ensures takes { (seen self.new).takes ≡ (seen self.old).takes }
         ensures chance { (seen self.new).chance ≡ (seen self.old).chance }
-        ensures dials { CountsDial (seen self.old).dials (seen self.new).dials result };
+        ensures dials { CountsDial (seen self.old).dials (seen self.new).dials result }
+        ensures back { (seen self.new).back ≡ (seen self.old).back };
+
+    /// Takes back the link of `number`, which ends it. Out of memory the link ends, too, but isn't noted.
+    fn hang_up(&mut self, number: u64, link: Self::L) -> Result<(), NoMemory>
+        ensures back { OnOk result ((seen self.new).back ≡ with_back number (Self.L.looks link) (seen self.old).back) }
+        ensures plans { SamePlans (seen self.old).plans (seen self.new).plans }
+        ensures takes { (seen self.new).takes ≡ (seen self.old).takes }
+        ensures chance { (seen self.new).chance ≡ (seen self.old).chance }
+        ensures dials { (seen self.new).dials ≡ (seen self.old).dials };
 }

@@ -96,14 +96,9 @@ impl MemLink {
 }
 
 impl Link for MemLink {
-    ghost use Rattle.my_link.specs.MemLink.{unread, unwritten, counted, sent_to};
+    ghost use Rattle.my_link.specs.MemLink.{looks_of};
 
-    ghost looks = { λ m. record {
-      items = Some (unread m);
-      writes = Some (unwritten m);
-      got = Some (sent_to m);
-      counts = counted m;
-    } };
+    ghost looks = { looks_of };
 
     ghost socket = { λ m. false };
 

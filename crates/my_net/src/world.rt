@@ -110,6 +110,7 @@ fn random_word<R: RandomSource>(rt: &R) -> io::Result<u64> {
 }
 
 impl<R: Net<Stream = TcpStream>> Dialer for TcpWorld<R> {
+    ghost use Rattle.std.specs.Prelude.{None};
     ghost use Rattle.my_link.specs.Dials.{no_chance};
 
     type L = RealLink;
@@ -119,6 +120,7 @@ impl<R: Net<Stream = TcpStream>> Dialer for TcpWorld<R> {
       plans = nothing_told;
       dials = record { faults = w.faults; holds = 0 };
       chance = no_chance;
+      back = None;
     } };
 
     fn dial(&mut self, _number: u64, target: &Target) -> DialStep<RealLink> {
@@ -132,6 +134,12 @@ impl<R: Net<Stream = TcpStream>> Dialer for TcpWorld<R> {
                 DialStep::Failed
             }
         }
+    }
+
+    // The stream is closed.
+    fn hang_up(&mut self, _number: u64, link: RealLink) -> Result<(), NoMemory> {
+        drop(link);
+        Ok(())
     }
 }
 

@@ -16,7 +16,7 @@ use Rattle.my_script.specs.Script.{may_stand}
 use Rattle.std.specs.List.{list_all}
 use Rattle.my_script.specs.declared.transcript.StepAnswer.{StepAnswer}
 use Rattle.my_script.specs.declared.transcript.Tape.{Tape}
-use Rattle.my_steps.specs.Dialing.{Course, course_of, DialsTo, chance_by, dial_met, has_dialed}
+use Rattle.my_steps.specs.Dialing.{AreDialed, Course, course_of, DialsTo, chance_by, dial_met, has_dialed}
 use Rattle.my_steps.specs.Did.{Stepped}
 use Rattle.my_statements.specs.Prepared.{StatementView}
 use Rattle.my_script.specs.Numbered.{named_statement, statement_named, statements_by}
@@ -36,7 +36,7 @@ use Rattle.my_steps.proofs.Working.Awaiting.{at_sym}
 use Rattle.my_link.specs.Looks.{Looks}
 use Rattle.my_client.specs.Conn.{kept_of}
 use Rattle.my_steps.specs.Slot.{handle_with, handle_of, handles_from, handles_in}
-use Rattle.my_run.specs.Tapes.{tape_view, tape_at, tapes_in}
+use Rattle.my_run.specs.Tapes.{all_in, links_at, links_in, tape_view, tape_at, tapes_in, with_links}
 use Rattle.my_client.proofs.TapeRead.{is_read}
 use Rattle.my_run.proofs.Runs.Fitting.{IsFit, AllFit, step_fits}
 
@@ -81,6 +81,7 @@ none_yet {L} look login plans world done ss given same d e f = (
     dialed = refl;
     moved = refl;
     explained = tt;
+    kept = refl;
   },
   λ n. refl,
   refl,
@@ -91,9 +92,9 @@ abbrev pub LinesSoFar : {L : Type 0} → (L → Looks) → Login → Plans → C
 LinesSoFar look login told before now done slots answers beside given = (plans : Plans) → SamePlans told plans
     → (v : SoFar look login plans before now done slots answers) × ((n : ℕ) → beside_in beside n ≡ beside_of n v.lines) × (given ≡ statements_of v.lines)
 
-pub step_on : {L : Type 0} (look : L → Looks) (login : Login) (plans : Plans) (before : Course) (now later : WorldSeen) (done next : List Step) (ss ts : List (Slot L)) (given bs : List StepAnswer) (step : Step) (a : StepAnswer) (found : Bool) (named : Option StatementView) → (u : SoFar look login plans before now done ss given) → found ≡ is_found (target step) step u.lines → named ≡ statement_named (named_statement step) (statements_of u.lines) → Stepped login ss ts (AreAwaited plans later.plans 0 ts × StepGrows login plans found named (handles_in look now.plans ss) step a.outcome a.uses.items (handles_in look later.plans ts)) → DialsTo now.dials later.dials (dial_met (has_dialed step (handles_in look now.plans ss)) a.uses.items) → later.chance ≡ chance_by (has_dialed step (handles_in look now.plans ss)) step now.chance → a.number ≡ length done + 1 → bs ≡ given ++ a ∷ [] → next ≡ done ++ step ∷ []
+pub step_on : {L : Type 0} (look : L → Looks) (login : Login) (plans : Plans) (before : Course) (now later : WorldSeen) (done next : List Step) (ss ts : List (Slot L)) (given bs : List StepAnswer) (step : Step) (a : StepAnswer) (found : Bool) (named : Option StatementView) → (u : SoFar look login plans before now done ss given) → found ≡ is_found (target step) step u.lines → named ≡ statement_named (named_statement step) (statements_of u.lines) → Stepped login ss ts (AreAwaited plans later.plans 0 ts × StepGrows login plans found named (handles_in look now.plans ss) step a.outcome a.uses.items (handles_in look later.plans ts)) → DialsTo now.dials later.dials (dial_met (has_dialed step (handles_in look now.plans ss)) a.uses.items) → later.chance ≡ chance_by (has_dialed step (handles_in look now.plans ss)) step now.chance → later.back ≡ now.back → a.number ≡ length done + 1 → bs ≡ given ++ a ∷ [] → next ≡ done ++ step ∷ []
     → (v : SoFar look login plans before later next ts bs) × ((n : ℕ) → beside_of n v.lines ≡ beside_by n (beside_of n u.lines) step a.outcome) × (statements_of v.lines ≡ statements_by (statements_of u.lines) step a.outcome)
-step_on {L} look login plans before now later done next ss ts given bs step a found named u finds names w dials moves num e f =
+step_on {L} look login plans before now later done next ss ts given bs step a found named u finds names w dials moves stays num e f =
     let made : List Handle = handles_in look later.plans ts in
     let lines : List Line = record { step = step; number = a.number; outcome = a.outcome; uses = a.uses.items; handles = made } ∷ u.lines in
     let known : Bool = is_found (target step) step u.lines in
@@ -114,6 +115,7 @@ step_on {L} look login plans before now later done next ss ts given bs step a fo
         dialed = (now.dials, u.dialed, subst (λ (hs : List Handle). DialsTo now.dials later.dials (dial_met (has_dialed step hs) a.uses.items)) u.handles_are dials);
         moved = moves ∙ ap (λ (hs : List Handle). chance_by (has_dialed step hs) step now.chance) u.handles_are ∙ ap (chance_by (has_dialed step (handles_after u.lines)) step) u.moved;
         explained = (λ m. all_said look login (plans.reads m) (plans.dials m) later.plans.dials 0 ts m w.stood (fits m), u.explained);
+        kept = stays ∙ u.kept;
       },
       λ n. refl,
       refl,
@@ -126,20 +128,29 @@ tape_same look n left Held = refl
 tape_same look n left (There c) = refl
 tape_same look n left (Ended c) = refl
 
-tapes_same : {L : Type 0} (look : L → Looks) (left : ℕ → Option (List DialItem)) (k : ℕ) (ss : List (Slot L)) → tapes_in k (map (handle_of look) ss) ≡ tapes_in k (handles_from look left k ss)
-tapes_same look left k [] = refl
-tapes_same look left k (s ∷ ss) = ap (λ ts. ts ++ tapes_in (suc k) (map (handle_of look) ss)) (tape_same look k (left k) s) ∙ ap (λ ts. tape_at k (handle_with look (left k) s) ++ ts) (tapes_same look left (suc k) ss)
+-- nor does its link
+link_same : {L : Type 0} (look : L → Looks) (n : ℕ) (left : Option (List DialItem)) (s : Slot L) → links_at n (handle_of look s) ≡ links_at n (handle_with look left s)
+link_same look n left Gone = refl
+link_same look n left Held = refl
+link_same look n left (There c) = refl
+link_same look n left (Ended c) = refl
 
-pub headline : {L : Type 0} (look : L → Looks) (login : Login) (plans : Plans) (before : Course) (world : WorldSeen) (steps : List Step) (ss : List (Slot L)) (given : List StepAnswer) (tapes : List Tape) → SoFar look login plans before world steps ss given → map tape_view tapes ≡ tapes_in 0 (map (handle_of look) ss) → Headline login plans before (course_of world) steps given tapes
-headline look login plans before world steps ss given tapes u e = record {
+all_same : {L T : Type 0} (look : L → Looks) (at : ℕ → Handle → List T) (left : ℕ → Option (List DialItem)) (k : ℕ) (ss : List (Slot L)) → ((n : ℕ) (i : Option (List DialItem)) (s : Slot L) → at n (handle_of look s) ≡ at n (handle_with look i s)) → all_in at k (map (handle_of look) ss) ≡ all_in at k (handles_from look left k ss)
+all_same look at left k [] same = refl
+all_same look at left k (s ∷ ss) same = ap (λ ts. ts ++ all_in at (suc k) (map (handle_of look) ss)) (same k (left k) s) ∙ ap (λ ts. at k (handle_with look (left k) s) ++ ts) (all_same look at left (suc k) ss same)
+
+pub headline : {L : Type 0} (look : L → Looks) (login : Login) (plans : Plans) (before : Course) (world later : WorldSeen) (steps : List Step) (ss : List (Slot L)) (given : List StepAnswer) (tapes : List Tape) → SoFar look login plans before world steps ss given → map tape_view tapes ≡ tapes_in 0 (map (handle_of look) ss) → later.back ≡ with_links (links_in 0 (map (handle_of look) ss)) world.back → later.dials ≡ world.dials → later.chance ≡ world.chance → Headline login plans before (course_of later) steps given tapes
+headline look login plans before world later steps ss given tapes u e f d m = record {
   lines = u.lines;
   steps_are = u.steps_are;
   answered = u.answered;
   grown = u.grown;
-  dialed = u.dialed;
-  moved = u.moved;
+  dialed = subst (AreDialed before.dials u.lines) (sym d) u.dialed;
+  moved = m ∙ u.moved;
   explained = u.explained;
-  tapes_are = e ∙ tapes_same look world.plans.dials 0 ss ∙ ap (tapes_in 0) u.handles_are;
+  tapes_are = e ∙ all_same look tape_at world.plans.dials 0 ss (tape_same look) ∙ ap (tapes_in 0) u.handles_are;
+  ended = f ∙ ap (λ ls. with_links ls world.back) (all_same look links_at world.plans.dials 0 ss (link_same look) ∙ ap (links_in 0) u.handles_are)
+    ∙ ap (with_links (links_in 0 (handles_after u.lines))) u.kept;
 }
 
 -- where calls may begin

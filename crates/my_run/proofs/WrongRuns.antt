@@ -43,7 +43,7 @@ use Rattle.my_client.specs.Kept.{Asked, Kept, made_of, asking, asked_by, first_a
 use Rattle.my_link.specs.declared.dialer.DialItem.{DialItem}
 use Rattle.my_link.specs.declared.dialer.DialItem.TheVariants.{Wait, Fail}
 use Rattle.my_world.specs.Plan.{moment_after}
-use Rattle.my_world.specs.World.{Plans, WorldSeen, DialCounts, Chance, FailedBy, counted, no_dials}
+use Rattle.my_world.specs.World.{Back, Plans, WorldSeen, DialCounts, Chance, FailedBy, counted, no_dials}
 use Rattle.my_run.specs.declared.tool.Status.{Status}
 use Rattle.my_run.specs.declared.tool.Status.TheVariants as ends
 use Rattle.my_steps.specs.Dialing.{Course, DialsTo, chance_by, dial_met, has_dialed, moved_by, AreDialed}
@@ -57,9 +57,9 @@ use Rattle.my_steps.specs.Grows.{Line, beside_of, handles_after, is_found, state
 use Rattle.my_steps.specs.Handle.{Handle, Absent, Dialing, Joined, at_number, put_at}
 use Rattle.my_run.specs.Headline.{AnswerView, answer_view, steps_of, answers_of, Headline, IsExplained, EachExplained}
 use Rattle.my_steps.specs.Sums.{use_of, quiet, held_use, failed_use}
-use Rattle.my_run.specs.Tapes.{TapeView, tape_view, tape_call, open_call, tapes_in, tape_of, tape_at}
+use Rattle.my_run.specs.Tapes.{TapeView, tape_view, tape_call, open_call, links_at, links_in, tapes_in, tape_of, tape_at, with_links}
 use Rattle.my_run.specs.Tool.{ToolEnds}
-use Rattle.my_run.specs.WrongRuns.{NoPlannedDialFault, NoWaitAsFault, NoHeldDialFault, NoHiddenDials, MayFail, DialFault, NoStillMoment, one_hold, one_fault, NoEarlyEnd, NoHoldAfterTurn, NoHoldInTurn, NoZeroSent, NoOtherTaken, NoFaultAtRest, HasRead, NoBrokenInput, NoClosedExecution, NoUngivenExecution, NoForgottenRollback}
+use Rattle.my_run.specs.WrongRuns.{NoPlannedDialFault, NoWaitAsFault, NoHeldDialFault, NoHiddenDials, LinksHaveTapes, NoSecretDial, NoBytesAfter, MayFail, DialFault, NoStillMoment, one_hold, one_fault, NoEarlyEnd, NoHoldAfterTurn, NoHoldInTurn, NoZeroSent, NoOtherTaken, NoFaultAtRest, HasRead, NoBrokenInput, NoClosedExecution, NoUngivenExecution, NoForgottenRollback}
 
 -- what was told
 told_some : {I : Type 0} (x y : Option (List I)) (is : List I) (R : List I → List I → Type 0) → x ≡ Some is → Told x y R → (js : List I) × (y ≡ Some js) × R is js
@@ -175,6 +175,7 @@ record IsLone (login : Login) (plans : Plans) (before later : Course) (a : StepA
   counts : DialsTo before.dials later.dials (dial_met true a.uses.items)
   explained : IsExplained login (plans.reads 0) (plans.dials 0) made
   shown : tapes ≡ tape_at 0 made ++ []
+  ended : later.back ≡ with_links (links_at 0 made ++ []) before.back
 
 lone : (login : Login) (plans : Plans) (before later : Course) (a : StepAnswer) (tapes : List Tape) → Headline login plans before later (steps.Conn ∷ []) (a ∷ []) tapes → IsLone login plans before later a (map tape_view tapes)
 lone login plans before later a tapes w =
@@ -198,6 +199,7 @@ lone login plans before later a tapes w =
           (subst (λ (s : Step). DialsTo dialed.0 later.dials (dial_met (has_dialed s []) l.uses)) o.2 dialed.2));
       explained = subst (λ (hs : List Handle). IsExplained login (plans.reads 0) (plans.dials 0) (at_number hs 0)) next.others (explained.0 0);
       shown = w.tapes_are ∙ ap (λ (ls : List Line). tapes_in 0 (handles_after ls)) o.1 ∙ ap (tapes_in 0) next.others;
+      ended = w.ended ∙ ap (λ (ls : List Line). with_links (links_in 0 (handles_after ls)) before.back) o.1 ∙ ap (λ (hs : List Handle). with_links (links_in 0 hs) before.back) next.others;
     }
   where
     outcome_in : List AnswerView → Outcome
@@ -236,16 +238,76 @@ no_wait_as_fault login plans before later more a told is w =
     cc
 
 pub no_held_dial_fault : NoHeldDialFault
-no_held_dial_fault login plans first last a is w =
-    let r = lone login plans (record { dials = no_dials; chance = first }) (record { dials = one_hold; chance = last }) a [] w in
-    let none : 0 ≡ counted 1 0 = (subst (λ (us : List Use). DialsTo no_dials one_hold (dial_met true us)) is.uses r.counts).faults in
+no_held_dial_fault login plans before later a first last is w =
+    let r = lone login plans before later a [] w in
+    let rose : later.dials.faults ≡ counted 1 before.dials.faults = (subst (λ (us : List Use). DialsTo before.dials later.dials (dial_met true us)) is.uses r.counts).faults in
+    let none : 0 ≡ counted 1 0 = sym (ap (λ (c : DialCounts). c.faults) last) ∙ rose ∙ ap (λ (c : DialCounts). counted 1 c.faults) first in
     omega (arith, none)
 
 pub no_hidden_dials : NoHiddenDials
-no_hidden_dials login plans first last n a more is w =
-    let r = lone login plans (record { dials = no_dials; chance = first }) (record { dials = record { faults = n; holds = 0 }; chance = last }) a [] w in
-    let one : n ≡ counted 1 0 = (subst (λ (us : List Use). DialsTo no_dials (record { faults = n; holds = 0 }) (dial_met true us)) is.uses r.counts).faults in
+no_hidden_dials login plans before later a first more is w =
+    let r = lone login plans before later a [] w in
+    let rose : later.dials.faults ≡ counted 1 before.dials.faults = (subst (λ (us : List Use). DialsTo before.dials later.dials (dial_met true us)) is.uses r.counts).faults in
+    let one : later.dials.faults ≡ counted 1 0 = rose ∙ ap (λ (c : DialCounts). counted 1 c.faults) first in
     omega (arith, one, more)
+
+-- a number that has a tape has a link
+numbers_at : (n : ℕ) (h : Handle) (ls : List Back) (ts : List TapeView) → map (λ (b : Back). b.number) ls ≡ map (λ (t : TapeView). t.number) ts → map (λ (b : Back). b.number) (links_at n h ++ ls) ≡ map (λ (t : TapeView). t.number) (tape_at n h ++ ts)
+numbers_at n Absent ls ts e = e
+numbers_at n (Dialing left) ls ts e = e
+numbers_at n (Joined there k x) ls ts e = ap (λ ns. n ∷ ns) e
+
+numbers_in : (n : ℕ) (hs : List Handle) → map (λ (b : Back). b.number) (links_in n hs) ≡ map (λ (t : TapeView). t.number) (tapes_in n hs)
+numbers_in n [] = refl
+numbers_in n (h ∷ hs) = numbers_at n h (links_in (suc n) hs) (tapes_in (suc n) hs) (numbers_in (suc n) hs)
+
+numbers_of : Option (List Back) → List ℕ
+numbers_of None = []
+numbers_of (Some links) = map (λ (b : Back). b.number) links
+
+view_numbers : (tapes : List Tape) → map (λ (t : TapeView). t.number) (map tape_view tapes) ≡ map (λ (t : Tape). t.number) tapes
+view_numbers [] = refl
+view_numbers (t ∷ ts) = ap (λ ns. t.number ∷ ns) (view_numbers ts)
+
+pub links_have_tapes : LinksHaveTapes
+unfolding numbers_of
+links_have_tapes login plans before later steps answers tapes links first last w =
+    let back : Some links ≡ with_links (links_in 0 (handles_after w.lines)) (Some []) = sym last ∙ w.ended ∙ ap (with_links (links_in 0 (handles_after w.lines))) first in
+    ap numbers_of back ∙ numbers_in 0 (handles_after w.lines) ∙ sym (ap (map (λ (t : TapeView). t.number)) w.tapes_are) ∙ view_numbers tapes
+
+pub no_secret_dial : NoSecretDial
+no_secret_dial login plans before later a link links first last w =
+    let none : link.number ∷ map (λ (b : Back). b.number) links ≡ [] = links_have_tapes login plans before later (steps.Conn ∷ []) (a ∷ []) [] (link ∷ links) first last w in
+    cc
+
+-- what the first link that was handed back was sent
+first_got : Option (List Back) → Option (List ℕ)
+first_got None = None
+first_got (Some []) = None
+first_got (Some (b ∷ bs)) = b.looks.got
+
+first_sent : List TapeView → List ℕ
+first_sent [] = []
+first_sent (t ∷ ts) = t.sent
+
+-- it was sent what its tape says
+sent_as_told : (login : Login) (plan : Option (List ReadItem)) (items : Option (List DialItem)) (made : Handle) (t : TapeView) (later : Option (List Back)) (got : List ℕ) → IsExplained login plan items made → t ∷ [] ≡ tape_at 0 made ++ [] → later ≡ with_links (links_at 0 made ++ []) (Some []) → first_got later ≡ Some got → got ≡ t.sent
+unfolding first_got first_sent
+sent_as_told login plan items Absent t later got said shown ended told = let no : t ∷ [] ≡ [] = shown in cc
+sent_as_told login plan items (Dialing left) t later got said shown ended told = let no : t ∷ [] ≡ [] = shown in cc
+sent_as_told login plan items (Joined there k y) t later got said shown ended told =
+    let same : y.got ≡ Some got = sym (ap first_got ended) ∙ told in
+    let sent : t.sent ≡ k.sent = ap first_sent shown in
+    let fits : got ≡ k.sent = subst (λ o. HasGot o k.sent) same said.1.got in
+    fits ∙ sym sent
+
+pub no_bytes_after : NoBytesAfter
+unfolding first_got
+no_bytes_after login plans before later a t x bytes some first last got w =
+    let r = lone login plans before later a (t ∷ []) w in
+    let back : later.back ≡ with_links (links_at 0 r.made ++ []) (Some []) = r.ended ∙ ap (with_links (links_at 0 r.made ++ [])) first in
+    let same : t.sent.items ++ bytes ≡ t.sent.items = sent_as_told login (plans.reads 0) (plans.dials 0) r.made (tape_view t) later.back (t.sent.items ++ bytes) r.explained r.shown back (ap first_got last ∙ got) in
+    omega (arith, ap length same, length-append t.sent.items bytes, some)
 
 -- what is left of the items after a planned fault
 fault_left : (items : Option (List DialItem)) → MayFail items → (left : Option (List DialItem)) × FailedBy items left
@@ -264,6 +326,7 @@ dial_fault login plans chance a may is =
       moved = refl;
       explained = (nothing, tt);
       tapes_are = refl;
+      ended = refl;
     }
   where
     nothing : (n : ℕ) → IsExplained login (plans.reads n) (plans.dials n) (at_number (Absent ∷ []) n)

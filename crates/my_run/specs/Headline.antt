@@ -23,7 +23,7 @@ use Rattle.my_client.specs.Kept.{Kept, IsOf}
 use Rattle.my_world.specs.World.{Plans, SamePlans, WorldSeen}
 use Rattle.my_steps.specs.Keeps.{AreStood, AreAwaited}
 use Rattle.my_steps.specs.Slot.{handles_in}
-use Rattle.my_run.specs.Tapes.{tape_view, tapes_in}
+use Rattle.my_run.specs.Tapes.{links_in, tape_view, tapes_in, with_links}
 
 -- an answer, without where it lies in memory
 pub record AnswerView : Type 0 where
@@ -99,6 +99,8 @@ pub record Headline (login : Login) (plans : Plans) (before later : Course) (ste
   pub explained : EachExplained login plans lines
   -- the tapes are what the connections kept
   pub tapes_are : map tape_view tapes ≡ tapes_in 0 (handles_after lines)
+  -- each link was handed back as the last line left it, and no other link was dialed
+  pub ended : later.back ≡ with_links (links_in 0 (handles_after lines)) before.back
 
 -- so far in a run, in a world that is `now`
 pub record SoFar {L : Type 0} (look : L → Looks) (login : Login) (plans : Plans) (before : Course) (now : WorldSeen)
@@ -114,6 +116,7 @@ pub record SoFar {L : Type 0} (look : L → Looks) (login : Login) (plans : Plan
   pub dialed : AreDialed before.dials lines now.dials
   pub moved : now.chance ≡ moved_by before.chance lines
   pub explained : EachExplained login plans lines
+  pub kept : now.back ≡ before.back
 
 -- so it is for all plans that are those which the world told
 abbrev pub RunSoFar : {L : Type 0} → (L → Looks) → Login → Plans → Course → WorldSeen → List Step → List (Slot L)

@@ -1,5 +1,5 @@
 -- Tapes as a transcript shows them.
-use Rattle.std.specs.Prelude.{ℕ, suc, List, [], ◌∷◌, ◌++◌, map, Option, Some, None, Result, Ok, Err}
+use Rattle.std.specs.Prelude.{ℕ, suc, List, [], ◌∷◌, ◌++◌, map, Option, Some, None, option_map, Result, Ok, Err}
 use Rattle.my_reading.specs.declared.answer.Answer.{Answer}
 use Rattle.my_reading.specs.declared.error.Error.{Error}
 use Rattle.my_client.specs.declared.tape.DoneCall.{DoneCall}
@@ -9,6 +9,7 @@ use Rattle.my_script.specs.declared.transcript.Tape.{Tape}
 use Rattle.my_script.specs.declared.transcript.TapeCall.{TapeCall}
 use Rattle.my_steps.specs.Handle.{Handle, Absent, Dialing, Joined}
 use Rattle.my_client.specs.Kept.{Asked, Kept}
+use Rattle.my_world.specs.World.{Back}
 
 -- a call that was cancelled has no answer
 abbrev pub answer_in : Said → Option (Result Answer Error)
@@ -44,7 +45,23 @@ tape_at n Absent = []
 tape_at n (Dialing left) = []
 tape_at n (Joined there k x) = tape_of n k ∷ []
 
--- the tapes of these numbers, from this one on
+-- what these numbers have, from this one on
+abbrev pub all_in : {T : Type 0} → (ℕ → Handle → List T) → ℕ → List Handle → List T
+all_in at n [] = []
+all_in at n (h ∷ hs) = at n h ++ all_in at (suc n) hs
+
 abbrev pub tapes_in : ℕ → List Handle → List TapeView
-tapes_in n [] = []
-tapes_in n (h ∷ hs) = tape_at n h ++ tapes_in (suc n) hs
+tapes_in n hs = all_in tape_at n hs
+
+-- the link of a number
+abbrev pub links_at : ℕ → Handle → List Back
+links_at n Absent = []
+links_at n (Dialing left) = []
+links_at n (Joined there k x) = record { number = n; looks = x } ∷ []
+
+abbrev pub links_in : ℕ → List Handle → List Back
+links_in n hs = all_in links_at n hs
+
+-- these links more were handed back, where that is told
+abbrev pub with_links : List Back → Option (List Back) → Option (List Back)
+with_links links back = option_map (λ bs. bs ++ links) back

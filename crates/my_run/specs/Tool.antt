@@ -46,6 +46,7 @@ abbrev pub course_with : WorldSeen → List WorldLine → Course
 course_with world lines = record {
   dials = world.dials;
   chance = if world.takes then chance_after lines world.chance else world.chance;
+  back = world.back;
 }
 
 -- all steps were run, and their whole text went out

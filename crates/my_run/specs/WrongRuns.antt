@@ -1,5 +1,5 @@
 -- Runs that no user would call right, each refuted; and beside them runs that are accepted.
-use Rattle.std.specs.Prelude.{ℕ, ◌≡◌, ◌<◌, ◌≤◌, List, [], ◌∷◌, ◌++◌, length, Option, Some, None, true}
+use Rattle.std.specs.Prelude.{ℕ, ◌≡◌, ◌<◌, ◌≤◌, List, [], ◌∷◌, ◌++◌, length, map, Option, Some, None, true}
 use Rattle.my_grammar.specs.declared.login.Login.{Login}
 use Rattle.my_frame.specs.Sources.{SourceSeen}
 use Rattle.my_frame.specs.Sinks.{SinkSeen}
@@ -14,6 +14,7 @@ use Rattle.my_reading.specs.declared.error.IoKind.TheVariants.{Dial, Link}
 use Rattle.my_reading.specs.Errors.{io_error, unexpected_eof}
 use Rattle.my_session.specs.History.{has_closed}
 use Rattle.my_params.specs.declared.params.Params.{Params}
+use Rattle.my_script.specs.declared.step.Step.{Step}
 use Rattle.my_script.specs.declared.step.Step.TheVariants as steps
 use Rattle.my_script.specs.declared.transcript.Outcome.TheVariants.{Connected, Failed, NoSuchHandle, Pending}
 use Rattle.my_script.specs.declared.transcript.Outcome.TheVariants as outcomes
@@ -26,7 +27,7 @@ use Rattle.my_client.specs.Causes.{IsPolled}
 use Rattle.my_client.specs.Kept.{Asked, Kept, made_of, asking, asked_by}
 use Rattle.my_link.specs.declared.dialer.DialItem.{DialItem}
 use Rattle.my_link.specs.declared.dialer.DialItem.TheVariants.{Wait, Fail}
-use Rattle.my_world.specs.World.{Plans, WorldSeen, DialCounts, Chance, no_dials, drawn}
+use Rattle.my_world.specs.World.{Back, Plans, WorldSeen, DialCounts, Chance, no_dials, drawn}
 use Rattle.my_steps.specs.Dialing.{Course}
 use Rattle.my_steps.specs.Grows.{AreGrown, Line, statements_of}
 use Rattle.my_run.specs.declared.tool.Report.{Report}
@@ -62,15 +63,33 @@ one_fault = record { faults = 1; holds = 0 }
 
 -- over a world whose dialer counted a dial that wasn't ready, and none that failed
 abbrev pub NoHeldDialFault : Type 0
-NoHeldDialFault = (login : Login) (plans : Plans) (first last : Chance) (a : StepAnswer) → IsFailedDial a
-    → Headline login plans (record { dials = no_dials; chance = first }) (record { dials = one_hold; chance = last })
-    (steps.Conn ∷ []) (a ∷ []) [] → ⊥
+NoHeldDialFault = (login : Login) (plans : Plans) (before later : Course) (a : StepAnswer) → before.dials ≡ no_dials
+    → later.dials ≡ one_hold → IsFailedDial a → Headline login plans before later (steps.Conn ∷ []) (a ∷ []) [] → ⊥
 
 -- over a world whose dialer counted more dials that failed than the one that is shown
 abbrev pub NoHiddenDials : Type 0
-NoHiddenDials = (login : Login) (plans : Plans) (first last : Chance) (n : ℕ) (a : StepAnswer) → 1 < n → IsFailedDial a
-    → Headline login plans (record { dials = no_dials; chance = first })
-    (record { dials = record { faults = n; holds = 0 }; chance = last }) (steps.Conn ∷ []) (a ∷ []) [] → ⊥
+NoHiddenDials = (login : Login) (plans : Plans) (before later : Course) (a : StepAnswer) → before.dials ≡ no_dials
+    → 1 < later.dials.faults → IsFailedDial a → Headline login plans before later (steps.Conn ∷ []) (a ∷ []) [] → ⊥
+
+-- each link that was handed back is that of a tape
+abbrev pub LinksHaveTapes : Type 0
+LinksHaveTapes = (login : Login) (plans : Plans) (before later : Course) (steps : List Step) (answers : List StepAnswer)
+    (tapes : List Tape) (links : List Back) → before.back ≡ Some [] → later.back ≡ Some links
+    → Headline login plans before later steps answers tapes
+    → map (λ (b : Back). b.number) links ≡ map (λ (t : Tape). t.number) tapes
+
+-- a link was dialed that no step names: a run in which the one dial of `conn` failed handed a link back
+abbrev pub NoSecretDial : Type 0
+NoSecretDial = (login : Login) (plans : Plans) (before later : Course) (a : StepAnswer) (link : Back) (links : List Back)
+    → before.back ≡ Some [] → later.back ≡ Some (link ∷ links)
+    → Headline login plans before later (steps.Conn ∷ []) (a ∷ []) [] → ⊥
+
+-- a link was sent more than its tape has, after the last step
+abbrev pub NoBytesAfter : Type 0
+NoBytesAfter = (login : Login) (plans : Plans) (before later : Course) (a : StepAnswer) (t : Tape) (x : Looks) (bytes : List ℕ)
+    → 0 < length bytes → before.back ≡ Some [] → later.back ≡ Some (record { number = 0; looks = x } ∷ [])
+    → x.got ≡ Some (t.sent.items ++ bytes)
+    → Headline login plans before later (steps.Conn ∷ []) (a ∷ []) (t ∷ []) → ⊥
 
 -- it is right over a world that told no items for dials, or planned the fault, and counted it
 abbrev pub MayFail : Option (List DialItem) → Type 0
@@ -79,8 +98,8 @@ MayFail (Some items) = items ≡ Fail ∷ []
 
 abbrev pub DialFault : Type 0
 DialFault = (login : Login) (plans : Plans) (chance : Chance) (a : StepAnswer) → MayFail (plans.dials 0) → IsFailedDial a
-    → Headline login plans (record { dials = no_dials; chance = chance })
-    (record { dials = one_fault; chance = drawn chance }) (steps.Conn ∷ []) (a ∷ []) []
+    → Headline login plans (record { dials = no_dials; chance = chance; back = Some [] })
+    (record { dials = one_fault; chance = drawn chance; back = Some [] }) (steps.Conn ∷ []) (a ∷ []) []
 
 -- `advance 5`, and the moment of the world stays the same
 abbrev pub NoStillMoment : Type 0

@@ -7,14 +7,14 @@ ghost use Rattle.my_client.specs.Conn.{kept_of};
 ghost use Rattle.my_session.specs.Login.{login_of};
 ghost use Rattle.my_run.specs.Headline.{RunSoFar, RunsTo};
 ghost use Rattle.my_steps.specs.Slot.{handle_of};
-ghost use Rattle.my_run.specs.Tapes.{tape_view, tape_of, tape_at, tapes_in};
+ghost use Rattle.my_run.specs.Tapes.{links_at, links_in, tape_view, tape_of, tape_at, tapes_in, with_links};
+ghost use Rattle.my_world.specs.World.{with_back};
 
 use crate::beside::BesideEach;
 use crate::statements::statement_for;
 use crate::tape::tape_calls;
 use my_client::TapedConn;
 use my_frame::NoMemory;
-use my_link::Link;
 use my_opts::Opts;
 use my_script::{NumberedStatements, Step, StepAnswer, Tape, Transcript};
 use my_steps::{Slot, run_step};
@@ -52,9 +52,17 @@ fn run_each<N: World>(
     Ok(())
 }
 
-// The tape of a connection at the end of a run.
-fn end_tape<L: Drop>(alloc: Global, conn: TapedConn<L>, number: u64) -> Result<Tape, NoMemory>
-    ensures { IfOk result (λ t. tape_view t ≡ tape_of number (kept_of conn)) }
+// The tape of a connection at the end of a run, which hands its link back.
+fn end_tape<N: World>(
+    alloc: Global,
+    world: &mut N,
+    conn: TapedConn<N::L>,
+    number: u64,
+) -> Result<Tape, NoMemory>
+    ensures tape { IfOk result (λ t. tape_view t ≡ tape_of number (kept_of conn)) }
+    ensures back { OnOk result ((N.seen world.new).back ≡ with_back number (N.L.looks conn.link) (N.seen world.old).back) }
+    ensures dials { (N.seen world.new).dials ≡ (N.seen world.old).dials }
+    ensures chance { (N.seen world.new).chance ≡ (N.seen world.old).chance }
 {
     let TapedConn {
         session,
@@ -62,48 +70,78 @@ fn end_tape<L: Drop>(alloc: Global, conn: TapedConn<L>, number: u64) -> Result<T
         tape,
     } = conn;
     drop(session);
-    drop(link);
-    let calls = tape_calls(alloc, tape.calls, tape.pending)?;
-    Ok(Tape {
-        number,
-        sent: tape.sent,
-        taken: tape.taken,
-        calls,
-    })
+    match world.hang_up(number, link) {
+        Ok(()) => {
+            let calls = tape_calls(alloc, tape.calls, tape.pending)?;
+            Ok(Tape {
+                number,
+                sent: tape.sent,
+                taken: tape.taken,
+                calls,
+            })
+        }
+        Err(NoMemory) => {
+            drop(tape);
+            Err(NoMemory)
+        }
+    }
 }
 
-fn keep_tape<L: Link + Drop>(
+fn keep_tape<N: World>(
     alloc: Global,
+    world: &mut N,
     tapes: &mut Vec<Tape>,
-    slot: Slot<L>,
+    slot: Slot<N::L>,
     number: u64,
 ) -> Result<(), NoMemory>
-    ensures { OnOk result (
-        map tape_view tapes.new.items ≡ map tape_view tapes.old.items ++ tape_at number (handle_of L.looks slot)) }
+    ensures tape { OnOk result (
+        map tape_view tapes.new.items ≡ map tape_view tapes.old.items ++ tape_at number (handle_of N.L.looks slot)) }
+    ensures back { OnOk result ((N.seen world.new).back ≡
+        with_links (links_at number (handle_of N.L.looks slot)) (N.seen world.old).back) }
+    ensures dials { (N.seen world.new).dials ≡ (N.seen world.old).dials }
+    ensures chance { (N.seen world.new).chance ≡ (N.seen world.old).chance }
 {
     match slot {
         Slot::Gone | Slot::Held => Ok(()),
         Slot::There(conn) | Slot::Ended(conn) => {
-            tapes.push(end_tape(alloc, conn, number)?)?;
+            tapes.push(end_tape(alloc, world, conn, number)?)?;
             Ok(())
         }
     }
 }
 
-// The tapes, in the order of their numbers.
-fn tapes_of<L: Link + Drop>(alloc: Global, mut slots: Vec<Slot<L>>) -> Result<Vec<Tape>, NoMemory>
-    ensures { IfOk result (λ tapes. map tape_view tapes.items ≡ tapes_in 0 (map (handle_of L.looks) slots.items)) }
+// The tapes, in the order of their numbers. Each link is handed back, also out of memory.
+fn tapes_of<N: World>(
+    alloc: Global,
+    world: &mut N,
+    mut slots: Vec<Slot<N::L>>,
+) -> Result<Vec<Tape>, NoMemory>
+    ensures tapes { IfOk result (λ tapes.
+        map tape_view tapes.items ≡ tapes_in 0 (map (handle_of N.L.looks) slots.items)) }
+    ensures back { OnOk result ((N.seen world.new).back ≡
+        with_links (links_in 0 (map (handle_of N.L.looks) slots.items)) (N.seen world.old).back) }
+    ensures dials { (N.seen world.new).dials ≡ (N.seen world.old).dials }
+    ensures chance { (N.seen world.new).chance ≡ (N.seen world.old).chance }
 {
     let mut tapes = Vec::new(alloc);
     let mut number = 0u64;
+    let mut is_whole = true;
     'slots: while !slots.is_empty() {
-        keep_tape(alloc, &mut tapes, slots.remove(0), number)?;
+        match keep_tape(alloc, world, &mut tapes, slots.remove(0), number) {
+            Ok(()) => {}
+            Err(NoMemory) => is_whole = false,
+        }
         number += 1;
+    }
+    slots.destroy_empty();
+    if !is_whole {
+        drop(tapes);
+        return Err(NoMemory);
     }
     Ok(tapes)
 }
 
-/// Runs the steps, and returns what they came to.
+/// Runs the steps, and returns what they came to. At the end each link is handed back.
 pub(crate) fn run_steps<N: World>(
     alloc: Global,
     opts: &Opts,
@@ -116,7 +154,14 @@ pub(crate) fn run_steps<N: World>(
 {
     let mut slots = Vec::new(alloc);
     let mut answers = Vec::new(alloc);
-    run_each(alloc, opts, world, &mut slots, &mut answers, steps)?;
-    let tapes = tapes_of(alloc, slots)?;
-    Ok(Transcript { answers, tapes })
+    let ran = run_each(alloc, opts, world, &mut slots, &mut answers, steps);
+    let tapes = tapes_of(alloc, world, slots);
+    match (ran, tapes) {
+        (Ok(()), Ok(tapes)) => Ok(Transcript { answers, tapes }),
+        (_, tapes) => {
+            drop(tapes);
+            drop(answers);
+            Err(NoMemory)
+        }
+    }
 }

@@ -87,6 +87,7 @@ fn prepare_each<N: World>(world: &mut N, plan: &[WorldLine]) -> Result<(), NoMem
     ensures chance { OnOk result ((N.seen world.new).chance ≡ chance_after plan.now (N.seen world.old).chance) }
     ensures takes { (N.seen world.new).takes ≡ (N.seen world.old).takes }
     ensures dials { (N.seen world.new).dials ≡ (N.seen world.old).dials }
+    ensures back { (N.seen world.new).back ≡ (N.seen world.old).back }
 {
     for line in plan {
         world.prepare(line)?;

@@ -1,5 +1,5 @@
 //! Runs that no user would call right, each of which the headline refutes, and beside them runs that it accepts.
-ghost use Rattle.my_run.specs.WrongRuns.{NoPlannedDialFault, NoWaitAsFault, NoHeldDialFault, NoHiddenDials, DialFault, NoStillMoment, NoEarlyEnd, NoHoldAfterTurn, NoHoldInTurn, NoZeroSent, NoOtherTaken, NoFaultAtRest, NoBrokenInput, NoClosedExecution, NoUngivenExecution, NoForgottenRollback};
+ghost use Rattle.my_run.specs.WrongRuns.{NoPlannedDialFault, NoWaitAsFault, NoHeldDialFault, NoHiddenDials, LinksHaveTapes, NoSecretDial, NoBytesAfter, DialFault, NoStillMoment, NoEarlyEnd, NoHoldAfterTurn, NoHoldInTurn, NoZeroSent, NoOtherTaken, NoFaultAtRest, NoBrokenInput, NoClosedExecution, NoUngivenExecution, NoForgottenRollback};
 
 /// Over a world that planned no wait and no fault of the dial, none is said to have failed.
 pub fn no_planned_dial_fault()
@@ -19,6 +19,21 @@ pub fn no_held_dial_fault()
 /// A dial that failed isn't left out: the dialer counted no more of them than are shown.
 pub fn no_hidden_dials()
     ensures { NoHiddenDials }
+{}
+
+/// Each link that is handed back is that of a tape.
+pub fn links_have_tapes()
+    ensures { LinksHaveTapes }
+{}
+
+/// No link is dialed that no step names.
+pub fn no_secret_dial()
+    ensures { NoSecretDial }
+{}
+
+/// No link is sent bytes after the last step.
+pub fn no_bytes_after()
+    ensures { NoBytesAfter }
 {}
 
 /// A dial that failed, as the world counted it, is accepted.

@@ -1,11 +1,11 @@
 -- How the counts of a world's dials rise by what steps met, and how steps move its moment and its random words.
-use Rattle.std.specs.Prelude.{ℕ, ◌≡◌, List, [], ◌∷◌, Bool, true, false}
+use Rattle.std.specs.Prelude.{ℕ, ◌≡◌, List, [], ◌∷◌, Option, Bool, true, false}
 use Rattle.my_link.specs.Met.{nothing_met}
 use Rattle.my_link.specs.declared.met.Met.{Met}
 use Rattle.my_script.specs.declared.step.Step.{Step}
 use Rattle.my_script.specs.declared.step.Step.TheVariants as steps
 use Rattle.my_script.specs.declared.transcript.Use.{Use}
-use Rattle.my_world.specs.World.{DialCounts, Chance, WorldSeen, counted, drawn}
+use Rattle.my_world.specs.World.{Back, DialCounts, Chance, WorldSeen, counted, drawn}
 use Rattle.my_world.specs.declared.line.WorldLine.TheVariants as lines
 use Rattle.my_world.specs.Plan.{chance_on}
 use Rattle.my_steps.specs.Grows.{Line, handles_after}
@@ -52,9 +52,10 @@ moved_by first (l ∷ ls) = chance_by (has_dialed l.step (handles_after ls)) l.s
 pub record Course : Type 0 where
   pub dials : DialCounts
   pub chance : Chance
+  pub back : Option (List Back)
 
 abbrev pub course_of : WorldSeen → Course
-course_of world = record { dials = world.dials; chance = world.chance }
+course_of world = record { dials = world.dials; chance = world.chance; back = world.back }
 
 -- line by line, from the counts before the run to those after it
 abbrev pub AreDialed : DialCounts → List Line → DialCounts → Type 0

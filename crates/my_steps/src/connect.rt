@@ -2,7 +2,10 @@
 ghost use Rattle.std.specs.Prelude.{◌≡◌, ◌∷◌, [], suc, length, true, IfOk, OnOk};
 ghost use Rattle.my_reading.specs.Errors.{io_error};
 ghost use Rattle.my_session.specs.Login.{login_of};
-ghost use Rattle.my_world.specs.World.{SameBut, drawn};
+ghost use Rattle.my_world.specs.World.{SameBut, SamePlans, drawn};
+ghost use Rattle.my_client.specs.Conn.{kept_of};
+ghost use Rattle.my_client.specs.Kept.{first_asked, first_kept};
+ghost use Rattle.my_client.specs.Rests.{IsAsked};
 ghost use Rattle.my_session.specs.Tasks.{is_open};
 ghost use Rattle.my_steps.specs.Connecting.{Settles, EachJoins, JoinsFirst, Dialed};
 ghost use Rattle.my_steps.specs.Slot.{placed};
@@ -101,22 +104,56 @@ struct Given {
     random: u64,
 }
 
+// Makes the connection's first call. Out of memory the link is returned.
+fn begin_on<L: Link>(alloc: Global, opts: &Opts, link: L, given: Given) -> Result<TapedConn<L>, L>
+    ensures asked { IfOk result (λ c. IsAsked (login_of opts.now) c.session.seen (kept_of c) first_asked) }
+    ensures kept { IfOk result (λ c. kept_of c ≡ first_kept) }
+    ensures is_on { IfOk result (λ c. is_open c.session.seen.task ≡ true) }
+    ensures link { IfOk result (λ c. c.link ≡ link) }
+{
+    match opts.copy(alloc) {
+        Ok(opts) => begin_conn(alloc, opts, link, given.now, given.random),
+        Err(NoMemory) => Err(link),
+    }
+}
+
 // Makes the connection's first call and polls it.
-fn first_call<L: Link + Drop>(
+fn first_call<L: Link>(
     alloc: Global,
     opts: &Opts,
     link: L,
     number: u64,
     given: Given,
-) -> Result<(Slot<L>, StepResult), NoMemory>
-    ensures { IfOk result (λ r. JoinsFirst L.looks (login_of opts.now) number (L.looks link) r.0 r.1) }
+) -> Result<(Slot<L>, Result<StepResult, NoMemory>), L>
+    ensures { IfOk result (λ r. IfOk r.1 (λ d. JoinsFirst L.looks (login_of opts.now) number (L.looks link) r.0 d)) }
 {
-    let mut conn = begin_conn(alloc, opts.copy(alloc)?, link, given.now, given.random)?;
+    let mut conn = begin_on(alloc, opts, link, given)?;
     match join(alloc, &mut conn, number, given.now) {
-        Ok(worked) => Ok((place(conn, worked.there), worked.did)),
-        Err(error) => {
-            drop(conn);
-            Err(error)
+        Ok(worked) => Ok((place(conn, worked.there), Ok(worked.did))),
+        Err(error) => Ok((Slot::Ended(conn), Err(error))),
+    }
+}
+
+// Makes the first call over the link of this number and polls it. Out of memory the link is handed back.
+fn join_world<N: World>(
+    alloc: Global,
+    opts: &Opts,
+    world: &mut N,
+    link: N::L,
+    number: u64,
+    given: Given,
+) -> (Slot<N::L>, Result<StepResult, NoMemory>)
+    ensures joins { IfOk result.1 (λ d. JoinsFirst N.L.looks (login_of opts.now) number (N.L.looks link) result.0 d) }
+    ensures world { OnOk result.1 (N.seen world.new ≡ N.seen world.old) }
+    ensures plans { SamePlans (N.seen world.old).plans (N.seen world.new).plans }
+    ensures takes { (N.seen world.new).takes ≡ (N.seen world.old).takes }
+    ensures chance { (N.seen world.new).chance ≡ (N.seen world.old).chance }
+{
+    match first_call(alloc, opts, link, number, given) {
+        Ok(joined) => joined,
+        Err(link) => {
+            drop(world.hang_up(number, link));
+            (Slot::Gone, Err(NoMemory))
         }
     }
 }
@@ -129,53 +166,63 @@ fn dial_to<N: World>(
     world: &mut N,
     number: u64,
     given: Given,
-) -> Result<(Slot<N::L>, StepResult), NoMemory>
+) -> (Slot<N::L>, Result<StepResult, NoMemory>)
     ensures others { SameBut number (N.seen world.old).plans (N.seen world.new).plans }
     ensures takes { (N.seen world.new).takes ≡ (N.seen world.old).takes }
     ensures chance { (N.seen world.new).chance ≡ (N.seen world.old).chance }
-    ensures counts { IfOk result (λ r.
-        DialsTo (N.seen world.old).dials (N.seen world.new).dials (dial_met true r.1.uses.items)) }
-    ensures dialed { IfOk result (λ r. Dialed N.L.looks (login_of opts.now) number
-        (N.seen world.old).plans (N.seen world.new).plans r.0 r.1.outcome r.1.uses.items) }
+    ensures back { OnOk result.1 ((N.seen world.new).back ≡ (N.seen world.old).back) }
+    ensures counts { IfOk result.1 (λ d.
+        DialsTo (N.seen world.old).dials (N.seen world.new).dials (dial_met true d.uses.items)) }
+    ensures dialed { IfOk result.1 (λ d. Dialed N.L.looks (login_of opts.now) number
+        (N.seen world.old).plans (N.seen world.new).plans result.0 d.outcome d.uses.items) }
 {
     match world.dial(number, target) {
-        DialStep::Link(link) => first_call(alloc, opts, link, number, given),
+        DialStep::Link(link) => join_world(alloc, opts, world, link, number, given),
         DialStep::NotYet => {
             let met = Met {
                 holds: 1,
                 ..Met::nothing()
             };
-            let did = used_once(alloc, Outcome::Pending, Use { number, met })?;
-            Ok((Slot::Held, did))
+            (
+                Slot::Held,
+                used_once(alloc, Outcome::Pending, Use { number, met }),
+            )
         }
         DialStep::Failed => {
             let met = Met {
                 faults: 1,
                 ..Met::nothing()
             };
-            let did = used_once(alloc, Outcome::Failed(dial_error()), Use { number, met })?;
-            Ok((Slot::Gone, did))
+            (
+                Slot::Gone,
+                used_once(alloc, Outcome::Failed(dial_error()), Use { number, met }),
+            )
         }
     }
 }
 
-/// Dials the link of this number where the options say, at this moment, and connects over it.
+/// Dials the link of this number where the options say, at this moment, and connects over it. Out of memory what is at the number
+/// is returned, too.
 pub(crate) fn dial_at<N: World>(
     alloc: Global,
     opts: &Opts,
     world: &mut N,
     number: u64,
     now: u64,
-) -> Result<(Slot<N::L>, StepResult), NoMemory>
+) -> (Slot<N::L>, Result<StepResult, NoMemory>)
     ensures others { SameBut number (N.seen world.old).plans (N.seen world.new).plans }
     ensures takes { (N.seen world.new).takes ≡ (N.seen world.old).takes }
-    ensures chance { OnOk result ((N.seen world.new).chance ≡ drawn (N.seen world.old).chance) }
-    ensures counts { IfOk result (λ r.
-        DialsTo (N.seen world.old).dials (N.seen world.new).dials (dial_met true r.1.uses.items)) }
-    ensures dialed { IfOk result (λ r. Dialed N.L.looks (login_of opts.now) number
-        (N.seen world.old).plans (N.seen world.new).plans r.0 r.1.outcome r.1.uses.items) }
+    ensures chance { OnOk result.1 ((N.seen world.new).chance ≡ drawn (N.seen world.old).chance) }
+    ensures back { OnOk result.1 ((N.seen world.new).back ≡ (N.seen world.old).back) }
+    ensures counts { IfOk result.1 (λ d.
+        DialsTo (N.seen world.old).dials (N.seen world.new).dials (dial_met true d.uses.items)) }
+    ensures dialed { IfOk result.1 (λ d. Dialed N.L.looks (login_of opts.now) number
+        (N.seen world.old).plans (N.seen world.new).plans result.0 d.outcome d.uses.items) }
 {
-    let target = opts.target(alloc)?;
+    let target = match opts.target(alloc) {
+        Ok(target) => target,
+        Err(error) => return (Slot::Gone, Err(error)),
+    };
     let random = world.random();
     let dialed = dial_to(alloc, opts, &target, world, number, Given { now, random });
     drop(target);
@@ -192,6 +239,7 @@ pub(crate) fn connect<N: World>(
 ) -> Result<StepResult, NoMemory>
     ensures takes { (N.seen world.new).takes ≡ (N.seen world.old).takes }
     ensures chance { OnOk result ((N.seen world.new).chance ≡ drawn (N.seen world.old).chance) }
+    ensures back { OnOk result ((N.seen world.new).back ≡ (N.seen world.old).back) }
     ensures count { OnOk result (length slots.new.items ≡ suc (length slots.old.items)) }
     ensures counts { IfOk result (λ d.
         DialsTo (N.seen world.old).dials (N.seen world.new).dials (dial_met true d.uses.items)) }
@@ -200,13 +248,9 @@ pub(crate) fn connect<N: World>(
         slots.old.items slots.new.items
         (DialsNext (login_of opts.now)) d) }
 {
+    slots.reserve(1)?;
     let number = slots.len() as u64;
-    let (slot, did) = dial_at(alloc, opts, world, number, now)?;
-    match slots.push(slot) {
-        Ok(()) => Ok(did),
-        Err(error) => {
-            drop(did);
-            Err(error.into())
-        }
-    }
+    let (slot, did) = dial_at(alloc, opts, world, number, now);
+    slots.push_reserved(slot);
+    did
 }

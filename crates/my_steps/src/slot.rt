@@ -3,6 +3,7 @@ ghost use Rattle.std.specs.Prelude.{◌≡◌};
 ghost use Rattle.my_steps.specs.Slot.{placed};
 
 use my_client::TapedConn;
+use std::mem;
 
 /// What is at a number that a `conn` took.
 #[derive(Drop)]
@@ -17,12 +18,23 @@ pub enum Slot<L> {
 }
 
 /// A connection that steps may still name, or one that isn't there any more.
-pub(crate) fn place<L: Drop>(conn: TapedConn<L>, there: bool) -> Slot<L>
+pub(crate) fn place<L>(conn: TapedConn<L>, there: bool) -> Slot<L>
     ensures { result ≡ placed there conn }
 {
     if there {
         Slot::There(conn)
     } else {
         Slot::Ended(conn)
+    }
+}
+
+/// Puts this in the place of a number that has nothing.
+pub(crate) fn put<L>(slot: &mut Slot<L>, new: Slot<L>)
+    requires { slot.old ≡ Slot.Gone }
+    ensures { slot.new ≡ new }
+{
+    match mem::replace(slot, new) {
+        Slot::Gone => {}
+        Slot::Held | Slot::There(_) | Slot::Ended(_) => unreachable!(),
     }
 }

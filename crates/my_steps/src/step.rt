@@ -144,6 +144,7 @@ fn move_world<N: World>(
     ensures chance { OnOk result ((N.seen world.new).chance ≡ chance_on line.now (N.seen world.old).chance) }
     ensures takes { (N.seen world.new).takes ≡ (N.seen world.old).takes }
     ensures dials { (N.seen world.new).dials ≡ (N.seen world.old).dials }
+    ensures back { (N.seen world.new).back ≡ (N.seen world.old).back }
 {
     world.prepare(line)?;
     Ok(unused(alloc, Outcome::Done))
@@ -162,6 +163,7 @@ fn carry_out<N: World>(
     requires may { MayCarry (N.seen world.old).takes order }
     ensures longer { OnOk result (length slots.old.items ≤ length slots.new.items) }
     ensures takes { (N.seen world.new).takes ≡ (N.seen world.old).takes }
+    ensures back { OnOk result ((N.seen world.new).back ≡ (N.seen world.old).back) }
     ensures chance { OnOk result ((N.seen world.new).chance ≡
         chance_of order (handles_in N.L.looks (N.seen world.old).plans slots.old.items) (N.seen world.old).chance) }
     ensures counts { IfOk result (λ d. DialsTo (N.seen world.old).dials (N.seen world.new).dials
@@ -202,6 +204,7 @@ pub fn run_step<N: World>(
     requires stands { may_stand (N.seen world.old).takes step.now ≡ true }
     ensures longer { OnOk result (length slots.old.items ≤ length slots.new.items) }
     ensures takes { (N.seen world.new).takes ≡ (N.seen world.old).takes }
+    ensures back { OnOk result ((N.seen world.new).back ≡ (N.seen world.old).back) }
     ensures chance { OnOk result ((N.seen world.new).chance ≡
         chance_by (has_dialed step.now (handles_in N.L.looks (N.seen world.old).plans slots.old.items))
         step.now (N.seen world.old).chance) }

@@ -18,7 +18,7 @@ use crate::fields::tell;
 use crate::gather::collect_call;
 use crate::outcome::{StepResult, Worked, unused};
 use crate::resume::resume_there;
-use crate::slot::{Slot, place};
+use crate::slot::{Slot, place, put};
 use crate::stream::{let_go, take_call};
 use my_client::TapedConn;
 use my_frame::NoMemory;
@@ -97,24 +97,21 @@ fn work_there<L: Link>(
 }
 
 // Owns the connection for the step.
-fn work_conn<L: Link + Drop>(
+fn work_conn<L: Link>(
     alloc: Global,
     mut conn: TapedConn<L>,
     number: u64,
     now: u64,
     work: Work,
-) -> Result<(Slot<L>, StepResult), NoMemory>
+) -> (Slot<L>, Result<StepResult, NoMemory>)
     requires ready { ConnReady conn }
     requires kind { MayBegin work }
-    ensures did { IfOk result (λ r. EachDid L.looks number work conn r.0 r.1) }
-    ensures linked { IfOk result (λ r. HasLink r.0) }
+    ensures did { IfOk result.1 (λ d. EachDid L.looks number work conn result.0 d) }
+    ensures linked { OnOk result.1 (HasLink result.0) }
 {
     match work_there(alloc, &mut conn, number, now, work) {
-        Ok(worked) => Ok((place(conn, worked.there), worked.did)),
-        Err(error) => {
-            drop(conn);
-            Err(error)
-        }
+        Ok(worked) => (place(conn, worked.there), Ok(worked.did)),
+        Err(error) => (Slot::There(conn), Err(error)),
     }
 }
 
@@ -126,21 +123,22 @@ fn work_held<N: World>(
     number: u64,
     now: u64,
     work: &Work,
-) -> Result<(Slot<N::L>, StepResult), NoMemory>
+) -> (Slot<N::L>, Result<StepResult, NoMemory>)
     ensures others { SameBut number (N.seen world.old).plans (N.seen world.new).plans }
     ensures takes { (N.seen world.new).takes ≡ (N.seen world.old).takes }
-    ensures chance { OnOk result (
+    ensures chance { OnOk result.1 (
         (N.seen world.new).chance ≡ chance_dialed (is_poll work.now) (N.seen world.old).chance) }
-    ensures counts { IfOk result (λ r. DialsTo (N.seen world.old).dials (N.seen world.new).dials
-        (dial_met (is_poll work.now) r.1.uses.items)) }
-    ensures did { IfOk result (λ r. DoesAt N.L.looks (login_of opts.now)
-        (N.seen world.old).plans (N.seen world.new).plans number work.now HeldAt r.0 r.1) }
+    ensures back { OnOk result.1 ((N.seen world.new).back ≡ (N.seen world.old).back) }
+    ensures counts { IfOk result.1 (λ d. DialsTo (N.seen world.old).dials (N.seen world.new).dials
+        (dial_met (is_poll work.now) d.uses.items)) }
+    ensures did { IfOk result.1 (λ d. DoesAt N.L.looks (login_of opts.now)
+        (N.seen world.old).plans (N.seen world.new).plans number work.now HeldAt result.0 d) }
 {
     match work {
         Work::Poll => dial_at(alloc, opts, world, number, now),
-        Work::Cancel => Ok((Slot::Gone, unused(alloc, Outcome::Done))),
+        Work::Cancel => (Slot::Gone, Ok(unused(alloc, Outcome::Done))),
         Work::Begin(_) | Work::Collect | Work::Take | Work::LetGo | Work::Miss | Work::Fields => {
-            Ok((Slot::Held, unused(alloc, Outcome::NoSuchHandle)))
+            (Slot::Held, Ok(unused(alloc, Outcome::NoSuchHandle)))
         }
     }
 }
@@ -153,17 +151,18 @@ fn work_on<N: World>(
     number: u64,
     now: u64,
     work: Work,
-) -> Result<(Slot<N::L>, StepResult), NoMemory>
+) -> (Slot<N::L>, Result<StepResult, NoMemory>)
     requires ready { SlotReady N.L.looks slot }
     requires kind { MayBegin work }
     ensures others { SameBut number (N.seen world.old).plans (N.seen world.new).plans }
     ensures takes { (N.seen world.new).takes ≡ (N.seen world.old).takes }
-    ensures chance { OnOk result ((N.seen world.new).chance ≡
+    ensures chance { OnOk result.1 ((N.seen world.new).chance ≡
         chance_dialed (redials (handle_of N.L.looks slot) work) (N.seen world.old).chance) }
-    ensures counts { IfOk result (λ r. DialsTo (N.seen world.old).dials (N.seen world.new).dials
-        (dial_met (redials (handle_of N.L.looks slot) work) r.1.uses.items)) }
-    ensures did { IfOk result (λ r. DoesAt N.L.looks (login_of opts.now)
-        (N.seen world.old).plans (N.seen world.new).plans number work slot r.0 r.1) }
+    ensures back { OnOk result.1 ((N.seen world.new).back ≡ (N.seen world.old).back) }
+    ensures counts { IfOk result.1 (λ d. DialsTo (N.seen world.old).dials (N.seen world.new).dials
+        (dial_met (redials (handle_of N.L.looks slot) work) d.uses.items)) }
+    ensures did { IfOk result.1 (λ d. DoesAt N.L.looks (login_of opts.now)
+        (N.seen world.old).plans (N.seen world.new).plans number work slot result.0 d) }
 {
     match slot {
         Slot::There(conn) => work_conn(alloc, conn, number, now, work),
@@ -174,11 +173,11 @@ fn work_on<N: World>(
         }
         Slot::Gone => {
             drop(work);
-            return Ok((Slot::Gone, unused(alloc, Outcome::NoSuchHandle)));
+            return (Slot::Gone, Ok(unused(alloc, Outcome::NoSuchHandle)));
         }
         Slot::Ended(conn) => {
             drop(work);
-            return Ok((Slot::Ended(conn), unused(alloc, Outcome::NoSuchHandle)));
+            return (Slot::Ended(conn), Ok(unused(alloc, Outcome::NoSuchHandle)));
         }
     }
 }
@@ -197,6 +196,7 @@ pub(crate) fn work_at<N: World>(
     requires kind { MayBegin work }
     ensures count { OnOk result (length slots.new.items ≡ length slots.old.items) }
     ensures takes { (N.seen world.new).takes ≡ (N.seen world.old).takes }
+    ensures back { OnOk result ((N.seen world.new).back ≡ (N.seen world.old).back) }
     ensures chance { OnOk result ((N.seen world.new).chance ≡ chance_dialed
         (redials (at_number (handles_in N.L.looks (N.seen world.old).plans slots.old.items) number) work)
         (N.seen world.old).chance) }
@@ -212,7 +212,7 @@ pub(crate) fn work_at<N: World>(
         return Ok(unused(alloc, Outcome::NoSuchHandle));
     }
     let slot = mem::replace(&mut slots[number as usize], Slot::Gone);
-    let (slot, did) = work_on(alloc, opts, world, slot, number, now, work)?;
-    drop(mem::replace(&mut slots[number as usize], slot));
-    Ok(did)
+    let (slot, did) = work_on(alloc, opts, world, slot, number, now, work);
+    put(&mut slots[number as usize], slot);
+    did
 }

@@ -1,9 +1,11 @@
 -- What clauses see of a world in memory.
-use Rattle.std.specs.Prelude.{ℕ, List, Some, true}
+use Rattle.std.specs.Prelude.{ℕ, List, Some, map, true}
 use Rattle.my_link.specs.Planned.{PlannedItems, items_at}
 use Rattle.my_world.specs.declared.memory.dials.PlannedDial.{PlannedDial}
 use Rattle.my_world.specs.MemDials.{dials_at}
-use Rattle.my_world.specs.World.{Plans, DialCounts, WorldSeen}
+use Rattle.my_world.specs.declared.memory.EndedLink.{EndedLink}
+use Rattle.my_link.specs.MemLink.{looks_of}
+use Rattle.my_world.specs.World.{Plans, DialCounts, WorldSeen, Back}
 
 abbrev pub plans_of : List PlannedItems → List PlannedDial → Plans
 plans_of links dials = record {
@@ -12,11 +14,15 @@ plans_of links dials = record {
   dials = λ n. Some (dials_at n dials);
 }
 
+abbrev pub back_of : EndedLink → Back
+back_of e = record { number = e.number; looks = looks_of e.link }
+
 -- it takes a plan, and tells all that it does
-abbrev pub world_of : List PlannedItems → List PlannedDial → DialCounts → ℕ → List ℕ → WorldSeen
-world_of links dials counts moment randoms = record {
+abbrev pub world_of : List PlannedItems → List PlannedDial → DialCounts → ℕ → List ℕ → List EndedLink → WorldSeen
+world_of links dials counts moment randoms ended = record {
   takes = true;
   plans = plans_of links dials;
   dials = counts;
   chance = record { moment = Some moment; randoms = Some randoms };
+  back = Some (map back_of ended);
 }

@@ -1,6 +1,6 @@
 -- What clauses see of a world.
 use Rattle.std.specs.Prelude.{ℕ, ◌≡◌, List, [], ◌∷◌, drop, Option, Some, None, option_map}
-pub use Rattle.my_link.specs.Dials.{Plans, DialCounts, no_dials, Chance, no_chance, WorldSeen, counted, SameAt, SamePlans, SameBut, SameFrom, SameLink, IfLink, IfNoLink, HeldBy, FailedBy, GivenBy, PlaysDial, DialFailed, DialHeld, CountsDial, IsFresh}
+pub use Rattle.my_link.specs.Dials.{Plans, DialCounts, no_dials, Chance, no_chance, WorldSeen, Back, with_back, counted, SameAt, SamePlans, SameBut, SameFrom, SameLink, IfLink, IfNoLink, HeldBy, FailedBy, GivenBy, PlaysDial, DialFailed, DialHeld, CountsDial, IsFresh}
 
 -- the moment, where it is known
 abbrev pub IsMoment : Option ℕ → ℕ → Type 0

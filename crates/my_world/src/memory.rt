@@ -23,6 +23,13 @@ use my_opts_parts::Target;
 use std::alloc::Global;
 use std::collections::VecDeque;
 
+// A link that was handed back.
+#[derive(Drop)]
+struct EndedLink {
+    number: u64,
+    link: MemLink,
+}
+
 /// A world in memory. Each link has the items of the lines with its number, in order, for reads, for writes and for dials
 /// apart. Its moment begins at 0. No file is there, and no text follows a login.
 #[derive(Drop)]
@@ -34,6 +41,8 @@ pub struct MemWorld {
     holds: u64,
     moment: u64,
     randoms: VecDeque<u64>,
+    // The links that were handed back, the first of them first.
+    ended: Vec<EndedLink>,
 }
 
 fn packet_bytes(alloc: Global, number: u8, payload: &[u8]) -> Result<Vec<u8>, NoMemory>
@@ -142,6 +151,7 @@ impl MemWorld {
         ensures holds { result.holds ≡ 0 }
         ensures moment { result.moment ≡ 0 }
         ensures randoms { result.randoms.items ≡ [] }
+        ensures ended { result.ended.items ≡ [] }
     {
         MemWorld {
             alloc,
@@ -151,6 +161,7 @@ impl MemWorld {
             holds: 0,
             moment: 0,
             randoms: VecDeque::new(alloc),
+            ended: Vec::new(alloc),
         }
     }
 }
@@ -240,7 +251,7 @@ impl Dialer for MemWorld {
     type L = MemLink;
 
     ghost seen = { λ w. world_of w.links.items w.dials.items (record { faults = w.faults; holds = w.holds })
-        w.moment w.randoms.items };
+        w.moment w.randoms.items w.ended.items };
 
     // Every target is at the links in memory.
     fn dial(&mut self, number: u64, _target: &Target) -> DialStep<MemLink> {
@@ -255,6 +266,11 @@ impl Dialer for MemWorld {
             }
             None => DialStep::Link(take_link(self.alloc, &mut self.links, number)),
         }
+    }
+
+    fn hang_up(&mut self, number: u64, link: MemLink) -> Result<(), NoMemory> {
+        self.ended.push(EndedLink { number, link })?;
+        Ok(())
     }
 }
 

@@ -21,7 +21,8 @@ pub trait World: Dialer + Aid {
         ensures err { OnErr result (SamePlans (Self.seen self.old).plans (Self.seen self.new).plans) }
         ensures stays { OnErr result ((Self.seen self.new).chance ≡ (Self.seen self.old).chance) }
         ensures takes { (Self.seen self.new).takes ≡ (Self.seen self.old).takes }
-        ensures dials { (Self.seen self.new).dials ≡ (Self.seen self.old).dials };
+        ensures dials { (Self.seen self.new).dials ≡ (Self.seen self.old).dials }
+        ensures back { (Self.seen self.new).back ≡ (Self.seen self.old).back };
 
     /// The time, in milliseconds.
     fn now(&mut self) -> u64
@@ -29,7 +30,8 @@ pub trait World: Dialer + Aid {
         ensures chance { (Self.seen self.new).chance ≡ (Self.seen self.old).chance }
         ensures plans { SamePlans (Self.seen self.old).plans (Self.seen self.new).plans }
         ensures takes { (Self.seen self.new).takes ≡ (Self.seen self.old).takes }
-        ensures dials { (Self.seen self.new).dials ≡ (Self.seen self.old).dials };
+        ensures dials { (Self.seen self.new).dials ≡ (Self.seen self.old).dials }
+        ensures back { (Self.seen self.new).back ≡ (Self.seen self.old).back };
 
     /// The next random word.
     fn random(&mut self) -> u64
@@ -37,5 +39,6 @@ pub trait World: Dialer + Aid {
         ensures chance { (Self.seen self.new).chance ≡ drawn (Self.seen self.old).chance }
         ensures plans { SamePlans (Self.seen self.old).plans (Self.seen self.new).plans }
         ensures takes { (Self.seen self.new).takes ≡ (Self.seen self.old).takes }
-        ensures dials { (Self.seen self.new).dials ≡ (Self.seen self.old).dials };
+        ensures dials { (Self.seen self.new).dials ≡ (Self.seen self.old).dials }
+        ensures back { (Self.seen self.new).back ≡ (Self.seen self.old).back };
 }

@@ -10,6 +10,7 @@ use Rattle.my_world.specs.declared.line.WorldLine.{WorldLine}
 use Rattle.my_world.specs.declared.memory.dials.PlannedDial.{PlannedDial}
 use Rattle.my_world.specs.MemDials.{dials_at}
 use Rattle.my_world.specs.MemWorld.{world_of}
+use Rattle.my_world.specs.declared.memory.EndedLink.{EndedLink}
 use Rattle.my_world.specs.Plan.{all_given, dials_of, items_of, writes_of}
 use Rattle.my_world.specs.World.{Plans, DialCounts}
 use Rattle.my_steps.specs.Dialing.{Course}
@@ -39,6 +40,6 @@ EachPlannedRefusalRefutes = (login : Login) (lines : List WorldLine) (steps : Li
 -- A world in memory without items is handed these lines.
 abbrev pub MemoryTells : Type 0
 MemoryTells = (links : List PlannedItems) (dials : List PlannedDial) (counts : DialCounts) (moment : ℕ)
-    (randoms : List ℕ) (lines : List WorldLine) → ((n : ℕ) → items_at n links ≡ no_items)
+    (randoms : List ℕ) (ended : List EndedLink) (lines : List WorldLine) → ((n : ℕ) → items_at n links ≡ no_items)
     → ((n : ℕ) → dials_at n dials ≡ [])
-    → ArePlansOf lines (plans_with (world_of links dials counts moment randoms) lines)
+    → ArePlansOf lines (plans_with (world_of links dials counts moment randoms ended) lines)

@@ -75,10 +75,13 @@ fn target(
     })
 }
 
-// Whether a dial has a link, or fails; nothing where it isn't done.
+// Whether a dial has a link, which is handed back, or fails; nothing where it isn't done.
 fn dial<W: World>(world: &mut W, target: &Target) -> Option<bool> {
     match world.dial(0, target) {
-        DialStep::Link(_) => Some(true),
+        DialStep::Link(link) => {
+            drop(world.hang_up(0, link));
+            Some(true)
+        }
         DialStep::NotYet => None,
         DialStep::Failed => Some(false),
     }

@@ -1,13 +1,15 @@
--- Tapes, one after another.
-use Rattle.std.proofs.Common.{ℕ, ◌≡◌, ◌<◌, suc, List, [], ◌∷◌, ◌++◌, length, map, get_or, reverse, sym, ap, ◌∙◌, arith}
+-- Tapes and links, one after another.
+use Rattle.std.proofs.Common.{ℕ, ◌≡◌, ◌<◌, suc, List, [], ◌∷◌, ◌++◌, length, map, get_or, reverse, sym, ap, ◌∙◌, Option, Some, None, refl, arith}
 use Rattle.std.specs.List.{remove}
-use Rattle.std.proofs.lemmas.List.{append_assoc, map-append, reverse-append}
+use Rattle.std.proofs.lemmas.List.{append-nil, append_assoc, map-append, reverse-append}
 use Rattle.my_steps.specs.declared.slot.Slot.{Slot}
 use Rattle.my_client.specs.declared.tape.DoneCall.{DoneCall}
 use Rattle.my_script.specs.declared.transcript.TapeCall.{TapeCall}
 use Rattle.my_steps.specs.Slot.{handle_of}
 use Rattle.my_link.specs.Looks.{Looks}
-use Rattle.my_run.specs.Tapes.{TapeView, tape_call, tape_at, tapes_in}
+use Rattle.my_steps.specs.Handle.{Handle}
+use Rattle.my_world.specs.World.{Back}
+use Rattle.my_run.specs.Tapes.{all_in, tape_call, with_links}
 
 -- a call goes from the calls to the tape, which is in reverse order
 pub call_on : (calls rest : List DoneCall) (call : DoneCall) (tape more all : List TapeCall) (t : TapeCall) → calls ≡ rest ++ call ∷ [] → t ≡ tape_call call → more ≡ tape ++ t ∷ [] → map tape_call calls ++ reverse tape ≡ all → map tape_call rest ++ reverse more ≡ all
@@ -20,10 +22,29 @@ first_out : {X : Type 0} (xs : List X) (s : X) → 0 < length xs → s ≡ get_o
 first_out [] s h e = absurd (omega (arith, h))
 first_out (x ∷ xs) s h e = ap (λ s. s ∷ xs) (sym e)
 
+-- what the first slot has, and the others
+first_of_all : {L T : Type 0} (look : L → Looks) (at : ℕ → Handle → List T) (n k : ℕ) (ss rest : List (Slot L)) (s : Slot L) → 0 < length ss → s ≡ get_or ss 0 s → rest ≡ remove ss 0 → k ≡ suc n → at n (handle_of look s) ++ all_in at k (map (handle_of look) rest) ≡ all_in at n (map (handle_of look) ss)
+first_of_all {L} look at n k ss rest s h e f j =
+    ap (λ (m : ℕ). at n (handle_of look s) ++ all_in at m (map (handle_of look) rest)) j
+    ∙ ap (λ (ts : List (Slot L)). at n (handle_of look s) ++ all_in at (suc n) (map (handle_of look) ts)) f
+    ∙ ap (λ (ts : List (Slot L)). all_in at n (map (handle_of look) ts)) (sym (first_out ss s h e))
+
 -- a slot's tape, and the others'
-pub tape_on : {L : Type 0} (look : L → Looks) (n k : ℕ) (ss rest : List (Slot L)) (s : Slot L) (tapes more all : List TapeView) → 0 < length ss → s ≡ get_or ss 0 s → rest ≡ remove ss 0 → more ≡ tapes ++ tape_at n (handle_of look s) → k ≡ suc n → tapes ++ tapes_in n (map (handle_of look) ss) ≡ all → more ++ tapes_in k (map (handle_of look) rest) ≡ all
-tape_on {L} look n k ss rest s tapes more all h e f g j i =
-    ap (λ ts. ts ++ tapes_in k (map (handle_of look) rest)) g ∙ append_assoc tapes (tape_at n (handle_of look s)) (tapes_in k (map (handle_of look) rest))
-    ∙ ap (λ (m : ℕ). tapes ++ (tape_at n (handle_of look s) ++ tapes_in m (map (handle_of look) rest))) j
-    ∙ ap (λ (ts : List (Slot L)). tapes ++ (tape_at n (handle_of look s) ++ tapes_in (suc n) (map (handle_of look) ts))) f
-    ∙ ap (λ (ts : List (Slot L)). tapes ++ tapes_in n (map (handle_of look) ts)) (sym (first_out ss s h e)) ∙ i
+pub tape_on : {L T : Type 0} (look : L → Looks) (at : ℕ → Handle → List T) (n k : ℕ) (ss rest : List (Slot L)) (s : Slot L) (tapes more all : List T) → 0 < length ss → s ≡ get_or ss 0 s → rest ≡ remove ss 0 → more ≡ tapes ++ at n (handle_of look s) → k ≡ suc n → tapes ++ all_in at n (map (handle_of look) ss) ≡ all → more ++ all_in at k (map (handle_of look) rest) ≡ all
+tape_on look at n k ss rest s tapes more all h e f g j i =
+    ap (λ ts. ts ++ all_in at k (map (handle_of look) rest)) g ∙ append_assoc tapes (at n (handle_of look s)) (all_in at k (map (handle_of look) rest))
+    ∙ ap (λ ts. tapes ++ ts) (first_of_all look at n k ss rest s h e f j) ∙ i
+
+with_two : (xs ys : List Back) (back : Option (List Back)) → with_links ys (with_links xs back) ≡ with_links (xs ++ ys) back
+with_two xs ys None = refl
+with_two xs ys (Some bs) = ap Some (append_assoc bs xs ys)
+
+pub with_none : (back : Option (List Back)) → with_links [] back ≡ back
+with_none None = refl
+with_none (Some bs) = ap Some (append-nil bs)
+
+-- a slot's link is handed back, and the others'
+pub link_on : {L : Type 0} (look : L → Looks) (at : ℕ → Handle → List Back) (n k : ℕ) (ss rest : List (Slot L)) (s : Slot L) (back more all : Option (List Back)) → 0 < length ss → s ≡ get_or ss 0 s → rest ≡ remove ss 0 → more ≡ with_links (at n (handle_of look s)) back → k ≡ suc n → with_links (all_in at n (map (handle_of look) ss)) back ≡ all → with_links (all_in at k (map (handle_of look) rest)) more ≡ all
+link_on look at n k ss rest s back more all h e f g j i =
+    ap (with_links (all_in at k (map (handle_of look) rest))) g ∙ with_two (at n (handle_of look s)) (all_in at k (map (handle_of look) rest)) back
+    ∙ ap (λ ls. with_links ls back) (first_of_all look at n k ss rest s h e f j) ∙ i

@@ -75,6 +75,10 @@ pub did_ok : {T E : Type 0} (r : Result T E) (P Q R : T → Type 0) → IfOk r P
 did_ok (Ok x) P Q R p q f = f x p q
 did_ok (Err e) P Q R p q f = tt
 
+pub did_so : {T E : Type 0} (r : Result T E) (K : Type 0) (P R : T → Type 0) → OnOk r K → IfOk r P → (K → (x : T) → P x → R x) → IfOk r R
+did_so (Ok x) K P R k p f = f k x p
+did_so (Err e) K P R k p f = tt
+
 pub stood_here : {L : Type 0} (login : Login) (ss : List (Slot L)) (n : ℕ) (v : Slot L) → n < length ss → v ≡ get_or ss n v → AreStood login ss → IsStood login v
 stood_here login ss n v h e w = subst (IsStood login) (sym e) (stood_got login ss n v h w)
 

@@ -5,7 +5,7 @@ use Rattle.my_steps.proofs.Working.Connecting.{dialed_before}
 use Rattle.my_steps.proofs.connect.dial_at.Goals as goal
 
 pub returns-clause-dialed : goal.returns-clause-dialed
-returns-clause-dialed g c = IfOk-weaker c.dial_to-dialed.result _ _ (λ r f. dialed_before g.N.L.Link.looks (login_of c.args.opts.now) c.args.number (g.N.Dialer.seen c.args.world.now).plans (g.N.Dialer.seen c.random-random.new.self).plans (g.N.Dialer.seen c.dial_to-dialed.new.world).plans r.0 r.1.outcome r.1.uses.items (c.random-random.ensures.plans c.args.number) f) c.dial_to-dialed.ensures.dialed
+returns-clause-dialed g c = IfOk-weaker c.dial_to-dialed.result.1 _ _ (λ d f. dialed_before g.N.L.Link.looks (login_of c.args.opts.now) c.args.number (g.N.Dialer.seen c.args.world.now).plans (g.N.Dialer.seen c.random-random.new.self).plans (g.N.Dialer.seen c.dial_to-dialed.new.world).plans c.dial_to-dialed.result.0 d.outcome d.uses.items (c.random-random.ensures.plans c.args.number) f) c.dial_to-dialed.ensures.dialed
 
 pub returns-clause-others : goal.returns-clause-others
 returns-clause-others g c = λ n apart. at_trans (g.N.Dialer.seen c.args.world.now).plans (g.N.Dialer.seen c.random-random.new.self).plans (g.N.Dialer.seen c.dial_to-dialed.new.world).plans n (c.random-random.ensures.plans n) (c.dial_to-dialed.ensures.others n apart)

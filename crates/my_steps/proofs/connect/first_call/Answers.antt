@@ -1,7 +1,4 @@
-use Rattle.std.proofs.Common.{◌≡◌, sym, subst, rules}
-use Rattle.my_opts.specs.Opts.{OptsView}
-use Rattle.my_client.specs.Conn.{kept_of}
-use Rattle.my_client.specs.Rests.{IsAsked}
+use Rattle.std.proofs.Common.{sym, subst}
 use Rattle.my_session.specs.Login.{login_of}
 use Rattle.my_client.specs.Kept.{first_asked}
 use Rattle.my_steps.specs.declared.slot.Slot.{Slot}
@@ -12,8 +9,7 @@ use Rattle.my_steps.proofs.connect.first_call.Goals as goal
 
 pub returns-in-Ok : goal.returns-in-Ok
 returns-in-Ok g c =
-    let same : c.in_ok-copy.field-0 ≡ c.args.opts.now = search rules in
-    let r = c.in-Ok.ensures (login_of c.args.opts.now) first_asked (subst (λ (o : OptsView). IsAsked (login_of o) c.in_ok-conn.conn.session.seen (kept_of c.in_ok-conn.conn) first_asked) same c.in_ok-conn.ensures.asked) in
+    let r = c.in-Ok.ensures (login_of c.args.opts.now) first_asked c.in_ok-conn.ensures.asked in
     subst (λ (s : Slot g.row.L.Denot). JoinsFirst g.L.Link.looks (login_of c.args.opts.now) c.args.number (g.L.Link.looks c.args.link) s c.in-Ok.worked.did) (sym c.place.ensures) (
       r.0,
       r.1,
