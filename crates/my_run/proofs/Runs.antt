@@ -1,7 +1,7 @@
 -- The run, step by step.
 pub mod Fitting
 pub mod Taping
-use Rattle.std.proofs.Common.{◌≤◌, ℕ, ◌≡◌, ◌+◌, ◌<◌, ◌&&◌, suc, zero, List, [], ◌∷◌, ◌++◌, length, map, take, get_or, Option, Bool, true, false, refl, sym, ap, ◌∙◌, subst, arith}
+use Rattle.std.proofs.Common.{◌≤◌, ℕ, ◌≡◌, ◌+◌, ◌<◌, ◌&&◌, suc, zero, List, [], ◌∷◌, ◌++◌, length, map, take, get_or, Option, Result, Ok, IfOk, OnOk, Bool, true, false, refl, sym, ap, ◌∙◌, subst, arith}
 use Rattle.std.proofs.lemmas.List.{length-append, map-append}
 use Rattle.my_grammar.specs.declared.login.Login.{Login}
 use Rattle.my_session.proofs.History.{each_history}
@@ -152,6 +152,13 @@ headline look login plans before world later steps ss given tapes u e f d m = re
   ended = f ∙ ap (λ ls. with_links ls world.back) (all_same look links_at world.plans.dials 0 ss (link_same look) ∙ ap (links_in 0) u.handles_are)
     ∙ ap (with_links (links_in 0 (handles_after u.lines))) u.kept;
 }
+
+-- what holds of an answer that is there
+pub if_at : {T E : Type 0} (r : Result T E) (x : T) (P : T → Type 0) → r ≡ Ok x → IfOk r P → P x
+if_at {T} {E} r x P e p = subst (λ (s : Result T E). IfOk s P) e p
+
+pub on_at : {T E : Type 0} (r : Result T E) (x : T) (P : Type 0) → r ≡ Ok x → OnOk r P → P
+on_at {T} {E} r x P e p = subst (λ (s : Result T E). OnOk s P) e p
 
 -- where calls may begin
 joined_same : {L : Type 0} (look : L → Looks) (left : Option (List DialItem)) (s : Slot L) → IsJoined (handle_with look left s) → IsJoined (handle_of look s)
