@@ -1,0 +1,3 @@
+pub mod Conn
+pub mod Polls
+pub mod Stands
