@@ -1,3 +1,5 @@
 pub mod Ending
 pub mod Moving
+pub mod Polling
+pub mod Stepping
 pub mod Stopping

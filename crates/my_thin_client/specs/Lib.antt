@@ -1,3 +1,4 @@
 pub mod Conn
 pub mod Polls
 pub mod Stands
+pub mod Turns

@@ -2,5 +2,7 @@
 #![tactic(auto)]
 
 mod conn;
+mod poll;
 
 pub use conn::{TapedConn, ask, note};
+pub use poll::poll_session;
