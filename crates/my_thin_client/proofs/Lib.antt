@@ -1,3 +1,5 @@
+pub mod Beginning
+pub mod Driving
 pub mod Ending
 pub mod Moving
 pub mod Polling

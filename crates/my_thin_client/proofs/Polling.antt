@@ -1,5 +1,5 @@
 -- What a turn does to what was kept, and how a poll continues from turn to turn.
-use Rattle.std.proofs.Common.{◌≡◌, ℕ, ◌+◌, ◌-◌, ◌<◌, ◌≤◌, nat_le, List, [], ◌∷◌, ◌++◌, length, take, drop, Bool, true, false, cond, Option, Some, None, inl, inr, refl, sym, ap, ◌∙◌, subst, arith}
+use Rattle.std.proofs.Common.{◌≡◌, ℕ, ◌+◌, ◌<◌, ◌≤◌, List, [], ◌∷◌, length, take, drop, Bool, true, false, cond, Option, Some, None, inl, inr, refl, sym, ap, ◌∙◌, subst, arith}
 use Rattle.std.proofs.lemmas.Bool.{le-leb}
 use Rattle.std.proofs.lemmas.List.{length-append, length-take-le}
 use Rattle.my_frame.specs.declared.limits.TheConstants.{MOST_TAKEN}
@@ -7,31 +7,28 @@ use Rattle.my_grammar.specs.declared.login.Login.{Login}
 use Rattle.my_link.specs.declared.met.Met.{Met}
 use Rattle.my_link.specs.Looks.{Looks}
 use Rattle.my_link.specs.Met.{nothing_met}
-use Rattle.my_link.specs.Moves.{Leads, Move, Receives, Received, Sends, Sent, Stop as LinkStop, StopsAt, NoStop, ReadHold, WriteHold, ReadFault, WriteFault, LinkEnd, ends_at, faults_at, holds_at, received_by}
+use Rattle.my_link.specs.Moves.{Leads, Move, Receives, Received, Sends, Sent, StopsAt, NoStop, ReadHold, WriteHold, ReadFault, WriteFault, LinkEnd, ends_at, faults_at, holds_at, received_by}
 use Rattle.my_machine.specs.declared.stand.Stand.{Stand}
 use Rattle.my_machine.specs.Stands.{with_owed}
 use Rattle.my_reading.specs.declared.answer.Answer.{Answer}
 use Rattle.my_reading.specs.declared.error.Error.{Error}
-use Rattle.my_reading.specs.declared.error.IoKind.TheVariants.{Link}
-use Rattle.my_reading.specs.Course.{Stop, Owes, Awaits, Returns}
-use Rattle.my_reading.specs.Errors.{io_error, unexpected_eof}
+use Rattle.my_reading.specs.Course.{Owes, Awaits}
 use Rattle.my_reading.specs.Place.{begins_with, owed}
-use Rattle.my_reading.specs.Told.{Told, ToldError, told}
+use Rattle.my_reading.specs.Told.{Told, ToldError}
 use Rattle.my_session.specs.declared.task.LinkFault.TheVariants as faults
 use Rattle.my_thin_session.specs.Sessions.{Seen, owed_by, with_sent as session_sent, with_taken as session_taken}
 use Rattle.my_client.specs.declared.poll.After.{After}
 use Rattle.my_client.specs.declared.poll.After.TheVariants.{Pending, Answered, Failed}
 use Rattle.my_client.specs.declared.tape.Said.TheVariants as says
-use Rattle.my_client.specs.Kept.{Asked, Kept, ended_by}
+use Rattle.my_client.specs.Kept.{Asked, Kept}
 use Rattle.my_client.specs.Notes.{NotesSent, NotesTaken, with_sent, with_taken}
-use Rattle.my_client.specs.Reads.{facts_kept, place_kept, stop_kept}
+use Rattle.my_client.specs.Reads.{facts_kept, place_kept}
 use Rattle.my_thin_client.specs.declared.poll.Halt.{Halt}
-use Rattle.my_thin_client.specs.declared.poll.Halt.TheVariants as halts
 use Rattle.my_thin_client.specs.declared.poll.Turn.{Turn}
 use Rattle.my_thin_client.specs.declared.poll.Turn.TheVariants as turns
-use Rattle.my_thin_client.specs.Polls.{AreInTurn, IsInTurn, comes_to, if_full, met_in, moved_by}
-use Rattle.my_thin_client.specs.Stands.{Returned, Stands, StandsAsked, Stopped}
-use Rattle.my_thin_client.specs.Turns.{EachPoll, EachTurn, FailsNow, Over, OverFor, PollFor, SentFor, TookFor, TurnFor, stop_at}
+use Rattle.my_thin_client.specs.Polls.{AreInTurn, comes_to, if_full, moved_by}
+use Rattle.my_thin_client.specs.Stands.{Returned, StandsAsked, Stopped}
+use Rattle.my_thin_client.specs.Turns.{EachPoll, EachTurn, FailsNow, Over, OverFor, SentFor, TookFor, stop_at}
 use Rattle.my_thin_client.proofs.Moving.{sent_asked, sent_turn, stop_stopped, taken_asked}
 use Rattle.my_thin_client.proofs.Stepping.{breaks, ends}
 
@@ -156,7 +153,7 @@ module _ {T : Type 0} (keeps : T → Kept → Type 0) where
       record {
         bytes = here.bytes;
         count = here.count;
-          moves = here.moves;
+        moves = here.moves;
         noted = here.noted;
         turn = λ login a h. here.turn login a (held login k a h);
         rests = λ login a h. here.rests login a (held login k a h);

@@ -1,5 +1,5 @@
 -- What a session's step leaves, where the session stands for what was kept.
-use Rattle.std.proofs.Common.{◌≡◌, ◌≢◌, ◌⊎◌, ℕ, List, [], length, drop, Bool, true, false, cond, ◌||◌, Option, Some, None, Result, Ok, Err, IfOk, inl, inr, refl, sym, ap, ◌∙◌, subst, arith}
+use Rattle.std.proofs.Common.{◌≡◌, ◌≢◌, ◌⊎◌, [], length, drop, Bool, true, false, cond, Option, Some, None, Result, Ok, Err, IfOk, inl, inr, refl, sym, ap, ◌∙◌, subst, arith}
 use Rattle.std.proofs.lemmas.Bool.{false≢true}
 use Rattle.std.proofs.lemmas.List.{drop_all}
 use Rattle.my_grammar.specs.declared.login.Login.{Login}
@@ -21,24 +21,24 @@ use Rattle.my_reading.specs.Course.{Stop, Owes, Awaits, Returns, Stops, Halt, co
 use Rattle.my_reading.specs.Errors.{connection_closed, io_error, unexpected_eof}
 use Rattle.my_reading.specs.Leads.{Leads}
 use Rattle.my_reading.specs.Place.{Place, facts_at, with_bytes}
-use Rattle.my_reading.specs.Reading.{closed_answer, halt_of}
-use Rattle.my_reading.specs.Told.{Told, ToldReady, ToldError, closes, told}
+use Rattle.my_reading.specs.Reading.{halt_of}
+use Rattle.my_reading.specs.Told.{ToldReady, ToldError, closes, told}
 use Rattle.my_reading.proofs.Leading.{leads_to_course}
 use Rattle.my_session.specs.declared.answer.SessionStep.{SessionStep}
 use Rattle.my_session.specs.declared.answer.SessionStep.TheVariants as steps
 use Rattle.my_session.specs.declared.task.LinkFault.{LinkFault}
 use Rattle.my_session.specs.declared.task.LinkFault.TheVariants as faults
 use Rattle.my_thin_session.specs.declared.opened.Opened.{Opened}
-use Rattle.my_thin_session.specs.Sessions.{Seen, Halts, HaltsAwaiting, IsOut, IsStep, Ran, Reads, StepsSo, ended_by as closed_by, fell, first_opened}
+use Rattle.my_thin_session.specs.Sessions.{Seen, Halts, HaltsAwaiting, IsOut, IsStep, Reads, StepsSo, ended_by as closed_by, fell, first_opened}
 use Rattle.my_client.specs.declared.tape.Said.{Said}
 use Rattle.my_client.specs.declared.tape.Said.TheVariants as says
 use Rattle.my_client.specs.Kept.{Asked, Kept, ended_by, told_by}
 use Rattle.my_client.specs.Reads.{ComesTo, EndedRead, facts_kept, place_kept, stop_kept}
 use Rattle.my_client.proofs.TapeRead.{no_bytes, span_open}
 use Rattle.my_client.proofs.TapeRead.Stopping.{place_open, stop_open}
-use Rattle.my_thin_client.specs.Stands.{IsSaid, Returned, Stands, StandsAsked, StandsAt, StandsClosed, StandsIdle, StandsOpen, Stopped}
+use Rattle.my_thin_client.specs.Stands.{IsSaid, Returned, Stands, StandsAsked, StandsAt, StandsClosed, StandsOpen, Stopped}
 use Rattle.my_thin_client.specs.Turns.{FailsNow}
-use Rattle.my_thin_client.proofs.Ending.{broken_read, cut_read, no_return, returned_read}
+use Rattle.my_thin_client.proofs.Ending.{broken_read, cut_read, returned_read}
 use Rattle.my_thin_client.proofs.Moving.{place_stopped, said_at, said_stopped, started, stop_stopped}
 use Rattle.my_thin_client.proofs.Stopping.{awaits_here, both_lead, owes_here}
 
@@ -162,7 +162,7 @@ module _ (login : Login) (s t : Seen) (k : Kept) (a : Asked) (x : SessionStep) (
     by_reads (inr out) = out_leaves login t k a x out.step_is
     by_reads (inl r) =
         let run : Runs login a.call o.progress o.place r.stop r.ran.progress r.ran.stand =
-            subst (λ (l : Login). EachRuns l a.call o.progress s.stand r.stop r.ran.progress r.ran.stand) w.stands.login_is r.ran.runs o.place o.at in
+        subst (λ (l : Login). EachRuns l a.call o.progress s.stand r.stop r.ran.progress r.ran.stand) w.stands.login_is r.ran.runs o.place o.at in
         by_stop r.kind r.mid r.stop r.ran.progress r.ran.stand r.ran.kind_is r.ran.mid_is run r.halts
 
     open_leaves : IsStep (opened_at a o.progress) s t x → StepLeaves login t k a x
@@ -188,8 +188,8 @@ module _ (login : Login) (s t : Seen) (k : Kept) (a : Asked) (x : SessionStep) (
     closed_leaves : IsStep (first_opened a.call) s t x → StepLeaves login t k a x
     closed_leaves is =
         let here : (x ≡ steps.Done Ready) × (t ≡ fell s) =
-            subst (λ (b : Bool). StepsSo None b (first_opened a.call) s t x) c.closed
-            (subst (λ (f : Option LinkFault). StepsSo f s.closed (first_opened a.call) s t x) c.sound is) in
+        subst (λ (b : Bool). StepsSo None b (first_opened a.call) s t x) c.closed
+        (subst (λ (f : Option LinkFault). StepsSo f s.closed (first_opened a.call) s t x) c.sound is) in
         subst (λ (v : SessionStep). StepLeaves login t k a v) (sym here.0) (subst (λ (v : Seen). StepLeaves login v k a (steps.Done Ready)) (sym here.1) (record {
           comes = comes_closed;
           stands = record {
@@ -221,24 +221,26 @@ module _ (login : Login) (s t : Seen) (k : Kept) (a : Asked) (e : Error) where
   breaks stop w waits f =
       let o : StandsOpen login s k a = w.so_far in
       let here : (steps.Fault e ≡ steps.Fault (io_error kinds.Link s.stand.facts.place)) × (t ≡ fell (record s { fault = Some faults.Link })) =
-          f.step (opened_at a o.progress) o.opened in
+      f.step (opened_at a o.progress) o.opened in
       let facts : s.stand.facts.place ≡ (facts_kept login k).place =
-          ap (λ (x : Stand). x.facts.place) o.at.stand_is ∙ ap (λ (p : Place). (facts_at login p).place) (sym (place_stopped stop login s k a w)) in
+      ap (λ (x : Stand). x.facts.place) o.at.stand_is ∙ ap (λ (p : Place). (facts_at login p).place) (sym (place_stopped stop login s k a w)) in
       let same : e ≡ io_error kinds.Link s.stand.facts.place = cc in
       let is : e ≡ io_error kinds.Link (facts_kept login k).place = same ∙ ap (io_error kinds.Link) facts in
-      let ended = broken_read login k a false o.before o.ended w.stands.asked (said_stopped stop login s k a w) (λ x. absurd (false≢true x)) stop e (stop_stopped stop login s k a w) waits is in
-      (is, subst (λ (v : Seen). Stands login v (ended_by k a (says.Failed e))) (sym here.1) (record {
-        login_is = w.stands.stands.login_is;
-        alive = λ x. cc;
-        at = record {
-          place = o.place;
-          ended = subst (λ (b : Bool). EndedRead login (ended_by k a (says.Failed e)) (length k.sent) (length k.taken) b o.place) (ap (λ x. closes (ToldError x) (kind_of a.call)) is)
-              (subst (λ (p : Place). EndedRead login (ended_by k a (says.Failed e)) (length k.sent) (length k.taken) (closes (ToldError e) (kind_of a.call)) p)
-              (sym (place_open login k a false o.before o.ended w.stands.asked) ∙ place_stopped stop login s k a w) ended);
-          at = o.at;
-          idle = refl;
-        };
-      }))
+      let ended = broken_read login k a false o.before o.ended w.stands.asked (said_stopped stop login s k a w) (λ x. absurd (false≢true x)) stop e (stop_stopped stop login s k a w) waits is in (
+        is,
+        subst (λ (v : Seen). Stands login v (ended_by k a (says.Failed e))) (sym here.1) (record {
+          login_is = w.stands.stands.login_is;
+          alive = λ x. cc;
+          at = record {
+            place = o.place;
+            ended = subst (λ (b : Bool). EndedRead login (ended_by k a (says.Failed e)) (length k.sent) (length k.taken) b o.place) (ap (λ x. closes (ToldError x) (kind_of a.call)) is)
+                (subst (λ (p : Place). EndedRead login (ended_by k a (says.Failed e)) (length k.sent) (length k.taken) (closes (ToldError e) (kind_of a.call)) p)
+                (sym (place_open login k a false o.before o.ended w.stands.asked) ∙ place_stopped stop login s k a w) ended);
+            at = o.at;
+            idle = refl;
+          };
+        }),
+      )
 
   -- the link's end, told to the session, changes nothing of where it stands
   abbrev over : Seen
@@ -255,24 +257,26 @@ module _ (login : Login) (s t : Seen) (k : Kept) (a : Asked) (e : Error) where
     ends_at m kind (stops.Returns ending) progress stand is run awaits h = absurd cc
     ends_at m kind stops.Awaits progress stand is run awaits h =
         let here : (steps.Fault e ≡ steps.Fault (unexpected_eof m.stand.facts.place)) × (t ≡ fell m) =
-            subst (λ (b : Bool). HaltsAwaiting b m t (steps.Fault e)) (ap (λ (u : Seen). u.ended) is) h in
+        subst (λ (b : Bool). HaltsAwaiting b m t (steps.Fault e)) (ap (λ (u : Seen). u.ended) is) h in
         let facts : m.stand.facts.place ≡ (facts_kept login k).place =
-            ap (λ (u : Seen). u.stand.facts.place) is ∙ facts_run login over k a w.stands.stands.login_is w.stands.asked o progress stand stops.Awaits run in
+        ap (λ (u : Seen). u.stand.facts.place) is ∙ facts_run login over k a w.stands.stands.login_is w.stands.asked o progress stand stops.Awaits run in
         let told : e ≡ unexpected_eof m.stand.facts.place = cc in
         let same : e ≡ unexpected_eof (facts_kept login k).place = told ∙ ap unexpected_eof facts in
         let ended = cut_read login k a false o.before o.ended w.stands.asked (said_run login over k a w.stands.stands.login_is w.stands.asked o progress stand stops.Awaits run) (λ x. absurd (false≢true x)) e
-            (stop_run login over k a w.stands.stands.login_is w.stands.asked o progress stand stops.Awaits run) same in
-        (same, subst (λ (v : Seen). Stands login v (ended_by k a (says.Failed e))) (sym (here.1 ∙ ap fell is))
-        (ends_run login over k a w.stands.stands.login_is w.stands.asked o progress stand stops.Awaits run true (says.Failed e) (sym (ap (λ x. closes (ToldError x) (kind_of a.call)) same)) (λ x y. cc) ended))
+        (stop_run login over k a w.stands.stands.login_is w.stands.asked o progress stand stops.Awaits run) same in (
+          same,
+          subst (λ (v : Seen). Stands login v (ended_by k a (says.Failed e))) (sym (here.1 ∙ ap fell is))
+              (ends_run login over k a w.stands.stands.login_is w.stands.asked o progress stand stops.Awaits run true (says.Failed e) (sym (ap (λ x. closes (ToldError x) (kind_of a.call)) same)) (λ x y. cc) ended),
+        )
 
     ends_by : Reads (opened_at a o.progress) over t (steps.Fault e) ⊎ IsOut over t (steps.Fault e) → e ≢ NoMemory
         → (e ≡ unexpected_eof (facts_kept login k).place) × Stands login t (ended_by k a (says.Failed e))
     ends_by (inr out) some = let is : steps.Fault e ≡ steps.Fault NoMemory = out.step_is in let same : e ≡ NoMemory = cc in absurd (some same)
     ends_by (inl r) some =
         let run : Runs login a.call o.progress o.place r.stop r.ran.progress r.ran.stand =
-            subst (λ (l : Login). EachRuns l a.call o.progress s.stand r.stop r.ran.progress r.ran.stand) w.stands.stands.login_is r.ran.runs o.place o.at in
+        subst (λ (l : Login). EachRuns l a.call o.progress s.stand r.stop r.ran.progress r.ran.stand) w.stands.stands.login_is r.ran.runs o.place o.at in
         let stops : Some (stop_of r.stop) ≡ Some Awaits =
-            sym (stop_run login over k a w.stands.stands.login_is w.stands.asked o r.ran.progress r.ran.stand r.stop run) ∙ stop_stopped Awaits login s k a w in
+        sym (stop_run login over k a w.stands.stands.login_is w.stands.asked o r.ran.progress r.ran.stand r.stop run) ∙ stop_stopped Awaits login s k a w in
         let awaits : stop_of r.stop ≡ Awaits = cc in
         ends_at r.mid r.kind r.stop r.ran.progress r.ran.stand r.ran.mid_is run awaits r.halts
 

@@ -2,7 +2,9 @@
 #![tactic(auto)]
 
 mod conn;
+mod driver;
 mod poll;
 
-pub use conn::{TapedConn, ask, note};
+pub use conn::{TapedConn, ask, begin_conn, cancel_call, note};
+pub use driver::drive;
 pub use poll::poll_session;

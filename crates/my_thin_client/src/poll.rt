@@ -180,8 +180,12 @@ fn take_turn<L: Link, T: Notes>(
 
 // What a poll met that received this number of bytes and was stopped so.
 fn met_at(taken: u64, halt: Halt) -> Met
-    ensures { result ≡ record nothing_met { taken = taken; faults = faults_at (stop_at halt);
-        holds = holds_at (stop_at halt); ends = ends_at (stop_at halt) } }
+    ensures { result ≡ record nothing_met {
+      taken = taken;
+      faults = faults_at (stop_at halt);
+      holds = holds_at (stop_at halt);
+      ends = ends_at (stop_at halt);
+    } }
 {
     let met = Met {
         taken,

@@ -30,7 +30,7 @@ turns-preserved g c =
     let each = λ (x : Turn). EachTurn StandsAsked g.T.Notes.keeps c.turns.session.seen c.take_turn.new.session.seen (g.L.Link.looks c.turns.link) (g.L.Link.looks c.take_turn.new.link) c.turns.notes c.take_turn.new.notes (MOST_TAKEN - c.turns.taken) x in
     let far = λ (n : ℕ). EachSoFar g.T.Notes.keeps c.args.session.now.seen c.take_turn.new.session.seen (g.L.Link.looks c.args.link.now) (g.L.Link.looks c.take_turn.new.link) c.args.notes.now c.take_turn.new.notes n in
     elim c.match-branch-2.branch [
-      in-Sent w ↦
+      | in-Sent w ↦
           let same : c.match-branch-2.taken ≡ c.turns.taken = omega (arith, w.taken-is) in
           record {
             within = omega (arith, same, c.turns.invariant.within);
@@ -46,4 +46,5 @@ turns-preserved g c =
             so = subst far (sym same)
                 (took_on g.T.Notes.keeps c.args.session.now.seen c.turns.session.seen c.take_turn.new.session.seen (g.L.Link.looks c.args.link.now) (g.L.Link.looks c.turns.link) (g.L.Link.looks c.take_turn.new.link)
                 c.args.notes.now c.turns.notes c.take_turn.new.notes c.turns.taken (MOST_TAKEN - c.turns.taken) c.turns.invariant.so w.in-Took.n (subst each w.in-Took.is c.in_ok-take_turn.ensures.turn));
-          } ]
+          }
+    ]
