@@ -1,1 +1,3 @@
+pub mod Adopting
 pub mod Answering
+pub mod Keeping

@@ -1,2 +1,4 @@
+pub mod Adopts
 pub mod Session
 pub mod Sessions
+pub mod View

@@ -1,7 +1,9 @@
 -- What a session does, by the steps of the reading.
-use Rattle.std.specs.Prelude.{◌≡◌, ◌⊎◌, ℕ, List, [], drop, Bool, true, false, not, ◌&&◌, Option, Some, None, if◌then◌else◌}
+use Rattle.std.specs.Prelude.{◌≡◌, ◌⊎◌, ℕ, List, [], drop, Bool, true, false, not, ◌&&◌, ◌||◌, Option, Some, None, if◌then◌else◌}
 use Rattle.my_grammar.specs.declared.login.Login.{Login}
 use Rattle.my_grammar.specs.declared.spot.Spot.{Spot}
+use Rattle.my_reply.specs.declared.column.Column.{Column}
+use Rattle.my_statements.specs.Known.{known_of}
 use Rattle.my_machine.specs.declared.progress.Progress.{Progress}
 use Rattle.my_machine.specs.declared.stand.Stand.{Stand}
 use Rattle.my_machine.specs.declared.step.Ending.TheVariants.{Answered, Failed}
@@ -17,13 +19,15 @@ use Rattle.my_reading.specs.declared.error.Error.TheVariants as errors
 use Rattle.my_reading.specs.Calls.{is_unrefused, kind_of}
 use Rattle.my_reading.specs.Endings.{awaits_head}
 use Rattle.my_reading.specs.Errors.{unexpected_eof}
-use Rattle.my_reading.specs.Place.{first_place}
+use Rattle.my_reading.specs.Place.{first_place, is_rows}
 use Rattle.my_reading.specs.Told.{ToldError, closes, told}
 use Rattle.my_session.specs.declared.answer.SessionStep.{SessionStep}
 use Rattle.my_session.specs.declared.answer.SessionStep.TheVariants as steps
 use Rattle.my_session.specs.declared.task.LinkFault.{LinkFault}
 use Rattle.my_session.specs.declared.task.LinkFault.TheVariants as faults
 use Rattle.my_session.specs.LinkErrors.{link_error}
+use Rattle.my_session.specs.Rest.{has_transaction, rest_at}
+use Rattle.my_session.specs.Steps.{is_begun_at}
 use Rattle.my_thin_session.specs.declared.opened.Opened.{Opened}
 
 -- a session: its client, where the reading stands, the open call, whether it is closed, whether its link ended, and the fault by
@@ -54,6 +58,26 @@ pub record IsBegun (login : Login) (s : Seen) : Type 0 where
 
 abbrev pub is_refused : Bool → CallKind → Bool
 is_refused closed kind = closed && not (is_unrefused kind)
+
+-- a call is open from now on
+abbrev pub begun : Call → Seen → Seen
+begun call s = record s { opened = Some (first_opened call); fault = None }
+
+-- whether a call of this kind may begin: on an open session Connect before the greeting, each other one once it is connected
+abbrev pub may_begin : CallKind → Seen → Bool
+may_begin kind s = s.closed || is_begun_at kind s.stand.context.spot
+
+-- whether a stream took the set that is read, or whose end is left
+abbrev pub is_taken : Seen → Bool
+is_taken s = s.stand.taken && (s.stand.end_left || is_rows s.stand.context.spot)
+
+-- whether something is left of earlier calls: something of a response, or a transaction
+abbrev pub is_dirty : Seen → Bool
+is_dirty s = rest_at s.stand.context.spot s.stand.end_left || has_transaction s.stand.status
+
+-- the columns that are known of a statement of this id: none on a closed session
+abbrev pub known_by : ℕ → Seen → Option (List Column)
+known_by id s = if s.closed then None else known_of id s.stand.statements.known
 
 -- on a closed session nothing is owed
 abbrev pub owed_by : Seen → List ℕ

@@ -3,6 +3,7 @@
 
 mod closing;
 mod opened;
+mod running;
 mod session;
 
 pub use opened::Opened;

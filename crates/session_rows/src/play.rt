@@ -5,7 +5,7 @@ use my_frame::{Blob, NoMemory};
 use my_opts::Opts;
 use my_opts_parts::TxOpts;
 use my_reading::{Answer, Call};
-use my_session::{SessionStep, login_for};
+use my_session::SessionStep;
 use my_thin_session::Session;
 use std::alloc::Global;
 use std::test::Fail;
@@ -72,7 +72,7 @@ fn stepped(
 ) -> Result<(), NoMemory> {
     let mut left = digits != "-";
     for _ in 0..20u8 {
-        let word = match session.step(alloc) {
+        let word = match session.step(alloc, 0) {
             SessionStep::Send => {
                 let count = session.owed().len();
                 session.sent(count);
@@ -140,9 +140,7 @@ fn fault_in(alloc: Global, rows: &str) -> Result<String, NoMemory> {
         Ok(opts) => opts,
         Err(_) => return Ok(String::from_str(alloc, "no options")?),
     };
-    let login = login_for(alloc, &opts);
-    drop(opts);
-    let mut session = Session::new(alloc, login?)?;
+    let mut session = Session::new(alloc, opts, false, None)?;
     for row in rows.lines() {
         let said = played(alloc, &mut session, row)?;
         if said.as_str() != field(row, 2) {

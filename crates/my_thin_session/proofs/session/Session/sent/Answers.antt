@@ -1,4 +1,5 @@
-use Rattle.std.proofs.Common.{sym, subst}
+use Rattle.std.proofs.Common.{sym, subst, ap, ◌∙◌}
+use Rattle.my_machine.specs.declared.stand.Stand.{Stand}
 use Rattle.my_machine.specs.Stands.{IsAt}
 use Rattle.my_machine.proofs.Places.{at_sent_bytes}
 use Rattle.my_thin_session.proofs.session.Session.sent.Goals as goal
@@ -6,4 +7,8 @@ use Rattle.my_thin_session.proofs.session.Session.sent.Goals as goal
 pub invariant_of-self : goal.invariant_of-self
 invariant_of-self c = λ alive.
     let here = c.self.invariant alive in
-    (_, subst (IsAt c.self.inside.login _) (sym c.sent.ensures) (at_sent_bytes c.self.inside.login here.0 c.self.inside.stand c.args.count here.1))
+    let new_is = c.sent.ensures in
+    record {
+      at = (_, subst (IsAt c.self.inside.login _) (sym new_is) (at_sent_bytes c.self.inside.login here.at.0 c.self.inside.stand c.args.count here.at.1));
+      account = ap (λ (s : Stand). s.account) new_is ∙ here.account;
+    }

@@ -1,0 +1,50 @@
+use Rattle.std.proofs.Common.{ℕ, ◌≡◌, ◌+◌, ◌-◌, ◌≤◌, arith, subst, sym}
+use Rattle.my_frame.specs.declared.limits.TheConstants.{MOST_TAKEN}
+use Rattle.my_thin_client.specs.declared.poll.Turn.{Turn}
+use Rattle.my_thin_client.specs.Stands.{StandsAsked}
+use Rattle.my_thin_client.specs.Turns.{EachTurn, took_by}
+use Rattle.my_thin_client.proofs.Polling.{EachSoFar, is_over, nothing_yet, sent_on, took_on}
+use Rattle.my_thin_client.proofs.poll.poll_session.Goals.{in-Sent, in-Took}
+use Rattle.my_thin_client.proofs.poll.poll_session.Goals as goal
+
+pub turns-init : goal.turns-init
+turns-init g c = record {
+  within = omega arith;
+  so = nothing_yet g.T.Notes.keeps c.args.session.now.seen (g.L.Link.looks c.args.link.now) c.args.notes.now;
+}
+
+pub overflow_add-taken : goal.overflow_add-taken
+overflow_add-taken g c =
+    let within : c.in-Took.n ≤ MOST_TAKEN - c.turns.taken = subst (λ (x : Turn). took_by x ≤ MOST_TAKEN - c.turns.taken) c.in-Took.is c.in_ok-take_turn.ensures.took in
+    omega (arith, within, c.turns.invariant.within)
+
+pub returns-in-Over-clause-polls : goal.returns-in-Over-clause-polls
+returns-in-Over-clause-polls g c =
+    is_over g.T.Notes.keeps c.args.session.now.seen c.turns.session.seen c.take_turn.new.session.seen (g.L.Link.looks c.args.link.now) (g.L.Link.looks c.turns.link) (g.L.Link.looks c.take_turn.new.link)
+    c.args.notes.now c.turns.notes c.take_turn.new.notes c.turns.taken (MOST_TAKEN - c.turns.taken) c.turns.invariant.so c.in-Over.halt c.in-Over.after c.met_at.result
+    (subst (λ (x : Turn). EachTurn StandsAsked g.T.Notes.keeps c.turns.session.seen c.take_turn.new.session.seen (g.L.Link.looks c.turns.link) (g.L.Link.looks c.take_turn.new.link) c.turns.notes c.take_turn.new.notes (MOST_TAKEN - c.turns.taken) x) c.in-Over.is c.in_ok-take_turn.ensures.turn)
+    (omega (arith, c.turns.invariant.within)) c.met_at.ensures
+
+pub turns-preserved : goal.turns-preserved
+turns-preserved g c =
+    let each = λ (x : Turn). EachTurn StandsAsked g.T.Notes.keeps c.turns.session.seen c.take_turn.new.session.seen (g.L.Link.looks c.turns.link) (g.L.Link.looks c.take_turn.new.link) c.turns.notes c.take_turn.new.notes (MOST_TAKEN - c.turns.taken) x in
+    let far = λ (n : ℕ). EachSoFar g.T.Notes.keeps c.args.session.now.seen c.take_turn.new.session.seen (g.L.Link.looks c.args.link.now) (g.L.Link.looks c.take_turn.new.link) c.args.notes.now c.take_turn.new.notes n in
+    elim c.match-branch-2.branch [
+      | in-Sent w ↦
+          let same : c.match-branch-2.taken ≡ c.turns.taken = omega (arith, w.taken-is) in
+          record {
+            within = omega (arith, same, c.turns.invariant.within);
+            so = subst far (sym same)
+                (sent_on g.T.Notes.keeps c.args.session.now.seen c.turns.session.seen c.take_turn.new.session.seen (g.L.Link.looks c.args.link.now) (g.L.Link.looks c.turns.link) (g.L.Link.looks c.take_turn.new.link)
+                c.args.notes.now c.turns.notes c.take_turn.new.notes c.turns.taken (MOST_TAKEN - c.turns.taken) c.turns.invariant.so (subst each w.in-Sent.is c.in_ok-take_turn.ensures.turn));
+          }
+      | in-Took w ↦
+          let within : w.in-Took.n ≤ MOST_TAKEN - c.turns.taken = subst (λ (x : Turn). took_by x ≤ MOST_TAKEN - c.turns.taken) w.in-Took.is c.in_ok-take_turn.ensures.took in
+          let same : c.match-branch-2.taken ≡ c.turns.taken + w.in-Took.n = omega (arith, w.taken-is) in
+          record {
+            within = omega (arith, same, within, c.turns.invariant.within);
+            so = subst far (sym same)
+                (took_on g.T.Notes.keeps c.args.session.now.seen c.turns.session.seen c.take_turn.new.session.seen (g.L.Link.looks c.args.link.now) (g.L.Link.looks c.turns.link) (g.L.Link.looks c.take_turn.new.link)
+                c.args.notes.now c.turns.notes c.take_turn.new.notes c.turns.taken (MOST_TAKEN - c.turns.taken) c.turns.invariant.so w.in-Took.n (subst each w.in-Took.is c.in_ok-take_turn.ensures.turn));
+          }
+    ]

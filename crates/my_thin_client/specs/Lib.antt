@@ -1,0 +1,5 @@
+pub mod Conn
+pub mod Drives
+pub mod Polls
+pub mod Stands
+pub mod Turns

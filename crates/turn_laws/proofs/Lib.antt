@@ -1,0 +1,4 @@
+pub mod Deciding
+pub mod Explaining
+pub mod Leading
+pub mod Turning
