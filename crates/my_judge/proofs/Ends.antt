@@ -1,5 +1,5 @@
 -- How calls end, by what the program knows.
-use Rattle.std.proofs.Common.{◌≡◌, inl, inr, ℕ, List, [], ◌∷◌, length, take, arith, Option, Some, None, Bool, true, false, not, ◌&&◌, ◌||◌, ◌==◌, nat_eq, refl, sym, ap, ◌∙◌, subst}
+use Rattle.std.proofs.Common.{◌≡◌, inl, inr, ℕ, List, [], ◌∷◌, drop, length, take, arith, Option, Some, None, Bool, true, false, not, ◌&&◌, ◌||◌, ◌==◌, nat_eq, refl, sym, ap, ◌∙◌, subst}
 use Rattle.std.specs.Bool.{Decides}
 use Rattle.std.specs.Option.{option_map}
 use Rattle.std.proofs.lemmas.Bool.Decides.{nat_tests}
@@ -23,18 +23,23 @@ use Rattle.my_reading.specs.Reading.{ReadCall, halt_of, is_closing}
 use Rattle.my_reading.specs.Tape.{Span}
 use Rattle.my_reading.specs.Told.{ToldError, Dropped, told}
 use Rattle.my_judge.specs.declared.stand.Stand.{Stand}
-use Rattle.my_judge.specs.declared.step.Stop.{Stop as CodeStop}
-use Rattle.my_judge.specs.declared.step.Stop.TheVariants as stops
+use Rattle.my_machine.specs.declared.step.Ending.{Ending as Returned}
+use Rattle.my_machine.specs.declared.step.Ending.TheVariants as returned
+use Rattle.my_machine.specs.declared.step.Stop.{Stop as CodeStop}
+use Rattle.my_machine.specs.declared.step.Stop.TheVariants as stops
+use Rattle.my_machine.specs.declared.stand.Stand.{Stand as Machine}
+use Rattle.my_machine.specs.Stops.{stop_of}
 use Rattle.my_judge.specs.declared.tape.Ending.{Ending}
 use Rattle.my_judge.specs.declared.tape.Ending.TheVariants.{Answered, Failed, Cancelled}
 use Rattle.my_judge.specs.declared.tape.TapeCall.{TapeCall}
 use Rattle.my_judge.specs.Courses.{HaltIs}
-use Rattle.my_judge.specs.Ended.{EndsSo, IsCutSo, closes_at, settled_at}
-use Rattle.my_judge.specs.Reads.{ReadsCall, halt_at, read_of, with_span}
+use Rattle.my_judge.specs.Ended.{EndsSo, IsCutSo, closes_at, ending_of, settled_at}
+use Rattle.my_judge.specs.declared.reader.Reader.{Reader}
+use Rattle.my_judge.specs.Reads.{IsRead, IsTaken, ReadsCall, halt_at, may_stand, read_of, with_span}
 use Rattle.my_judge.specs.Settled.{settled, settled_told, span_with}
 use Rattle.my_judge.specs.Stands.{IsAt, with_bytes as with_more}
-use Rattle.my_judge.specs.Tapes.{call_of, stop_of, told_of}
-use Rattle.my_judge.proofs.Places.{at_bytes}
+use Rattle.my_judge.specs.Tapes.{call_of, returned_of, told_of}
+use Rattle.my_judge.proofs.Settling.{at_bytes, sent_right}
 
 same_either_way : (x y : ℕ) → nat_eq x y ≡ y == x
 same_either_way x y = grind (arith, nat_tests)
@@ -140,15 +145,19 @@ closes_so kinds.CleanForPool p spot e = refl
 closes_so kinds.ResetForPool p spot e = refl
 closes_so kinds.Quit p spot e = refl
 
+told_so : (x : Returned) → told_of (ending_of x) ≡ returned_of x
+told_so (returned.Answered a) = refl
+told_so (returned.Failed e) = refl
+
 module _ (login : Login) (c : ReadCall) (s : Stand) (ending : Option Ending) (at : IsAt login c.halt.place s) (told_is : c.span.ending ≡ option_map told_of ending) where
   abbrev kind : CallKind
   kind = kind_of c.span.call
 
-  place_is : s.facts.place ≡ (facts_at login c.halt.place).place
-  place_is = ap (λ (x : Stand). x.facts.place) at.stand_is
+  place_is : s.machine.facts.place ≡ (facts_at login c.halt.place).place
+  place_is = ap (λ (x : Machine). x.facts.place) at.machine_is
 
-  closing_is : closes_at kind s.context.spot ≡ closes_cancelled kind c.halt.place
-  closing_is = closes_so kind c.halt.place s.context.spot (ap (λ (x : Stand). x.context.spot) at.stand_is)
+  closing_is : closes_at kind s.machine.context.spot ≡ closes_cancelled kind c.halt.place
+  closing_is = closes_so kind c.halt.place s.machine.context.spot (ap (λ (x : Machine). x.context.spot) at.machine_is)
 
   cut_so : (awaits : Bool) → (awaits ≡ true → c.halt.stop ≡ Awaits) → (o : Option Ending) → c.span.ending ≡ option_map told_of o → IsCutSo kind s awaits o → IsCut login c
   cut_so awaits waits None e h = IsOpen e
@@ -166,12 +175,12 @@ module _ (login : Login) (c : ReadCall) (s : Stand) (ending : Option Ending) (at
   pub ends_from : (stop : CodeStop) → c.halt.stop ≡ stop_of stop → EndsSo kind s stop ending → Ends login c (stop_of stop)
   ends_from stops.Owes is h = cut_so false (λ no. cc) ending told_is h
   ends_from stops.Awaits is h = cut_so true (λ _. is) ending told_is h
-  ends_from (stops.Returns x) is h = told_is ∙ ap (option_map told_of) h
+  ends_from (stops.Returns x) is h = told_is ∙ ap (option_map told_of) h ∙ ap Some (told_so x)
 
   pub ends_to : (stop : CodeStop) → c.halt.stop ≡ stop_of stop → Ends login c (stop_of stop) → EndsSo kind s stop ending
   ends_to stops.Owes is h = cut_to false (λ no. cc) h
   ends_to stops.Awaits is h = cut_to true (λ _. refl) h
-  ends_to (stops.Returns x) is h = some_ending ending x (sym told_is ∙ h)
+  ends_to (stops.Returns x) is h = some_ending ending (ending_of x) (sym told_is ∙ h ∙ ap Some (sym (told_so x)))
 
 both : (a b d : Bool) → a && b && d ≡ true → (a ≡ true) × (b ≡ true) × (d ≡ true)
 both true true true e = (refl, refl, refl)
@@ -188,10 +197,10 @@ halts_so login false span p = refl
 
 -- a call that was read
 reads_so : (login : Login) (c : ReadCall) (ending : Option Ending) (new : Stand) (stop : CodeStop) (ends said closing : Bool)
-    → HaltIs login c.halt stop new → c.span.ending ≡ option_map told_of ending → Decides ends (EndsSo (kind_of c.span.call) new stop ending) → said ≡ begins_with new.said new.sent
+    → HaltIs login c.halt stop new → c.span.ending ≡ option_map told_of ending → Decides ends (EndsSo (kind_of c.span.call) new stop ending) → said ≡ new.right && begins_with new.machine.owed (drop new.settled new.sent)
     → closing ≡ is_closing c.span.call c.span.ending → ReadsCall login c (ends && said && is_quiet c) (record { stand = new; closed = c.closed || closing })
 reads_so login c ending new stop ends said closing h told_is ended begun closes =
-    let begins : said ≡ begins_with (client_side (exchanges c.halt.place)) c.halt.place.sent = begun ∙ ap (λ (x : Stand). begins_with x.said x.sent) h.at.stand_is in
+    let begins : said ≡ begins_with (client_side (exchanges c.halt.place)) c.halt.place.sent = begun ∙ sent_right login c.halt.place new h.at in
     record {
       right_is = (
         λ e. let w = both ends said (is_quiet c) e in record {
@@ -208,7 +217,7 @@ reads_so login c ending new stop ends said closing h told_is ended begun closes 
 -- a call that was read over its bytes
 pub reads_call : (login : Login) (call : TapeCall) (sent taken : List ℕ) (p : Place) (closed closing : Bool) (old mid new : Stand) (stop : CodeStop) (ends said : Bool)
     → IsAt login p old → mid ≡ with_more sent taken old → ((q : Place) → IsAt login q mid → HaltIs login (halt_at login closed call.call q) stop new)
-    → Decides ends (EndsSo (kind_of call.call) new stop call.ending) → said ≡ begins_with new.said new.sent
+    → Decides ends (EndsSo (kind_of call.call) new stop call.ending) → said ≡ new.right && begins_with new.machine.owed (drop new.settled new.sent)
     → closing ≡ is_closing call.call (option_map told_of call.ending)
     → ReadsCall login (read_of login closed (with_span (call_of call) sent taken) p) (ends && said && (not closed || (is_empty sent && is_empty taken))) (record { stand = new; closed = closed || closing })
 reads_call login call sent taken p closed closing old mid new stop ends said at added stopped ended begun closes =
@@ -216,6 +225,15 @@ reads_call login call sent taken p closed closing old mid new stop ends said at 
     let here : IsAt login (with_bytes sent taken p) mid = subst (λ (x : Stand). IsAt login (with_bytes sent taken p) x) (sym added) (at_bytes login p old sent taken at) in
     let h : HaltIs login (halt_of login closed span p) stop new = subst (λ x. HaltIs login x stop new) (sym (halts_so login closed span p)) (stopped (with_bytes sent taken p) here) in
     reads_so login (read_of login closed span p) call.ending new stop ends said closing h refl ended begun closes
+
+-- the call may stand there
+pub takes_call : (login : Login) (index : ℕ) (span : Span) (old : Reader) (right : Bool) (new : Reader) → may_stand index (kind_of span.call) ≡ true → IsRead login span old right new → IsTaken login index span old right new
+takes_call login index span old right new may read = λ p at.
+    let r = read p at in
+    record {
+      right_is = (λ e. (may, r.right_is.0 e), λ w. r.right_is.1 w.1);
+      after = λ _. (r.at, r.closed_is);
+    }
 
 -- a cancelled call closes the connection or not
 settled_so : (kind : CallKind) (p : Place) (spot : Spot) (ending : Option Ending) → spot ≡ (context_of p.talk).spot
@@ -232,8 +250,8 @@ settled_so kind p spot (Some (Cancelled b)) e = ap (λ x. Some (Dropped x)) (sym
 
 pub reads_settled : (login : Login) (call : Call) (ending settled_ending : Option Ending) (sent taken : List ℕ) (p : Place) (closed closing : Bool) (old mid new : Stand) (stop : CodeStop) (ends said : Bool)
     → IsAt login p old → mid ≡ with_more sent taken old → ((q : Place) → IsAt login q mid → HaltIs login (halt_at login closed call q) stop new)
-    → settled_ending ≡ settled_at (kind_of call) new.context.spot ending
-    → Decides ends (EndsSo (kind_of call) new stop settled_ending) → said ≡ begins_with new.said new.sent
+    → settled_ending ≡ settled_at (kind_of call) new.machine.context.spot ending
+    → Decides ends (EndsSo (kind_of call) new stop settled_ending) → said ≡ new.right && begins_with new.machine.owed (drop new.settled new.sent)
     → closing ≡ is_closing call (option_map told_of settled_ending)
     → ReadsCall login (read_of login closed (settled login closed (span_with call ending sent taken) p) p) (ends && said && (not closed || (is_empty sent && is_empty taken))) (record { stand = new; closed = closed || closing })
 reads_settled login call ending settled_ending sent taken p closed closing old mid new stop ends said at added stopped is ended begun closes =
@@ -241,7 +259,7 @@ reads_settled login call ending settled_ending sent taken p closed closing old m
     let here : IsAt login (with_bytes sent taken p) mid = subst (λ (x : Stand). IsAt login (with_bytes sent taken p) x) (sym added) (at_bytes login p old sent taken at) in
     let h : HaltIs login (halt_of login closed span p) stop new = subst (λ x. HaltIs login x stop new) (sym (halts_so login closed span p)) (stopped (with_bytes sent taken p) here) in
     let told : settled_told (kind_of call) (halt_of login closed span p).place (option_map told_of ending) ≡ option_map told_of settled_ending
-    = settled_so (kind_of call) (halt_of login closed span p).place new.context.spot ending (ap (λ (x : Stand). x.context.spot) h.at.stand_is) ∙ ap (option_map told_of) (sym is) in
+    = settled_so (kind_of call) (halt_of login closed span p).place new.machine.context.spot ending (ap (λ (x : Machine). x.context.spot) h.at.machine_is) ∙ ap (option_map told_of) (sym is) in
     reads_so login (read_of login closed (settled login closed span p) p) settled_ending new stop ends said closing (halts_settled h) told ended begun (closes ∙ ap (is_closing call) (sym told))
   where
     halts_settled : HaltIs login (halt_of login closed (span_with call ending sent taken) p) stop new → HaltIs login (halt_of login closed (settled login closed (span_with call ending sent taken) p) p) stop new

@@ -10,14 +10,12 @@ use Rattle.my_reading.specs.Place.{Place, first_place}
 use Rattle.my_reading.specs.Reading.{ReadCall, reading, read_calls, is_closing}
 use Rattle.my_reading.specs.Tape.{Tape, TapeCall, spans_from}
 use Rattle.my_judge.specs.declared.reader.Reader.{Reader}
-use Rattle.my_judge.specs.declared.stand.Stand.{Stand}
 use Rattle.my_judge.specs.declared.tape.Tape.{Tape as CodeTape}
 use Rattle.my_judge.specs.declared.tape.TapeCall.{TapeCall as CodeCall}
 use Rattle.my_judge.specs.Reads.{TakesCall, may_stand, read_of, span_of}
-use Rattle.my_judge.specs.Stands.{IsAt}
+use Rattle.my_judge.specs.Stands.{IsAt, IsSomewhere}
 use Rattle.my_judge.specs.Tapes.{call_of, tape_of}
 use Rattle.my_judge.specs.Verdicts.{AreRight, FirstAreRight, IsAtFirst, IsRefuted, StandInOrder}
-use Rattle.my_reading.specs.Commands.{arranging_texts}
 
 pub and_true : (a b : Bool) → a && b ≡ true → (a ≡ true) × (b ≡ true)
 and_true true true e = (refl, refl)
@@ -119,9 +117,9 @@ refutes_first login t e = record {
   wrong = λ w. let no : false ≡ true = sym e ∙ w.order.0 in absurd cc;
 }
 
--- the queries that set a connection up are known
-pub texts_known : (login : Login) (tape : CodeTape) (index : ℕ) (left : List CodeCall) (r : Reader) → Judged login tape index left r → r.stand.texts ≡ arranging_texts login
-texts_known login tape index left r j = ap (λ (s : Stand). s.texts) j.at.stand_is
+-- the reading is at a place
+pub somewhere : (login : Login) (tape : CodeTape) (index : ℕ) (left : List CodeCall) (r : Reader) → Judged login tape index left r → IsSomewhere login r.stand
+somewhere login tape index left r j = (j.place, j.at)
 
 module _ (login : Login) (tape : CodeTape) (index : ℕ) (call : CodeCall) (left after : List CodeCall) (r new : Reader) (is : left ≡ call ∷ after) (j : Judged login tape index left r) where
   abbrev c : ReadCall

@@ -5,9 +5,9 @@ use Rattle.my_reading.specs.declared.call.Call.{Call}
 use Rattle.my_reading.specs.Course.{Halt, course}
 use Rattle.my_reading.specs.Place.{Place}
 use Rattle.my_judge.specs.declared.stand.Stand.{Stand}
-use Rattle.my_judge.specs.declared.step.Stop.{Stop}
+use Rattle.my_machine.specs.declared.step.Stop.{Stop}
+use Rattle.my_machine.specs.Stops.{stop_of}
 use Rattle.my_judge.specs.Stands.{IsAt}
-use Rattle.my_judge.specs.Tapes.{stop_of}
 
 -- The program is where the call stops, and so does it stop.
 pub record HaltIs (login : Login) (h : Halt) (stop : Stop) (new : Stand) : Type 0 where

@@ -1,4 +1,3 @@
-pub mod Parts
 pub mod Stands
 pub mod Tapes
 pub mod Courses

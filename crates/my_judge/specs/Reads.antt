@@ -1,5 +1,5 @@
 -- What the program finds of a call in its place on a tape.
-use Rattle.std.specs.Prelude.{◌≡◌, ◌==◌, ℕ, ◌||◌, not, List, Bool, true, false, if◌then◌else◌}
+use Rattle.std.specs.Prelude.{◌≡◌, ◌==◌, ℕ, ◌&&◌, ◌||◌, not, length, List, Bool, true, false, if◌then◌else◌}
 use Rattle.std.specs.Bool.{Decides}
 use Rattle.my_grammar.specs.declared.login.Login.{Login}
 use Rattle.my_reading.specs.declared.call.Call.{Call}
@@ -7,15 +7,16 @@ use Rattle.my_reading.specs.declared.call.CallKind.{CallKind}
 use Rattle.my_reading.specs.Calls.{kind_of, is_connect}
 use Rattle.my_reading.specs.Course.{Halt, halt, Returns, course}
 use Rattle.my_reading.specs.Endings.{IsCall}
-use Rattle.my_reading.specs.Place.{Place}
+use Rattle.my_reading.specs.declared.facts.Facts.{Facts}
+use Rattle.my_reading.specs.Place.{Place, facts_at, is_taken}
 use Rattle.my_reading.specs.Reading.{ReadCall, closed_answer, halt_of, is_closing}
 use Rattle.my_reading.specs.Tape.{Tape, TapeCall, Span, between, sent_to, taken_to}
 use Rattle.my_judge.specs.declared.reader.Reader.{Reader}
-use Rattle.my_judge.specs.declared.step.Stop.{Stop}
+use Rattle.my_machine.specs.declared.step.Stop.{Stop}
 use Rattle.my_judge.specs.Courses.{HaltIs}
 use Rattle.my_judge.specs.Stands.{IsAt}
 
--- what a call on a closed connection comes to, and on an open one
+-- where a call stops on a closed connection, and on an open one
 abbrev pub halt_at : Login → Bool → Call → Place → Halt
 halt_at login true call p = halt p (Returns (closed_answer call))
 halt_at login false call p = course login call p
@@ -54,3 +55,14 @@ pub record TakesCall (login : Login) (index : ℕ) (c : ReadCall) (right : Bool)
 
 abbrev pub IsTaken : Login → ℕ → Span → Reader → Bool → Reader → Type 0
 IsTaken login index span old right new = (p : Place) → IsAt login p old.stand → TakesCall login index (read_of login old.closed span p) right new
+
+-- Wherever the program is: whether a stream took the set that is read, or whose end is left, on an open connection; what the
+-- server said so far; how many bytes were sent so far.
+abbrev pub IsTakenThere : Reader → Bool → Type 0
+IsTakenThere r taken = (login : Login) (p : Place) → IsAt login p r.stand → taken ≡ not r.closed && is_taken p
+
+abbrev pub AreFactsThere : Reader → Facts → Type 0
+AreFactsThere r facts = (login : Login) (p : Place) → IsAt login p r.stand → facts ≡ facts_at login p
+
+abbrev pub IsSentThere : Reader → ℕ → Type 0
+IsSentThere r n = (login : Login) (p : Place) → IsAt login p r.stand → n ≡ length p.sent

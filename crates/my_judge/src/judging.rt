@@ -96,8 +96,8 @@ fn judge_calls(
 }
 
 /// Whether the tape is one of a client that logs in so, by the reading of `my_reading`: its first call connects and no
-/// other does; each call ended as it comes to over its bytes, or is open there; what was sent is a beginning of what
-/// the calls say; and on a closed connection nothing was sent or received. The calls stand in order: the first one
+/// other does; each call ended as the reading says over its bytes, or is open there; what was sent is a beginning of
+/// what the calls say; and on a closed connection nothing was sent or received. The calls stand in order: the first one
 /// begins with the first bytes, no other one before the one that precedes it or after the tape's end, and only the
 /// newest may be open; without a call there are no bytes. The time is that of one pass over the bytes, and for each
 /// call one over what was sent so far.

@@ -3,22 +3,32 @@
 ghost use Rattle.std.specs.Prelude.{◌≡◌, ◌&&◌, ◌||◌, IfOk, map, not};
 ghost use Rattle.std.specs.Option.{option_map};
 ghost use Rattle.my_reading.specs.Calls.{is_connect, is_quit, is_unrefused, kind_of};
-ghost use Rattle.my_reading.specs.Commands.{arranging_texts};
 ghost use Rattle.my_reading.specs.Endings.{is_empty};
+ghost use Rattle.my_reading.specs.Place.{is_rows};
 ghost use Rattle.my_reading.specs.Reading.{closed_answer, is_closing};
 ghost use Rattle.my_reading.specs.Tape.{between, sent_to, taken_to};
 ghost use Rattle.my_reading.specs.Told.{closes, closes_by, closes_driver};
-ghost use Rattle.my_judge.specs.Reads.{IsRead, IsTaken, StopIs, may_stand, span_of, with_span};
+ghost use Rattle.my_judge.specs.Reads.{
+  AreFactsThere,
+  IsRead,
+  IsSentThere,
+  IsTaken,
+  IsTakenThere,
+  StopIs,
+  may_stand,
+  span_of,
+  with_span,
+};
 ghost use Rattle.my_judge.specs.Settled.{IsSettled, span_with};
-ghost use Rattle.my_judge.specs.Stands.{with_bytes};
-ghost use Rattle.my_judge.specs.Tapes.{call_of, tape_of, told_of};
+ghost use Rattle.my_judge.specs.Stands.{IsSomewhere, with_bytes};
+ghost use Rattle.my_judge.specs.Tapes.{call_of, returned_of, tape_of, told_of};
 
 use crate::stand::Stand;
-use crate::step::Stop;
 use crate::tape::{Ending, Tape, TapeCall};
 use my_frame::NoMemory;
-use my_grammar::Login;
-use my_reading::{Answer, Call, CallKind, DriverError, Error};
+use my_grammar::{Login, Spot};
+use my_machine::Stop;
+use my_reading::{Answer, Call, CallKind, DriverError, Error, Facts};
 use std::alloc::Global;
 
 /// Where the reading of a tape is, and whether the connection is closed.
@@ -39,13 +49,13 @@ fn is_unrefused(kind: CallKind) -> bool
 }
 
 // What a call on a closed connection returns.
-fn closed_answer(call: &Call) -> Ending
-    ensures { told_of result ≡ closed_answer call.now }
+fn closed_answer(call: &Call) -> my_machine::Ending
+    ensures { returned_of result ≡ closed_answer call.now }
 {
     if is_unrefused(call.kind()) {
-        Ending::Answered(Answer::Ready)
+        my_machine::Ending::Answered(Answer::Ready)
     } else {
-        Ending::Failed(Error::Driver(DriverError::ConnectionClosed))
+        my_machine::Ending::Failed(Error::Driver(DriverError::ConnectionClosed))
     }
 }
 
@@ -175,10 +185,49 @@ fn may_stand(index: usize, kind: CallKind) -> bool
     }
 }
 
+fn is_rows(spot: Spot) -> bool
+    ensures { result ≡ is_rows spot }
+{
+    match spot {
+        Spot::Rows => true,
+        _ => false,
+    }
+}
+
+// Whether a stream took the set that is read, or whose end is left.
+fn is_taken_at(machine: &my_machine::Stand) -> bool
+    ensures { let s = machine.now in
+        result ≡ s.taken && (s.end_left || is_rows s.context.spot) }
+{
+    machine.taken && (machine.end_left || is_rows(machine.context.spot))
+}
+
 impl Reader {
+    /// Whether a stream took the set that is read, or whose end is left, on an open connection.
+    pub fn is_taken(&self) -> bool
+        ensures { IsTakenThere self.now result }
+    {
+        let taken = is_taken_at(&self.stand.machine);
+        !self.closed & taken
+    }
+
+    /// What the server said so far.
+    pub fn facts(&self) -> &Facts
+        ensures { AreFactsThere self.now result.now }
+    {
+        &self.stand.machine.facts
+    }
+
+    /// How many bytes were sent so far.
+    pub fn sent_len(&self) -> usize
+        ensures { IsSentThere self.now result }
+    {
+        self.stand.sent.len()
+    }
+
     // Where the call stops.
     fn stop(&mut self, alloc: Global, login: &Login, call: &Call) -> Result<Stop, NoMemory>
-        requires { self.old.stand.texts ≡ arranging_texts login.now }
+        requires { IsSomewhere login.now self.old.stand }
         ensures stop { IfOk result (λ stop. StopIs login.now call.now self.old stop self.new) }
         ensures closed { self.new.closed ≡ self.old.closed }
     {
@@ -197,7 +246,7 @@ impl Reader {
         sent: &[u8],
         taken: &[u8],
     ) -> Result<Stop, NoMemory>
-        requires { self.old.stand.texts ≡ arranging_texts login.now }
+        requires { IsSomewhere login.now self.old.stand }
         ensures stop { let stand = with_bytes sent.now taken.now self.old.stand in
             IfOk result (λ stop. StopIs login.now call.now (record self.old { stand = stand }) stop self.new) }
         ensures closed { self.new.closed ≡ self.old.closed }
@@ -215,7 +264,7 @@ impl Reader {
         sent: &[u8],
         taken: &[u8],
     ) -> Result<bool, NoMemory>
-        requires { self.old.stand.texts ≡ arranging_texts login.now }
+        requires { IsSomewhere login.now self.old.stand }
         ensures { let span = with_span (call_of call.now) sent.now taken.now in
             IfOk result (λ right. IsRead login.now span self.old right self.new) }
     {
@@ -239,7 +288,7 @@ impl Reader {
         sent: &[u8],
         taken: &[u8],
     ) -> Result<bool, NoMemory>
-        requires { self.old.stand.texts ≡ arranging_texts login.now }
+        requires { IsSomewhere login.now self.old.stand }
         ensures { let span = span_with call.now ending sent.now taken.now in
             IfOk result (λ right. IsSettled login.now span self.old right self.new) }
     {
@@ -270,7 +319,7 @@ impl Reader {
         call: &TapeCall,
         after: &[TapeCall],
     ) -> Result<bool, NoMemory>
-        requires { self.old.stand.texts ≡ arranging_texts login.now }
+        requires { IsSomewhere login.now self.old.stand }
         ensures { let span = span_of (tape_of tape.now) (call_of call.now) (map call_of after.now) in
             IfOk result (λ right. IsTaken login.now index span self.old right self.new) }
     {
@@ -279,6 +328,7 @@ impl Reader {
         }
         let sent = sent_in(tape, call, after);
         let taken = taken_in(tape, call, after);
-        self.read_call(alloc, login, call, sent, taken)
+        let right = self.read_call(alloc, login, call, sent, taken)?;
+        Ok(right)
     }
 }

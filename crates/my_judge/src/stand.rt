@@ -1,74 +1,37 @@
-//! Where the reading of a connection stands, as far as later bytes and calls depend on it.
+//! Where the reading of a connection stands, beside the bytes that were sent.
 
-ghost use Rattle.std.specs.Prelude.{◌≡◌, ◌++◌, IfOk, OnOk, length, nat_lt};
-ghost use Rattle.my_reading.specs.Commands.{arranging_texts};
-ghost use Rattle.my_reading.specs.Place.{first_place};
-ghost use Rattle.my_reading.specs.Statements.{first_statements};
-ghost use Rattle.my_judge.specs.Stands.{IsAt, with_bytes};
+ghost use Rattle.std.specs.Prelude.{◌≡◌, ◌≤◌, ◌&&◌, IfOk, OnOk, drop, length, take};
+ghost use Rattle.std.specs.Bool.{Decides};
+ghost use Rattle.my_reading.specs.Place.{begins_with, first_place};
+ghost use Rattle.my_judge.specs.Courses.{CourseIs};
+ghost use Rattle.my_judge.specs.Stands.{IsAt, IsSomewhere, Settles, with_bytes};
 
-mod asking;
-mod course;
 mod ending;
-mod preparing;
-mod reading;
-mod refusing;
-mod renewing;
-mod stepping;
-mod transacting;
 
-use crate::texts::arranging_texts;
 pub use ending::is_same_row;
-use my_frame::{Blob, Listed, NoMemory};
-use my_grammar::{Account, Context, Login, Queue};
-use my_reading::{Facts, Statements, Trial, TxStatus};
+use my_frame::NoMemory;
+use my_grammar::{Login, Queue};
+use my_machine::{Progress, Stop};
+use my_reading::Call;
 use std::alloc::Global;
 
 /// Where the reading stands.
 #[derive(Drop)]
 pub struct Stand {
-    /// What the newest exchange awaits.
-    pub context: Context,
-    /// The sequence id of the next packet.
-    pub number: u8,
-    /// What the server said so far.
-    pub facts: Facts,
-    /// The queries that set the connection up.
-    pub texts: Listed<Blob>,
-    /// How many of them were begun.
-    pub arranged: usize,
-    /// Whether the end of a lone OK is left for a read to return.
-    pub end_left: bool,
-    /// Whether a stream took the set that is read, or whose end is left.
-    pub taken: bool,
-    /// The prepared statements that are known.
-    pub statements: Statements,
-    /// Whether the server has a transaction.
-    pub status: TxStatus,
-    /// The account of the options in force.
-    pub account: Account,
-    /// Whether it is being committed.
-    pub trial: Trial,
-    /// Bytes that were received and not read.
-    pub unread: Queue,
-    /// What the client says in the exchanges.
-    pub said: Queue,
-    /// What was sent.
+    /// Where it stands, had the bytes been sent that the exchanges say.
+    pub machine: my_machine::Stand,
+    /// All bytes that were sent.
     pub sent: Queue,
+    /// How many of them the exchanges have said.
+    pub settled: usize,
+    /// Whether these are what the exchanges say.
+    pub right: bool,
 }
 
-// The queries that set the connection up, and the statements that are known before the first call.
-fn first_known(alloc: Global, login: &Login) -> Result<(Listed<Blob>, Statements), NoMemory>
-    ensures texts { IfOk result (λ known. known.0 ≡ arranging_texts login.now) }
-    ensures statements { IfOk result (λ known. known.1 ≡ first_statements login.now) }
+fn are_same(a: &[u8], b: &[u8]) -> bool
+    ensures { Decides result (a.now ≡ b.now) }
 {
-    let texts = arranging_texts(alloc, login)?;
-    match Statements::new(alloc, login) {
-        Ok(statements) => Ok((texts, statements)),
-        Err(NoMemory) => {
-            drop(texts);
-            Err(NoMemory)
-        }
-    }
+    a == b
 }
 
 impl Stand {
@@ -76,37 +39,11 @@ impl Stand {
     pub fn first(alloc: Global, login: &Login) -> Result<Stand, NoMemory>
         ensures { IfOk result (λ s. IsAt login.now (first_place login.now) s) }
     {
-        let facts = Facts::new(alloc, login)?;
-        let account = match Account::from_login(alloc, login) {
-            Ok(account) => account,
-            Err(NoMemory) => {
-                drop(facts);
-                return Err(NoMemory);
-            }
-        };
-        let (texts, statements) = match first_known(alloc, login) {
-            Ok(known) => known,
-            Err(NoMemory) => {
-                drop(facts);
-                drop(account);
-                return Err(NoMemory);
-            }
-        };
         Ok(Stand {
-            context: Context::start(login),
-            number: 0,
-            facts,
-            texts,
-            arranged: 0,
-            end_left: false,
-            taken: false,
-            statements,
-            status: TxStatus::None,
-            account,
-            trial: Trial::Off,
-            unread: Queue::new(alloc),
-            said: Queue::new(alloc),
+            machine: my_machine::Stand::first(alloc, login)?,
             sent: Queue::new(alloc),
+            settled: 0,
+            right: true,
         })
     }
 
@@ -115,13 +52,68 @@ impl Stand {
         ensures { OnOk result (self.new ≡ with_bytes sent.now taken.now self.old) }
     {
         self.sent.push(sent)?;
-        self.unread.push(taken)
+        self.machine.take(taken)
     }
 
-    /// Whether bytes are to be sent.
-    pub fn owes(&self) -> bool
-        ensures { result ≡ nat_lt (length self.now.sent) (length self.now.said) }
+    // The bytes that were sent and that the exchanges haven't said yet.
+    fn ahead(&self) -> &[u8]
+        ensures { result.now ≡ drop self.now.settled self.now.sent }
     {
-        self.sent.len() < self.said.len()
+        let start = self.settled.min(self.sent.len());
+        let (_, ahead) = self.sent.as_slice().split_at(start);
+        ahead
+    }
+
+    // Whether the first `count` of them are those that are owed.
+    fn is_paid(&self, count: usize) -> bool
+        requires ahead { count ≤ length (drop self.now.settled self.now.sent) }
+        requires owed { count ≤ length self.now.machine.owed }
+        ensures { let s = self.now in
+            Decides result (take count (drop s.settled s.sent) ≡ take count s.machine.owed) }
+    {
+        let (sent, _) = self.ahead().split_at(count);
+        let (owed, _) = self.machine.owed.as_slice().split_at(count);
+        are_same(sent, owed)
+    }
+
+    // Bytes that are owed were sent, where there are any. Returns how many.
+    fn settle(&mut self) -> usize
+        requires { self.old.settled ≤ length self.old.sent }
+        ensures { Settles self.old result self.new }
+    {
+        let ahead = self.sent.len() - self.settled;
+        let count = ahead.min(self.machine.owed.len());
+        let right = self.is_paid(count);
+        self.right &= right;
+        self.settled += count;
+        self.machine.sent(count);
+        count
+    }
+
+    /// Where the call stops, over the bytes that were sent and received.
+    pub fn course(&mut self, alloc: Global, login: &Login, call: &Call) -> Result<Stop, NoMemory>
+        requires { IsSomewhere login.now self.old }
+        ensures { IfOk result (λ stop. CourseIs login.now call.now self.old stop self.new) }
+    {
+        let mut progress = Progress::first();
+        'owed: loop {
+            match progress.run(alloc, login, call, &mut self.machine)? {
+                Stop::Owes => {
+                    if self.settle() == 0 {
+                        return Ok(Stop::Owes);
+                    }
+                }
+                Stop::Awaits => return Ok(Stop::Awaits),
+                Stop::Returns(ending) => return Ok(Stop::Returns(ending)),
+            }
+        }
+    }
+
+    /// Whether what was sent is a beginning of what the client says.
+    pub fn is_sent_right(&self) -> bool
+        ensures { let s = self.now in
+            result ≡ s.right && begins_with s.machine.owed (drop s.settled s.sent) }
+    {
+        self.right && self.machine.owed.as_slice().starts_with(self.ahead())
     }
 }

@@ -5,9 +5,8 @@ use Rattle.my_reading.specs.Place.{Place}
 use Rattle.my_script.specs.declared.transcript.Outcome.{Outcome}
 use Rattle.my_run_judge.specs.Seen.{TapeSeen}
 use Rattle.my_script.specs.declared.transcript.Use.{Use}
-use Rattle.my_judge.specs.Stands.{IsAt}
 use Rattle.my_run_judge.specs.declared.walk.Walker.{Walker}
-use Rattle.my_run_judge.specs.Does.{Does, Done, IsSomewhere, walk_of}
+use Rattle.my_run_judge.specs.Does.{Does, Done, IsSomewhere, StandsAt, walk_of}
 use Rattle.my_run_judge.specs.Lines.{ArePolled, LastPoll, RowPoll, after_last_poll, after_polls, after_row_poll}
 use Rattle.my_run_judge.specs.Walks.{Walk}
 use Rattle.my_run_judge.proofs.Doing.{done_as, not_right, wrong}
@@ -19,13 +18,13 @@ module _ (login : Login) (n : ℕ) (t : TapeSeen) (outcome : Outcome) (first : �
   -- What these polls come to from here is what all come to from the first place.
   pub record PolledSo (w : Walk) (us : List Use) (c : Walker) (vs : List Use) : Type 0 where
     pub place : Place
-    pub at : IsAt login place c.reader.stand
+    pub at : StandsAt login place c.reader
     pub rest : (right : Bool) (new : Walker) → PollsDone vs (walk_of place c) right new → PollsDone us w right new
 
   -- so it is from each place where the program may be first
   pub record PollsSo (b : Walker) (us : List Use) (c : Walker) (vs : List Use) : Type 0 where
     pub somewhere : IsSomewhere login c
-    pub from : (p : Place) → IsAt login p b.reader.stand → PolledSo (walk_of p b) us c vs
+    pub from : (p : Place) → StandsAt login p b.reader → PolledSo (walk_of p b) us c vs
 
   pub first_so : (b : Walker) (us : List Use) → IsSomewhere login b → PollsSo b us b us
   first_so b us s = record { somewhere = s; from = λ p at. record { place = p; at = at; rest = λ right new d. d } }

@@ -7,11 +7,10 @@ use Rattle.my_script.specs.declared.transcript.StepAnswer.{StepAnswer}
 use Rattle.my_run_judge.specs.declared.made.Made.{Made}
 use Rattle.my_run_judge.specs.Made.{made_by, nothing_made}
 use Rattle.my_run_judge.specs.Seen.{TapeSeen}
-use Rattle.my_judge.specs.Stands.{IsAt}
 use Rattle.my_run_judge.specs.declared.judging.Found.{Found}
 use Rattle.my_run_judge.specs.declared.judging.Found.TheVariants.{Right, Wrong}
 use Rattle.my_run_judge.specs.declared.walk.Walker.{Walker}
-use Rattle.my_run_judge.specs.Does.{Done, IsOverAt, IsSomewhere, IsStart, walk_of}
+use Rattle.my_run_judge.specs.Does.{Done, IsOverAt, IsSomewhere, IsStart, StandsAt, walk_of}
 use Rattle.my_run_judge.specs.Lines.{LineRight, after_line}
 use Rattle.my_run_judge.specs.Verdicts.{EndsAs, IsFound, IsFoundFrom}
 use Rattle.my_run_judge.specs.Walks.{Walk}
@@ -21,7 +20,7 @@ use Rattle.my_run_judge.proofs.Doing.{not_right}
 pub record Judged (login : Login) (n : ℕ) (t : TapeSeen) (steps : List Step) (answers : List StepAnswer) (index : ℕ) (made : Made)
     (c : Walker) (ss : List Step) (bs : List StepAnswer) : Type 0 where
   pub place : Place
-  pub at : IsAt login place c.reader.stand
+  pub at : StandsAt login place c.reader
   pub rest : (v : Found) → IsFoundFrom login n t index made (walk_of place c) ss bs v → IsFound login n t steps answers v
   pub all : index + length ss ≡ length steps
 

@@ -9,9 +9,8 @@ use Rattle.my_run_judge.specs.Made.{nothing_made}
 use Rattle.my_run_judge.specs.Seen.{TapeSeen}
 use Rattle.my_run_judge.specs.declared.judging.Found.{Found}
 use Rattle.my_run_judge.specs.declared.judging.Found.TheVariants.{Right, Wrong}
-use Rattle.my_judge.specs.Stands.{IsAt}
 use Rattle.my_run_judge.specs.declared.walk.Walker.{Walker}
-use Rattle.my_run_judge.specs.Does.{walk_of}
+use Rattle.my_run_judge.specs.Does.{StandsAt, walk_of}
 use Rattle.my_run_judge.specs.Lines.{AreLines, FirstWrong}
 use Rattle.my_run_judge.specs.Walks.{Walk, start}
 
@@ -26,5 +25,5 @@ IsFound login n t steps answers found = IsFoundFrom login n t 0 nothing_made (st
 
 -- so it is found at the end, from each place where the program may be
 abbrev pub EndsAs : Login → ℕ → TapeSeen → ℕ → Made → List StepAnswer → Walker → Found → Type 0
-EndsAs login n t index m others c found = (p : Place) → IsAt login p c.reader.stand
+EndsAs login n t index m others c found = (p : Place) → StandsAt login p c.reader
     → IsFoundFrom login n t index m (walk_of p c) [] others found

@@ -11,7 +11,6 @@ ghost use Rattle.my_run_judge.specs.Seen.{seen};
 
 use crate::line::is_dial;
 use crate::made::Made;
-use crate::polling::is_told_by;
 use crate::walk::{Spot, Walker};
 use my_acts::{Act, Status, act_with};
 use my_frame::NoMemory;
@@ -29,6 +28,7 @@ pub enum Found {
     Wrong(usize),
 }
 
+#[tactic(auto, unfolding(crate::specs::Does::StandsAt))]
 fn first_walker(alloc: Global, login: &Login, number: u64) -> Result<Walker, NoMemory>
     ensures { IfOk result (λ walker. IsStart login.now number walker) }
 {
@@ -86,7 +86,7 @@ impl Walker {
         match act {
             Act::Wrong => Ok(false),
             Act::Skips(_) => Ok(true),
-            Act::Tells => Ok(is_told_by(&self.reader.stand.facts, outcome)),
+            Act::Tells => Ok(self.is_told(outcome)),
             Act::Holds => Ok(is_dial(number, false, outcome, uses)),
             Act::Fails => Ok(is_dial(number, true, outcome, uses)),
             Act::Connects(_) => self.connects(alloc, login, number, tape, outcome, uses),
@@ -221,7 +221,7 @@ impl Walker {
 }
 
 /// Whether the lines of a transcript are right at the connection with this number, whose tape is this: each line is one
-/// that may follow the earlier ones, its answer is what the call comes to over the tape's bytes by the reading of
+/// that may follow the earlier ones, its answer is what the call returns over the tape's bytes by the reading of
 /// `my_reading`, and the tape has no other calls and no other bytes. A connection without a link has an empty tape.
 pub fn judge_connection(
     alloc: Global,

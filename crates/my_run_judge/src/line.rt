@@ -21,7 +21,7 @@ ghost use Rattle.my_run_judge.specs.Lines.{
 ghost use Rattle.my_run_judge.specs.Walks.{Walk, ended};
 ghost use Rattle.my_run_judge.specs.Seen.{seen};
 
-use crate::polling::{first_of, is_told_by};
+use crate::polling::first_of;
 use crate::shown::{is_shown_at, is_unanswered};
 use crate::walk::{Walker, call_at};
 use my_frame::NoMemory;
@@ -132,7 +132,7 @@ impl Walker {
         if !self.polls(alloc, login, number, tape, outcome, first, uses)? {
             return Ok(false);
         }
-        Ok(is_told_by(&self.reader.stand.facts, outcome))
+        Ok(self.is_told(outcome))
     }
 
     // The call that passes over a set's rest is polled, and then the one that takes the next set.

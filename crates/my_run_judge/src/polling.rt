@@ -4,7 +4,7 @@ ghost use Rattle.std.specs.Prelude.{◌≡◌, IfOk, Some, false};
 ghost use Rattle.std.specs.Bool.{Decides};
 ghost use Rattle.std.specs.Option.{option_copied};
 ghost use Rattle.my_handshake.specs.Version.{version_of};
-ghost use Rattle.my_run_judge.specs.Does.{Does, IsSomewhere};
+ghost use Rattle.my_run_judge.specs.Does.{Does, IsSomewhere, IsToldAt};
 ghost use Rattle.my_run_judge.specs.Lines.{
   Fits,
   IsBegun,
@@ -97,8 +97,8 @@ fn is_last_ok(facts: &Facts, ok: &Option<OkPacket>) -> bool
     *ok == facts.ok
 }
 
-/// Whether the line shows what the server said.
-pub fn is_told_by(facts: &Facts, outcome: &Outcome) -> bool
+// Whether the line shows what the server said.
+fn is_told_by(facts: &Facts, outcome: &Outcome) -> bool
     ensures { Decides result (IsToldBy facts.now outcome.now) }
 {
     match outcome {
@@ -109,6 +109,13 @@ pub fn is_told_by(facts: &Facts, outcome: &Outcome) -> bool
 }
 
 impl Walker {
+    /// Whether the line shows what the server said by then, where it shows any of it.
+    pub fn is_told(&self, outcome: &Outcome) -> bool
+        ensures { IsToldAt self.now outcome.now result }
+    {
+        is_told_by(self.reader.facts(), outcome)
+    }
+
     // The call in turn ends as the line shows.
     fn end_shown(
         &mut self,

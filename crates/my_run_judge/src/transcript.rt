@@ -161,7 +161,7 @@ fn with_tapes(found: Found, numbered: bool, end: usize) -> Found
 
 /// Whether a transcript of these steps is right, or which line is the first that isn't, with its index from 0: the lines are
 /// right at each number that was dialed (`judge_connection`), steps that name another number are refused, and the tapes are
-/// those of connections that were made, in order. The number of lines means the end, where a tape goes on or is
+/// those of connections that were made, in order. The number of lines means the end, where a tape continues or is
 /// missing. It takes the time of `judge_connection` once for each `conn` and once more.
 pub fn judge_transcript(
     alloc: Global,

@@ -4,14 +4,14 @@ ghost use Rattle.std.specs.Prelude.{◌≡◌, ◌+◌, IfOk, slice_get};
 ghost use Rattle.std.specs.Bool.{Decides};
 ghost use Rattle.std.specs.Option.{option_copied, option_map};
 ghost use Rattle.my_judge.specs.Tapes.{told_of};
-ghost use Rattle.my_run_judge.specs.Does.{Begins, Does, IsReadCall, IsSomewhere, IsTakenAt};
+ghost use Rattle.my_run_judge.specs.Does.{Begins, Does, IsReadCall, IsSentAt, IsSomewhere, IsTakenAt};
 ghost use Rattle.my_run_judge.specs.Walks.{IsEnded, ended, ending_of, sent_end, told_in};
 ghost use Rattle.my_run_judge.specs.Seen.{seen};
 
 use crate::shown::is_begun;
 use my_acts::Status;
 use my_frame::NoMemory;
-use my_grammar::{Login, Spot as Reading};
+use my_grammar::Login;
 use my_judge::{Ending, Reader, between};
 use my_reading::{Answer, Error};
 use my_script::{Step, Tape, TapeCall};
@@ -94,10 +94,14 @@ impl Walker {
     fn is_taken(&self) -> bool
         ensures { IsTakenAt self.now result }
     {
-        let stand = &self.reader.stand;
-        !self.reader.closed
-            && stand.taken
-            && (stand.end_left || stand.context.spot == Reading::Rows)
+        self.reader.is_taken()
+    }
+
+    // How many bytes were sent by then.
+    fn sent_len(&self) -> usize
+        ensures { IsSentAt self.now result }
+    {
+        self.reader.sent_len()
     }
 
     /// Whether the call in turn is the one that the step begins, if it begins one, with the statement that it names.
@@ -108,6 +112,7 @@ impl Walker {
     }
 
     // Reads the call in turn over its bytes.
+    #[tactic(auto, unfolding(crate::specs::Does::StandsAt))]
     fn read_call(
         &mut self,
         alloc: Global,
@@ -145,7 +150,8 @@ impl Walker {
         let Some(call) = tape.calls.get(self.spot.next) else {
             return Ok(false);
         };
-        if call.sent_from as usize != self.reader.stand.sent.len() {
+        let sent = self.sent_len();
+        if call.sent_from as usize != sent {
             return Ok(false);
         }
         let right = self.read_call(alloc, login, tape, cancelled, call)?;

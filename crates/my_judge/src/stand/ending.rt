@@ -4,13 +4,12 @@ ghost use Rattle.std.specs.Prelude.{◌≡◌, ◌⊎◌, Some, true};
 ghost use Rattle.std.specs.Bool.{Decides};
 ghost use Rattle.my_reading.specs.Endings.{awaits_head};
 ghost use Rattle.my_reading.specs.Errors.{io_error, unexpected_eof};
-ghost use Rattle.my_reading.specs.Place.{begins_with};
-ghost use Rattle.my_judge.specs.Ended.{EndsSo, IsCutSo, closes_at, settled_at};
+ghost use Rattle.my_judge.specs.Ended.{EndsSo, IsCutSo, closes_at, ending_of, settled_at};
 
 use super::Stand;
-use crate::step::Stop;
 use crate::tape::Ending;
 use my_grammar::Spot;
+use my_machine::Stop;
 use my_reading::{Answer, CallKind, Error, IoError, IoFault, IoKind};
 use my_statements::Statement;
 use my_statements::laws::equal_statements_are_same;
@@ -37,7 +36,7 @@ fn closes_at(kind: CallKind, spot: Spot) -> bool
     }
 }
 
-// Whether the error is this fault, after so many packets.
+// Whether the error is this fault, after `place` packets.
 fn is_fault(error: &Error, kind: IoKind, place: u64) -> bool
     ensures { Decides result (error.now ≡ io_error kind place) }
 {
@@ -76,20 +75,20 @@ fn is_same_answer(a: &Answer, b: &Answer) -> bool
     }
 }
 
-fn is_same(a: &Ending, b: &Ending) -> bool
-    ensures { Decides result (a.now ≡ b.now) }
+// Whether the call returned this.
+fn is_same(ending: &Ending, told: &my_machine::Ending) -> bool
+    ensures { Decides result (ending.now ≡ ending_of told.now) }
 {
-    match (a, b) {
-        (Ending::Answered(a), Ending::Answered(b)) => is_same_answer(a, b),
-        (Ending::Failed(a), Ending::Failed(b)) => a == b,
-        (Ending::Cancelled(a), Ending::Cancelled(b)) => a == b,
+    match (ending, told) {
+        (Ending::Answered(a), my_machine::Ending::Answered(b)) => is_same_answer(a, b),
+        (Ending::Failed(a), my_machine::Ending::Failed(b)) => a == b,
         _ => false,
     }
 }
 
 // Whether the call ended and returned this.
-fn is_returned(ending: &Option<Ending>, told: &Ending) -> bool
-    ensures { Decides result (ending.now ≡ Some told.now) }
+fn is_returned(ending: &Option<Ending>, told: &my_machine::Ending) -> bool
+    ensures { Decides result (ending.now ≡ Some (ending_of told.now)) }
 {
     match ending {
         Some(ending) => is_same(ending, told),
@@ -100,11 +99,11 @@ fn is_returned(ending: &Option<Ending>, told: &Ending) -> bool
 impl Stand {
     // Whether the link failed so, or ended where bytes are awaited.
     fn is_link_error(&self, awaits: bool, error: &Error) -> bool
-        ensures { let s = self.now in
+        ensures { let s = self.now.machine in
             let ended = (awaits ≡ true) × (error.now ≡ unexpected_eof s.facts.place) in
             Decides result ((error.now ≡ io_error IoKind.Link s.facts.place) ⊎ ended) }
     {
-        let place = self.facts.place;
+        let place = self.machine.facts.place;
         if is_fault(error, IoKind::Link, place) {
             return true;
         }
@@ -118,18 +117,19 @@ impl Stand {
         match ending {
             None => true,
             Some(Ending::Answered(_)) => false,
-            Some(Ending::Cancelled(closing)) => *closing == closes_at(kind, self.context.spot),
+            Some(Ending::Cancelled(closing)) => *closing
+                == closes_at(kind, self.machine.context.spot),
             Some(Ending::Failed(error)) => self.is_link_error(awaits, error),
         }
     }
 
     /// The ending of a call that stops here; cancelling it closes the connection or not.
     pub fn settled(&self, kind: CallKind, ending: Option<Ending>) -> Option<Ending>
-        ensures { result ≡ settled_at kind self.now.context.spot ending }
+        ensures { result ≡ settled_at kind self.now.machine.context.spot ending }
     {
         match ending {
             Some(Ending::Cancelled(_)) => {
-                Some(Ending::Cancelled(closes_at(kind, self.context.spot)))
+                Some(Ending::Cancelled(closes_at(kind, self.machine.context.spot)))
             }
             ended => ended,
         }
@@ -144,12 +144,5 @@ impl Stand {
             Stop::Awaits => self.is_cut(kind, true, ending),
             Stop::Returns(told) => is_returned(ending, told),
         }
-    }
-
-    /// Whether what was sent is a beginning of what the client says.
-    pub fn is_sent_right(&self) -> bool
-        ensures { result ≡ begins_with self.now.said self.now.sent }
-    {
-        self.said.as_slice().starts_with(self.sent.as_slice())
     }
 }

@@ -1,7 +1,7 @@
 use Rattle.std.proofs.Common.{◌≡◌, length, arith, ap, sym, ◌∙◌}
 use Rattle.std.proofs.lemmas.List.{nil_from_length}
 use Rattle.my_judge.specs.Tapes.{tape_of}
-use Rattle.my_judge.proofs.Judged.{at_first, texts_known, goes_on, refutes, refutes_first, refutes_next, refutes_place, accepts}
+use Rattle.my_judge.proofs.Judged.{at_first, somewhere, goes_on, refutes, refutes_first, refutes_next, refutes_place, accepts}
 use Rattle.my_judge.proofs.judging.judge_calls.Goals as goal
 
 pub returns-then-not-begins_first : goal.returns-then-not-begins_first
@@ -18,7 +18,7 @@ returns-then-not-is_within c = record {
 }
 
 pub take_call-requires : goal.take_call-requires
-take_call-requires c = texts_known c.args.login.now c.args.tape.now c.calls.index c.calls.left.now c.calls.reader c.calls.invariant
+take_call-requires c = somewhere c.args.login.now c.args.tape.now c.calls.index c.calls.left.now c.calls.reader c.calls.invariant
 
 pub returns-then-not-branch : goal.returns-then-not-branch
 returns-then-not-branch c = record {

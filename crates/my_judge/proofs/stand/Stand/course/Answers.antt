@@ -1,35 +1,29 @@
-use Rattle.std.proofs.Common.{◌≡◌, ◌-◌, [], ◌∷◌, ◌++◌, length, take, drop, map, ap, ◌∙◌, arith}
-use Rattle.std.proofs.lemmas.List.{drop_at, take_at}
-use Rattle.my_judge.specs.declared.part.Part.TheVariants as parts
-use Rattle.my_judge.specs.Parts.{part_of}
-use Rattle.my_judge.proofs.Coursing.{begins, stays, passes, reverts, halts, none}
+use Rattle.std.proofs.Common.{ap, ◌∙◌, arith}
+use Rattle.my_reading.specs.Course.{parts_of}
+use Rattle.my_machine.specs.Runs.{parts_left}
+use Rattle.my_judge.proofs.Coursing.{all_left, awaits, begins, continues, machine_somewhere, returns, stays, still_within}
 use Rattle.my_judge.proofs.stand.Stand.course.Goals as goal
 
-pub steps-init : goal.steps-init
-steps-init c =
-    let items = c.in_ok-parts.parts.items in
-    let count : length items ≡ c.len-count.result = omega arith in
-    let all : c.deref.result.now ≡ items ++ parts.Undo ∷ parts.Back ∷ [] = c.deref.ensures.value ∙ c.in_ok-add_reverting.ensures in
-    let first : c.split_at.result.0.now ≡ items = c.split_at.ensures.front ∙ ap (take c.len-count.result) all ∙ take_at items (parts.Undo ∷ parts.Back ∷ []) c.len-count.result count in
-    begins c.args.login.now c.args.call.now c.args.self.now c.split_at.result.0.now _ (ap (map part_of) first ∙ c.in_ok-parts.ensures) (omega (arith, ap length first))
+pub owed-init : goal.owed-init
+owed-init c =
+    let login = c.args.login.now in
+    let call = c.args.call.now in
+    begins login call c.args.self.now c.first-progress.result (ap (parts_left login call) c.first-progress.ensures ∙ all_left (parts_of login call)) c.requires
 
-pub steps-preserved-in-Stays : goal.steps-preserved-in-Stays
-steps-preserved-in-Stays c = stays c.args.login.now c.args.call.now c.args.self.now c.steps.self c.step.new.self c.steps.most (c.steps.most - 1) c.steps.left.now (omega arith) c.steps.invariant (rw c.in-Stays.is at c.in_ok-step.ensures)
+pub run-requires : goal.run-requires
+run-requires c = machine_somewhere c.args.login.now c.args.call.now c.args.self.now c.owed.self c.owed.progress c.owed.invariant
 
-pub steps-preserved-in-Passes : goal.steps-preserved-in-Passes
-steps-preserved-in-Passes c = rw c.after_first-left.ensures (passes c.args.login.now c.args.call.now c.args.self.now c.steps.self c.step.new.self c.steps.most (c.steps.most - 1) c.steps.left.now (omega arith) c.steps.invariant (rw c.in-Passes.is at c.in_ok-step.ensures))
+pub settle-requires : goal.settle-requires
+settle-requires c = still_within c.args.login.now c.args.call.now c.args.self.now c.owed.self c.owed.progress c.run.new.self c.in_ok-run.field-0 c.run.new.stand c.owed.invariant c.in_ok-run.ensures c.in-Owes.is
 
-pub steps-preserved : goal.steps-preserved
-steps-preserved c =
-    let items = c.in_ok-parts.parts.items in
-    let count : length items ≡ c.len-count.result = omega arith in
-    let all : c.deref.result.now ≡ items ++ parts.Undo ∷ parts.Back ∷ [] = c.deref.ensures.value ∙ c.in_ok-add_reverting.ensures in
-    let back : c.split_at.result.1.now ≡ parts.Undo ∷ parts.Back ∷ [] = c.split_at.ensures.back ∙ ap (drop c.len-count.result) all ∙ drop_at items (parts.Undo ∷ parts.Back ∷ []) c.len-count.result count in
-    reverts c.args.login.now c.args.call.now c.args.self.now c.steps.self c.step.new.self c.steps.most (c.steps.most - 1) c.steps.left.now (omega arith) c.steps.invariant c.split_at.result.1.now (ap (map part_of) back)
-    (rw c.in-Reverts.is at c.in_ok-step.ensures)
+pub returns-then-settle-eq0 : goal.returns-then-settle-eq0
+returns-then-settle-eq0 c = stays c.args.login.now c.args.call.now c.args.self.now c.owed.self c.owed.progress c.run.new.self c.in_ok-run.field-0 c.run.new.stand c.owed.invariant c.in_ok-run.ensures c.in-Owes.is c.settle.result c.settle.new.self c.settle.ensures (omega arith)
 
-pub returns-in-Stops : goal.returns-in-Stops
-returns-in-Stops c = halts c.args.login.now c.args.call.now c.args.self.now c.steps.self c.step.new.self c.steps.most (c.steps.most - 1) c.steps.left.now (omega arith) c.steps.invariant c.in-Stops.stop (rw c.in-Stops.is at c.in_ok-step.ensures)
+pub owed-preserved : goal.owed-preserved
+owed-preserved c = continues c.args.login.now c.args.call.now c.args.self.now c.owed.self c.owed.progress c.run.new.self c.in_ok-run.field-0 c.run.new.stand c.owed.invariant c.in_ok-run.ensures c.in-Owes.is c.settle.result c.settle.new.self c.settle.ensures
 
-pub returns : goal.returns
-returns c = none c.args.login.now c.args.call.now c.args.self.now c.steps.self c.steps.most c.steps.left.now (omega arith) c.steps.invariant
+pub returns-in-Awaits : goal.returns-in-Awaits
+returns-in-Awaits c = awaits c.args.login.now c.args.call.now c.args.self.now c.owed.self c.owed.progress c.run.new.self c.in_ok-run.field-0 c.run.new.stand c.owed.invariant c.in_ok-run.ensures c.in-Awaits.is
+
+pub returns-in-Returns : goal.returns-in-Returns
+returns-in-Returns c = returns c.args.login.now c.args.call.now c.args.self.now c.owed.self c.owed.progress c.run.new.self c.in_ok-run.field-0 c.run.new.stand c.owed.invariant c.in_ok-run.ensures c.in-Returns.ending c.in-Returns.is

@@ -1,7 +1,0 @@
-pub mod Resending
-pub mod Settling
-pub mod Coursing
-pub mod Ends
-pub mod Sames
-pub mod Judged
-pub mod Verdicts
