@@ -150,7 +150,7 @@ headline look login plans before world later steps ss given tapes u e f d m = re
   explained = u.explained;
   tapes_are = e ∙ all_same look tape_at world.plans.dials 0 ss (tape_same look) ∙ ap (tapes_in 0) u.handles_are;
   ended = f ∙ ap (λ ls. with_links ls world.back) (all_same look links_at world.plans.dials 0 ss (link_same look) ∙ ap (links_in 0) u.handles_are)
-    ∙ ap (with_links (links_in 0 (handles_after u.lines))) u.kept;
+      ∙ ap (with_links (links_in 0 (handles_after u.lines))) u.kept;
 }
 
 -- what holds of an answer that is there

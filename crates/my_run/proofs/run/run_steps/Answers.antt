@@ -7,6 +7,6 @@ pub returns-in-Ok-Ok : goal.returns-in-Ok-Ok
 returns-in-Ok-Ok g c =
     let ended = c.tapes_of-tapes.ensures in
     λ plans same. headline g.N.L.Link.looks (login_of c.args.opts.now) plans (course_of (g.N.Dialer.seen c.args.world.now)) (g.N.Dialer.seen c.run_each-ran.new.world) (g.N.Dialer.seen c.tapes_of-tapes.new.world) c.args.steps.now c.run_each-ran.new.slots.items c.run_each-ran.new.answers.items c.in-Ok-Ok.tapes.items
-        (on_at c.run_each-ran.result c.in-Ok-Ok.field-0-0 _ c.in-Ok-Ok.is-0 c.run_each-ran.ensures plans same)
-        (if_at c.tapes_of-tapes.result c.in-Ok-Ok.tapes _ c.in-Ok-Ok.is-1 ended.tapes)
-        (on_at c.tapes_of-tapes.result c.in-Ok-Ok.tapes _ c.in-Ok-Ok.is-1 ended.back) ended.dials ended.chance
+    (on_at c.run_each-ran.result c.in-Ok-Ok.field-0-0 _ c.in-Ok-Ok.is-0 c.run_each-ran.ensures plans same)
+    (if_at c.tapes_of-tapes.result c.in-Ok-Ok.tapes _ c.in-Ok-Ok.is-1 ended.tapes)
+    (on_at c.tapes_of-tapes.result c.in-Ok-Ok.tapes _ c.in-Ok-Ok.is-1 ended.back) ended.dials ended.chance
