@@ -13,6 +13,7 @@ use Rattle.my_pool_core.specs.Steps.{may, step, answer}
 use Rattle.my_pool_store.specs.Noted.{IsNoted}
 use Rattle.my_pool_store.specs.Shelves.{Entry, kept_at, without_number}
 use Rattle.my_pool_store.specs.Woken.{waiting}
+use Rattle.my_opts.specs.Opts.{OptsView}
 use Rattle.my_conn.specs.Conn.{ConnSeen}
 use Rattle.my_pool.specs.Fit.{IsFit, IsStill, MayWork}
 
@@ -21,13 +22,14 @@ abbrev pub ConnEntry : Type 0 → Type 0
 ConnEntry L = Entry (ConnSeen L)
 
 -- the core's state; the kept connections; the ages of the requests whose wakers are kept; the events so far, where the
--- journal keeps them; and the state of the new pool
+-- journal keeps them; the state of the new pool; and the options of its connections
 pub record Pool (L : Type 0) : Type 0 where
   pub state : State
   pub kept : List (ConnEntry L)
   pub ages : List ℕ
   pub told : Option (List PoolEvent)
   pub start : State
+  pub opts : OptsView
 
 -- One event of the core, with this answer, and nothing else of it.
 pub record Made {L : Type 0} (e : PoolEvent) (a : Answer) (p q : Pool L) : Type 0 where
@@ -36,6 +38,7 @@ pub record Made {L : Type 0} (e : PoolEvent) (a : Answer) (p q : Pool L) : Type 
   pub answered : a ≡ answer p.state e
   pub noted : IsNoted p.told e q.told
   pub start : q.start ≡ p.start
+  pub opts : q.opts ≡ p.opts
 
 -- Who no longer waits was called, and nobody else: the wakers of those that wait still are kept.
 abbrev pub IsCalled : {L : Type 0} → Pool L → Pool L → Type 0
@@ -47,6 +50,7 @@ pub record Same {L : Type 0} (p q : Pool L) : Type 0 where
   pub told : q.told ≡ p.told
   pub ages : q.ages ≡ p.ages
   pub start : q.start ≡ p.start
+  pub opts : q.opts ≡ p.opts
 
 -- the connection in hand is being cleaned, and isn't kept
 pub record IsCleaned {L : Type 0} (n : ℕ) (p : Pool L) : Type 0 where

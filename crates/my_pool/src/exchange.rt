@@ -39,6 +39,7 @@ impl<L, J: Journal, W: Wake> Model for Exchange<L, J, W> {
       ages = e.wakers.ages;
       told = J.told e.journal;
       start = new_pool (limits_of e.opts.pool_opts) e.first;
+      opts = e.opts;
     } };
 
     ghost invariant = { λ e. IsWhole (new_pool (limits_of e.opts.pool_opts) e.first) e.core e.shelf e.wakers
@@ -65,6 +66,7 @@ impl<L: Drop, J: Journal, W: Wake> Exchange<L, J, W> {
         ensures kept { IfOk result (λ e. e.kept ≡ []) }
         ensures ages { IfOk result (λ e. e.ages ≡ []) }
         ensures told { IfOk result (λ e. e.told ≡ J.told journal) }
+        ensures opts { IfOk result (λ e. e.opts ≡ opts) }
     {
         match Core::new(alloc, opts.pool_opts(), first) {
             Ok(core) => Ok(Exchange {
@@ -81,5 +83,30 @@ impl<L: Drop, J: Journal, W: Wake> Exchange<L, J, W> {
                 Err(error)
             }
         }
+    }
+}
+
+impl<L, J: Journal, W: Wake> Exchange<L, J, W> {
+    ghost use Rattle.std.specs.Prelude.{◌≡◌};
+
+    /// The options of its connections, and its own among them.
+    pub fn opts(&self) -> &Opts
+        ensures { result.now ≡ self.now.opts }
+    {
+        &self.opts
+    }
+
+    /// Its core: where connections and requests are.
+    pub fn core(&self) -> &Core
+        ensures { result.now ≡ self.now.state }
+    {
+        &self.core
+    }
+
+    /// Its journal.
+    pub fn journal(&self) -> &J
+        ensures { J.told result.now ≡ self.now.told }
+    {
+        &self.journal
     }
 }

@@ -1,6 +1,10 @@
 //! A connection that a pool has handed out to be worked on.
 
+use my_client::After;
 use my_conn::Conn;
+use my_link::{Link, Met};
+use my_reading::{Call, CallKind};
+use std::alloc::Global;
 use std::marker::Model;
 
 /// A connection with its number, in a caller's hand. It can't be dropped: it ends by a call of the pool.
@@ -33,5 +37,26 @@ impl<L> Out<L> {
         ensures { result.now ≡ self.now.conn }
     {
         &self.conn
+    }
+}
+
+impl<L: Link> Out<L> {
+    ghost use Rattle.std.specs.Prelude.{◌≡◌};
+    ghost use Rattle.my_line.specs.Calls.{MayPoll};
+    ghost use Rattle.my_conn.specs.Calls.{CallIs};
+
+    /// Polls a call of the connection once, as `Conn::poll_call` does.
+    pub fn poll_call(
+        &mut self,
+        alloc: Global,
+        kind: CallKind,
+        call: Option<Call>,
+        now: u64,
+    ) -> (After, Met)
+        requires { MayPoll kind call self.old.conn.pending }
+        ensures call { CallIs L.looks now kind call self.old.conn self.new.conn result.1 result.0 }
+        ensures number { self.new.number ≡ self.old.number }
+    {
+        self.conn.poll_call(alloc, kind, call, now)
     }
 }

@@ -1,13 +1,26 @@
-//! Rows over my_pool_core and my_pool_parts: a row is an event of a pool, or of a heap, with what it returns (`rows.rt` says how it
-//! reads). Beside them many events from a seed, after each of which the pool is looked at whole. This crate has tests alone.
+//! Rows over my_pool_core, my_pool_parts and my_pool: a row is an event of a pool, of a heap, or of an exchange over links in
+//! memory, with what it returns (`rows.rt` and `exchanges.rt` say how it reads). Beside them many events from a seed, after each
+//! of which the pool is looked at whole. This crate has tests alone.
 #![tactic(auto)]
 
 #[cfg(test)]
+mod asked;
+#[cfg(test)]
+mod bell;
+#[cfg(test)]
 mod dice;
+#[cfg(test)]
+mod exchange;
+#[cfg(test)]
+mod exchanges;
 #[cfg(test)]
 mod heap;
 #[cfg(test)]
+mod links;
+#[cfg(test)]
 mod play;
+#[cfg(test)]
+mod queries;
 #[cfg(test)]
 mod rows;
 #[cfg(test)]

@@ -102,8 +102,8 @@ fn counts(core: &Core, want: &str) -> bool {
     is_wanted(want, "counts", &numbers, 0)
 }
 
-// Whether a pool looks so.
-fn looks(core: &Core, given: &str, want: &str) -> bool {
+/// Whether a pool looks so.
+pub fn looks(core: &Core, given: &str, want: &str) -> bool {
     let [number, ..] = numbers_of(given);
     match given.split_once(' ') {
         Some(("request", _)) => match core.live_request(number) {

@@ -164,8 +164,8 @@ fn is_same(alloc: Global, core: &Core, other: &Core) -> Result<bool, NoMemory> {
     )
 }
 
-// Whether a replay of events is a pool; None where it is refused.
-fn replayed(
+/// Whether a replay of events is a pool; None where it is refused.
+pub fn replayed(
     alloc: Global,
     core: &Core,
     opts: &PoolOpts,
