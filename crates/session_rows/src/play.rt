@@ -1,165 +1,240 @@
 //! Plays the rows.
 
-use crate::rows::{ENDS, TALK};
-use my_frame::{Blob, NoMemory};
-use my_opts::Opts;
-use my_opts_parts::TxOpts;
-use my_reading::{Answer, Call};
+use crate::calls::call_of;
+use crate::given::{Head, Then, bytes_of, head_of, login, options};
+use crate::peer::Peer;
+use crate::said::{answered, failed};
+use my_frame::NoMemory;
+use my_reading::Call;
 use my_session::SessionStep;
-use my_thin_session::Session;
-use std::alloc::Global;
-use std::test::Fail;
+use my_statements::Statement;
+use std::alloc::{AllocError, Global};
+use std::fmt::Write;
 
-const URL: &str = "mysql://root@localhost?max_allowed_packet=4194304&wait_timeout=28800";
-
-fn field(row: &str, number: usize) -> &str {
-    row.split('|').nth(number).unwrap_or("").trim()
-}
-
-// The call of a word with its text.
-fn call_of(alloc: Global, word: &str, text: &str) -> Result<Call, NoMemory> {
-    Ok(match word {
-        "connect" => Call::Connect,
-        "query" => Call::Query(Blob::from_slice(alloc, text.as_bytes())?),
-        "prepare" => Call::Prepare(Blob::from_slice(alloc, text.as_bytes())?),
-        "next" => Call::NextRow,
-        "take" => Call::TakeSet,
-        "skip" => Call::SkipTaken,
-        "drop" => Call::DropResult,
-        "begin" => Call::Begin(TxOpts::new()),
-        "commit" => Call::Commit,
-        "rollback" => Call::Rollback,
-        "forget" => Call::ForgetTransaction,
-        "reset" => Call::Reset,
-        "clean" => Call::CleanForPool,
-        "renew" => Call::ResetForPool,
-        "quit" => Call::Quit,
-        _ => Call::Ping,
-    })
-}
-
-fn answered(answer: Answer) -> &'static str {
-    let word = match &answer {
-        Answer::Ready => "ready",
-        Answer::Row(_) => "row",
-        Answer::SetEnd => "end",
-        Answer::NoSet => "none",
-        Answer::Stmt(_) => "stmt",
-        Answer::Flag(_) => "flag",
-    };
-    drop(answer);
-    word
-}
-
-// The bytes of a row are received; `end` is the link's end.
-fn receive(alloc: Global, session: &mut Session, digits: &str) -> Result<(), NoMemory> {
-    if digits == "end" {
-        session.end();
-        return Ok(());
-    }
-    match hex::decode(alloc, digits) {
-        Ok(bytes) => session.take(bytes.as_slice()),
-        Err(_) => Ok(()),
-    }
-}
-
-// Steps the open call until it ends, or awaits bytes that no row has.
-fn stepped(
+// Steps the open call until it is answered or waits in vain. Where bytes are awaited, the next part is received.
+fn carried<P: Peer>(
     alloc: Global,
-    session: &mut Session,
-    said: &mut String,
-    digits: &str,
+    peer: &mut P,
+    parts: &[&[u8]],
+    then: Then,
+    text: &mut String,
+    last: &mut Option<Statement>,
 ) -> Result<(), NoMemory> {
-    let mut left = digits != "-";
-    for _ in 0..20u8 {
-        let word = match session.step(alloc, 0) {
-            SessionStep::Send => {
-                let count = session.owed().len();
-                session.sent(count);
-                "send "
+    let mut given = 0usize;
+    for _ in 0..100u8 {
+        match peer.steps(alloc, 5) {
+            None => return Ok(text.push_str("no call")?),
+            Some(SessionStep::Send) => {
+                peer.sends(text)?;
+                text.push(' ')?;
             }
-            SessionStep::Need => {
-                if !left {
-                    said.push_str("need")?;
-                    return Ok(());
+            Some(SessionStep::Need) => match parts.get(given) {
+                Some(bytes) => {
+                    peer.receives(bytes)?;
+                    given = given.saturating_add(1);
                 }
-                receive(alloc, session, digits)?;
-                left = false;
-                ""
-            }
-            SessionStep::Done(answer) => {
-                said.push_str(answered(answer))?;
-                return Ok(());
-            }
-            SessionStep::Fault(error) => {
-                drop(error);
-                said.push_str("fault")?;
-                return Ok(());
-            }
-        };
-        said.push_str(word)?;
+                None => {
+                    if !peer.stops(then) {
+                        return Ok(text.push_str("waits")?);
+                    }
+                }
+            },
+            Some(SessionStep::Done(answer)) => return Ok(answered(text, answer, last)?),
+            Some(SessionStep::Fault(error)) => return Ok(failed(text, error)?),
+        }
     }
     Ok(())
 }
 
-// The call begins and is stepped where none is open; else the open one is cancelled.
-fn called(
+/// Begins a call and steps it, and adds what was sent, and the answer. These parts are received meanwhile, each where bytes are
+/// awaited.
+pub fn played<P: Peer>(
     alloc: Global,
-    session: &mut Session,
-    said: &mut String,
+    peer: &mut P,
     call: Call,
-    digits: &str,
+    parts: &[&[u8]],
+    then: Then,
+    text: &mut String,
+    last: &mut Option<Statement>,
 ) -> Result<(), NoMemory> {
-    if session.is_open() {
-        drop(call);
-        session.cancel();
-        return Ok(said.push_str("gone")?);
-    }
-    match session.begin(call) {
-        Ok(()) => stepped(alloc, session, said, digits),
-        Err(error) => {
-            drop(error);
-            Ok(said.push_str("refused")?)
-        }
+    match peer.begins(call) {
+        Ok(true) => carried(alloc, peer, parts, then, text, last),
+        Ok(false) => Ok(text.push_str("not begun")?),
+        Err(error) => Ok(failed(text, error)?),
     }
 }
 
-// The steps of a row.
-fn played(alloc: Global, session: &mut Session, row: &str) -> Result<String, NoMemory> {
-    let mut said = String::new(alloc);
-    let given = field(row, 0);
-    let (word, text) = given.split_once(' ').unwrap_or((given, ""));
-    let call = call_of(alloc, word, text)?;
-    called(alloc, session, &mut said, call, field(row, 1))?;
-    Ok(said)
+/// Connects a session as its head says, and adds what was sent, and the answer.
+pub fn connected<P: Peer>(
+    alloc: Global,
+    peer: &mut P,
+    head: &Head,
+    text: &mut String,
+) -> Result<(), NoMemory> {
+    let bytes = login(alloc, head)?;
+    let mut last = None;
+    let parts = [bytes.as_slice()];
+    let played = played(
+        alloc,
+        peer,
+        Call::Connect,
+        &parts,
+        head.then,
+        text,
+        &mut last,
+    );
+    drop(last);
+    played
 }
 
-// The first row that is otherwise, with its steps; nothing where there is none.
-fn fault_in(alloc: Global, rows: &str) -> Result<String, NoMemory> {
-    let opts = match Opts::from_url(alloc, URL) {
-        Ok(opts) => opts,
-        Err(_) => return Ok(String::from_str(alloc, "no options")?),
+fn show_settings<P: Peer>(peer: &P, text: &mut String) -> Result<(), AllocError> {
+    let (limit, wait) = peer.settings();
+    write!(text, "{limit} {wait}")
+}
+
+// How many columns are known of the last statement.
+fn show_columns<P: Peer>(
+    peer: &P,
+    text: &mut String,
+    last: &Option<Statement>,
+) -> Result<(), AllocError> {
+    let known = match last {
+        Some(statement) => peer.columns(statement),
+        None => None,
     };
-    let mut session = Session::new(alloc, opts, false, None)?;
-    for row in rows.lines() {
-        let said = played(alloc, &mut session, row)?;
-        if said.as_str() != field(row, 2) {
-            drop(session);
-            return Ok(format!(in alloc; "{row}: {said}")?);
+    match known {
+        Some(count) => write!(text, "{count}"),
+        None => text.push_str("none"),
+    }
+}
+
+// A call with its bytes, of which so many come first.
+fn shown_call<P: Peer>(
+    alloc: Global,
+    peer: &mut P,
+    call: &str,
+    bytes: &str,
+    first: usize,
+    then: Then,
+    text: &mut String,
+    last: &mut Option<Statement>,
+) -> Result<(), NoMemory> {
+    let bytes = bytes_of(alloc, bytes)?;
+    let (head, rest) = bytes.as_slice().split_at(first.min(bytes.len()));
+    let call = call_of(alloc, call, last)?;
+    played(alloc, peer, call, &[head, rest], then, text, last)
+}
+
+// What a row shows. The bytes of a call after `~` are cut at this place.
+fn shown<P: Peer>(
+    alloc: Global,
+    peer: &mut P,
+    call: &str,
+    bytes: &str,
+    place: usize,
+    then: Then,
+    last: &mut Option<Statement>,
+) -> Result<String, NoMemory> {
+    let mut text = String::new(alloc);
+    match call.strip_prefix('~') {
+        Some(call) => shown_call(alloc, peer, call, bytes, place, then, &mut text, last)?,
+        None => match call {
+            "settings" => show_settings(peer, &mut text)?,
+            "columns" => show_columns(peer, &mut text, last)?,
+            "opts" => text.push_str(peer.user().unwrap_or("none"))?,
+            _ => shown_call(alloc, peer, call, bytes, usize::MAX, then, &mut text, last)?,
+        },
+    }
+    Ok(text)
+}
+
+// The call of a row, its bytes, and what it shows.
+fn parts_of(row: &str) -> (&str, &str, &str) {
+    let (call, rest) = row.split_once('|').unwrap_or((row, "|"));
+    let (bytes, want) = rest.split_once('|').unwrap_or((rest, ""));
+    (call, bytes, want)
+}
+
+// The first row that shows something else, with that; nothing where there is none.
+fn fault_of_calls<P: Peer>(
+    alloc: Global,
+    peer: &mut P,
+    talk: &str,
+    place: usize,
+    then: Then,
+    last: &mut Option<Statement>,
+) -> Result<String, NoMemory> {
+    for row in talk.lines() {
+        if row.starts_with('#') || row.starts_with('@') || row.starts_with('+') {
+            continue;
+        }
+        let (call, bytes, want) = parts_of(row);
+        let text = shown(alloc, peer, call, bytes, place, then, last)?;
+        if text.as_str() != want {
+            return Ok(format!(in alloc; "{row}\n{text}")?);
         }
     }
-    drop(session);
     Ok(String::new(alloc))
 }
 
-#[test]
-fn ample_talks(rt: HostRuntime) -> Result<(), Fail> {
-    let fault = fault_in(rt.alloc(), TALK)?;
-    assert!(rt; fault.is_empty(), "{fault}");
-    let fault = fault_in(rt.alloc(), ENDS)?;
-    assert!(rt; fault.is_empty(), "{fault}");
-    let rows = TALK.lines().count() + ENDS.lines().count();
-    println!(rt; "{rows} rows of talks")?;
-    assert!(rt; rows == 32);
-    Ok(())
+// The same of a new session, which connects first where the head says so.
+fn fault_of_peer<P: Peer>(
+    alloc: Global,
+    peer: &mut P,
+    head: &Head,
+    talk: &str,
+    place: usize,
+) -> Result<String, NoMemory> {
+    let mut text = String::new(alloc);
+    if head.connects {
+        connected(alloc, peer, head, &mut text)?;
+        if !text.ends_with(" ok") {
+            return Ok(text);
+        }
+    }
+    let mut last = None;
+    let fault = fault_of_calls(alloc, peer, talk, place, head.then, &mut last);
+    drop(last);
+    fault
+}
+
+// The head of a talk.
+fn head_line(talk: &str) -> &str {
+    for line in talk.lines() {
+        if !line.starts_with('#') {
+            return line;
+        }
+    }
+    ""
+}
+
+fn fault_at<P: Peer>(alloc: Global, talk: &str, place: usize) -> Result<String, NoMemory> {
+    let head = head_of(head_line(talk));
+    let mut peer = P::made(alloc, options(alloc, &head)?)?;
+    let fault = fault_of_peer(alloc, &mut peer, &head, talk, place);
+    drop(peer);
+    fault
+}
+
+// How many bytes the longest row has that is cut.
+fn longest(alloc: Global, talk: &str) -> Result<usize, NoMemory> {
+    let mut longest = 0usize;
+    for row in talk.lines() {
+        if row.starts_with('~') {
+            let (_, bytes, _) = parts_of(row);
+            longest = longest.max(bytes_of(alloc, bytes)?.len());
+        }
+    }
+    Ok(longest)
+}
+
+/// The first row of a talk that shows something else, with that, wherever the bytes are cut; nothing where there is none.
+pub fn fault_of_talk<P: Peer>(alloc: Global, talk: &str) -> Result<String, NoMemory> {
+    for place in 0..longest(alloc, talk)? {
+        let fault = fault_at::<P>(alloc, talk, place)?;
+        if !fault.is_empty() {
+            return Ok(fault);
+        }
+    }
+    fault_at::<P>(alloc, talk, usize::MAX)
 }

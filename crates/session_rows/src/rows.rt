@@ -1,39 +1,13 @@
-//! The rows.
+//! The rows. A talk is a block of lines, and a blank line is between two. Lines with `#` say what it shows. The next line has the
+//! server's version and the options: after `@` the session connects at once, after `+` by a line of its own. Then come its calls:
+//! of each the call, the bytes that are received for it, and what is sent for it with its answer, separated by `|`. After `~` the
+//! bytes of a call are cut at each place. Other lines show the settings, the columns that are known of the last statement, and the
+//! user of the options.
 
-/// Calls on one connection: the call with its text, what the server sends once bytes are awaited, and the steps of the call.
-pub const TALK: &str = "\
-connect | 4a0000000a382e302e333600070000006162636465666768008ba22d02001f011500000000000000000000696a6b6c6d6e6f7071727374006d7973716c5f6e61746976655f70617373776f7264000700000200000002000000 | send ready
-query SELECT 1 | 010000010117000002036465660000000131000c3f0001000000088100000000020000030131 | send ready
-next | - | row
-next | 07000004fe000002 | need
-cancel | - | gone
-next | 000000 | end
-next | - | none
-query SELECT 1 | 010000010117000002036465660000000131000c3f000100000008810000000002000003013107000004fe000002000000 | send ready
-take | - | ready
-skip | - | ready
-prepare DO 1 | 0c000001000100000000000000000000 | send stmt
-prepare DO 1 | - | stmt
-begin | 0700000100000003000000 | send ready
-commit | 09000001ff28042334323030300700000100000002000000 | send send fault
-quit | - | send ready
-ping | - | refused";
-
-/// The same with other ends.
-pub const ENDS: &str = "\
-connect | 4a0000000a382e302e333600070000006162636465666768008ba22d02001f011500000000000000000000696a6b6c6d6e6f7071727374006d7973716c5f6e61746976655f70617373776f7264000700000200000002000000 | send ready
-query X | 09000001ff2804233432303030 | send fault
-begin | 0700000100000003000000 | send ready
-rollback | 0700000100000002000000 | send ready
-begin | 0700000100000003000000 | send ready
-commit | 0700000100000002000000 | send ready
-begin | 0700000100000003000000 | send ready
-forget | - | ready
-ping | 07000001000000020000000700000100000002000000 | send send ready
-reset | 0700000100000002000000 | send flag
-clean | - | ready
-renew | 0700000100000002000000 | send ready
-ping | end | send fault
-ping | - | refused
-forget | - | ready
-quit | - | ready";
+pub mod changes;
+pub mod connects;
+pub mod cuts;
+pub mod resets;
+pub mod statements;
+pub mod talks;
+pub mod transactions;

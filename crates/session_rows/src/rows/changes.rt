@@ -1,19 +1,11 @@
-//! Changes of user, and sessions that are cleaned and renewed for a pool: what is sent and answered, what is read for nobody, and
-//! what isn't kept.
+//! Changes of user, and sessions that are cleaned and renewed for a pool.
 
-use crate::resets::SET_UP;
-use crate::visit::{PLAIN, Visit, talks};
-use my_frame::NoMemory;
-use std::alloc::Global;
-use std::test::Fail;
-
-// Talks with a server. One begins with `@`, the server's version, and `setup` where texts set the connection up; then come its
-// calls, each with the bytes that are received for it, and with what is sent for it and its answer. The words of a change are the
-// user, the password and the database: `=` keeps one, and `-` clears it.
-const TALKS: &str = "\
+/// What is sent and answered, what is read for nobody, and what isn't kept.
+pub const CHANGES: &str = "\
 # another user; then the same anew
 @ 8.0.36
 user bob - -|07000001 00000002000000|1f00000011626f620000002d006d7973716c5f6e61746976655f70617373776f726400 ok
+opts||bob
 next||none
 user = = =|07000001 00000002000000|1f00000011626f620000002d006d7973716c5f6e61746976655f70617373776f726400 ok
 ping|07000001 00000002000000|010000000e ok
@@ -23,6 +15,7 @@ ping|07000001 00000002000000|010000000e ok
 user = secret =|07000001 00000002000000|3400000011726f6f7400148817c50fa779daef010ee7577825b0847df9842e002d006d7973716c5f6e61746976655f70617373776f726400 ok
 user = = app|07000001 00000002000000|3700000011726f6f7400148817c50fa779daef010ee7577825b0847df9842e617070002d006d7973716c5f6e61746976655f70617373776f726400 ok
 user - - -|07000001 00000002000000|1c000000110000002d006d7973716c5f6e61746976655f70617373776f726400 ok
+opts||none
 
 # the server can't reset its session; it can change the user
 @ 5.7.2
@@ -38,7 +31,9 @@ next||none
 # an error in it is the answer, and the user isn't changed, but the options are
 @ 8.0.36
 DO 1|07000001 0000000a000000 0a000002 ff2804 23 3432303030 58|0500000003444f2031 ok
+opts||root
 user bob = =||error 1064 42000 X
+opts||bob
 user = = =|07000001 00000002000000|1f00000011626f620000002d006d7973716c5f6e61746976655f70617373776f726400 ok
 
 # a transaction that was given up is rolled back before it
@@ -72,18 +67,18 @@ user bob = =|0700|1f00000011626f620000002d006d7973716c5f6e61746976655f7061737377
 ping||error closed
 
 # the session is set up again, from the last text to the first
-@ 8.0.36 setup
+@ 8.0.36 setup=AB
 user bob = =|07000001 00000002000000 07000001 00000002000000 07000001 00000002000000|1f00000011626f620000002d006d7973716c5f6e61746976655f70617373776f726400 020000000342 020000000341 ok
 user = = =|07000001 00000002000000 0a000001 ff2804 23 3432303030 58|1f00000011626f620000002d006d7973716c5f6e61746976655f70617373776f726400 020000000342 error 1064 42000 X
 ping|07000001 00000002000000|010000000e ok
 
 # cancelled while it is set up
-@ 8.0.36 setup
+@ 8.0.36 setup=AB
 user bob = =|07000001 00000002000000|1f00000011626f620000002d006d7973716c5f6e61746976655f70617373776f726400 020000000342 waits
 ping||error closed
 
 # cancelled while it is set up
-@ 8.0.36 setup
+@ 8.0.36 setup=AB
 user bob = =|07000001 00000002000000 07000001 00000002000000|1f00000011626f620000002d006d7973716c5f6e61746976655f70617373776f726400 020000000342 020000000341 waits
 ping||error closed
 
@@ -169,35 +164,9 @@ renew|07000001 00000002000000|2000000011726f6f740000002d006d7973716c5f6e61746976
 renew|07000001 00000002000000|010000001f ok
 
 # it is set up again
-@ 8.0.36 setup
+@ 8.0.36 setup=AB
 renew|07000001 00000002000000 07000001 00000002000000 07000001 00000002000000|010000001f 020000000342 020000000341 ok
 renew|0a000001 ff2804 23 3432303030 58|010000001f error 1064 42000 X
 renew|07000001 00000002000000|010000001f 020000000342 waits
 ping||error closed
 ";
-
-// Whether a talk goes so.
-fn goes(alloc: Global, talk: &str) -> Result<bool, NoMemory> {
-    let Some((head, calls)) = talk.split_once('\n') else {
-        return Ok(false);
-    };
-    let head = head.trim_start();
-    let visit = match head.split_once(' ') {
-        Some((version, _)) => Visit { version, ..SET_UP },
-        None => Visit {
-            version: head,
-            ..PLAIN
-        },
-    };
-    talks(alloc, &visit, calls)
-}
-
-// None of them says out of memory.
-#[test]
-fn ample_changes(rt: HostRuntime) -> Result<(), Fail> {
-    let alloc = rt.alloc();
-    for talk in TALKS.split('@').skip(1) {
-        assert!(rt; goes(alloc, talk)?, "{talk}");
-    }
-    Ok(())
-}

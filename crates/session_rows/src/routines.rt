@@ -1,17 +1,16 @@
 //! Routines, each with the call that it begins.
 
-use crate::statements::{ONE_PARAMETER, options, prepared};
-use my_frame::limits::DEFAULT_MAX_ALLOWED_PACKET;
 use my_frame::{Blob, Listed, NoMemory};
 use my_opts::ChangeUserOpts;
 use my_params::Params;
 use my_reading::Call;
 use my_session::{
     ChangeUser, ExecBulkRoutine, ExecRoutine, NextSetRoutine, PingRoutine, PrepareRoutine,
-    QueryRoutine, ResetRoutine, Routine, Session,
+    QueryRoutine, ResetRoutine, Routine,
 };
-use my_statements::Statement;
+use my_statements::{SetColumns, Statement, StmtInner};
 use std::alloc::Global;
+use std::sync::Arc;
 use std::test::Fail;
 
 // Whether this is the call that a routine begins.
@@ -42,10 +41,19 @@ fn executions_give(alloc: Global, statement: &Statement) -> Result<bool, NoMemor
     gives(bulk, Call::Batch(statement.copy(alloc)?, lists))
 }
 
-fn all_give(alloc: Global, session: &mut Session) -> Result<bool, NoMemory> {
-    let Some(statement) = prepared(alloc, session, ONE_PARAMETER)? else {
-        return Ok(false);
+fn statement(alloc: Global) -> Result<Statement, NoMemory> {
+    let inner = StmtInner {
+        id: 1,
+        connection_id: 7,
+        num_params: 0,
+        num_columns: 0,
+        params: SetColumns::new(alloc)?,
     };
+    Ok(Statement::new(Arc::new(alloc, inner)?, Listed::new(alloc)))
+}
+
+fn all_give(alloc: Global) -> Result<bool, NoMemory> {
+    let statement = statement(alloc)?;
     let executions = executions_give(alloc, &statement);
     drop(statement);
     Ok(
@@ -59,12 +67,7 @@ fn all_give(alloc: Global, session: &mut Session) -> Result<bool, NoMemory> {
 }
 
 #[test]
-fn ample_statements(rt: HostRuntime) -> Result<(), Fail> {
-    let alloc = rt.alloc();
-    let opts = options(alloc, 32, DEFAULT_MAX_ALLOWED_PACKET)?;
-    let mut session = Session::new(alloc, opts, false, None)?;
-    let all = all_give(alloc, &mut session);
-    drop(session);
-    assert!(rt; all?);
+fn routines_begin_calls(rt: HostRuntime) -> Result<(), Fail> {
+    assert!(rt; all_give(rt.alloc())?);
     Ok(())
 }

@@ -1,13 +1,8 @@
-//! Transactions: what begins and ends one, what is refused, and when one that was given up is rolled back.
+//! Transactions.
 
-use crate::visit::{PLAIN, Visit, talks};
-use my_frame::NoMemory;
-use std::alloc::Global;
-use std::test::Fail;
-
-// Talks with a server. One begins with `@` and the server's version; then come its calls, each with the bytes that are received
-// for it, and with what is sent for it and its answer. The queries are SET TRANSACTION, START TRANSACTION, COMMIT, ROLLBACK and `DO 1`.
-const TALKS: &str = "\
+/// What begins and ends one, what is refused, and when one that was given up is rolled back. The queries are SET TRANSACTION,
+/// START TRANSACTION, COMMIT, ROLLBACK and `DO 1`.
+pub const TRANSACTIONS: &str = "\
 # a transaction is rolled back; without one the server is asked all the same
 @ 8.0.36
 begin|07000001 00000002000000|12000000035354415254205452414e53414354494f4e ok
@@ -373,25 +368,3 @@ SELECT 1|01000001 01 17000002 0364656600000001 31 000c3f0001000000088100000000|0
 rollback||waits
 ping||error closed
 ";
-
-// Whether a talk goes so.
-fn goes(alloc: Global, talk: &str) -> Result<bool, NoMemory> {
-    let Some((version, calls)) = talk.split_once('\n') else {
-        return Ok(false);
-    };
-    let visit = Visit {
-        version: version.trim_start(),
-        ..PLAIN
-    };
-    talks(alloc, &visit, calls)
-}
-
-// None of them says out of memory.
-#[test]
-fn ample_transactions(rt: HostRuntime) -> Result<(), Fail> {
-    let alloc = rt.alloc();
-    for talk in TALKS.split('@').skip(1) {
-        assert!(rt; goes(alloc, talk)?, "{talk}");
-    }
-    Ok(())
-}
