@@ -1,6 +1,7 @@
 pub mod Beginning
 pub mod Driving
 pub mod Ending
+pub mod Living
 pub mod Moving
 pub mod Polling
 pub mod Stepping

@@ -49,7 +49,7 @@ StepLeaves login t k a steps.Need = Stopped Awaits login t k a
 StepLeaves login t k a (steps.Done answer) = Returned login t k a (says.Answered answer)
 StepLeaves login t k a (steps.Fault e) = e ≢ NoMemory → Returned login t k a (says.Failed e)
 
--- the open call, with this much of it done, and a session whose open call came so far
+-- the open call with its progress, and a session whose open call has run to there
 abbrev pub opened_at : Asked → Progress → Opened
 opened_at a progress = record { call = a.call; progress = progress }
 

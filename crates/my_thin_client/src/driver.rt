@@ -2,6 +2,7 @@
 
 ghost use Rattle.std.specs.Prelude.{option_map, IfOk};
 ghost use Rattle.my_thin_client.specs.Drives.{EachDrives, EachRows};
+ghost use Rattle.my_thin_client.specs.Lives.{Lives};
 
 use crate::conn::TapedConn;
 use crate::poll::poll_session;
@@ -21,6 +22,7 @@ pub fn drive<L: Link>(
 ) -> Result<(After, Met, Option<Vec<Row>>), NoMemory>
     ensures rows { IfOk result (λ d. EachRows conn.old d.0 (option_map (λ v. v.items) d.2)) }
     ensures drives { IfOk result (λ d. EachDrives L.looks conn.old conn.new d.1 d.0) }
+    ensures lives { IfOk result (λ d. Lives now d.1.taken conn.old.session conn.new.session) }
 {
     let (after, met) = poll_session(
         alloc,

@@ -4,6 +4,7 @@ ghost use Rattle.std.specs.Prelude.{ℕ, ◌≡◌, ◌≢◌, ◌≤◌, ◌<�
 ghost use Rattle.my_link.specs.Met.{nothing_met};
 ghost use Rattle.my_link.specs.Moves.{ends_at, faults_at, holds_at};
 ghost use Rattle.my_reading.specs.Course.{Awaits, Owes};
+ghost use Rattle.my_thin_client.specs.Lives.{Lives};
 ghost use Rattle.my_thin_client.specs.Stands.{StandsAsked, Stopped};
 ghost use Rattle.my_thin_client.specs.Turns.{EachPoll, EachTurn, FailsNow, stop_at, took_by};
 
@@ -53,6 +54,7 @@ fn fault(error: Error) -> Result<Error, NoMemory>
 // does nothing else then.
 fn fail_now(alloc: Global, session: &mut Session, now: u64) -> Result<Error, NoMemory>
     ensures fails { IfOk result (λ e. FailsNow session.old.seen session.new.seen e) }
+    ensures lives { IfOk result (λ _. Lives now 0 session.old session.new) }
 {
     match session.step(alloc, now) {
         SessionStep::Fault(error) => fault(error),
@@ -75,6 +77,7 @@ fn send<L: Link, T: Notes>(
     ensures turn { IfOk result (λ turn. (room : ℕ) → EachTurn (Stopped Owes) T.keeps session.old.seen session.new.seen
         (L.looks link.old) (L.looks link.new) notes.old notes.new room turn) }
     ensures took { IfOk result (λ turn. took_by turn ≡ 0) }
+    ensures lives { IfOk result (λ turn. Lives now (took_by turn) session.old session.new) }
 {
     if session.owed().is_empty() {
         return Err(NoMemory);
@@ -110,6 +113,7 @@ fn receive_into<L: Link, T: Notes>(
     ensures turn { IfOk result (λ turn. EachTurn (Stopped Awaits) T.keeps session.old.seen session.new.seen
         (L.looks link.old) (L.looks link.new) notes.old notes.new room turn) }
     ensures took { IfOk result (λ turn. took_by turn ≤ room) }
+    ensures lives { IfOk result (λ turn. Lives now (took_by turn) session.old session.new) }
 {
     let most = room.min(buffer.len() as u64) as usize;
     match link.read(&mut buffer[..most]) {
@@ -145,6 +149,7 @@ fn receive<L: Link, T: Notes>(
     ensures turn { IfOk result (λ turn. EachTurn (Stopped Awaits) T.keeps session.old.seen session.new.seen
         (L.looks link.old) (L.looks link.new) notes.old notes.new room turn) }
     ensures took { IfOk result (λ turn. took_by turn ≤ room) }
+    ensures lives { IfOk result (λ turn. Lives now (took_by turn) session.old session.new) }
 {
     let mut buffer = session.lend_buffer(alloc)?;
     let turn = receive_into(alloc, session, link, notes, now, room, &mut buffer);
@@ -164,6 +169,7 @@ fn take_turn<L: Link, T: Notes>(
     ensures turn { IfOk result (λ turn. EachTurn StandsAsked T.keeps session.old.seen session.new.seen
         (L.looks link.old) (L.looks link.new) notes.old notes.new room turn) }
     ensures took { IfOk result (λ turn. took_by turn ≤ room) }
+    ensures lives { IfOk result (λ turn. Lives now (took_by turn) session.old session.new) }
 {
     match session.step(alloc, now) {
         SessionStep::Send => send(alloc, session, link, notes, now),
@@ -213,6 +219,7 @@ pub fn poll_session<L: Link, T: Notes>(
     ensures polls { IfOk result (λ p. EachPoll T.keeps session.old.seen session.new.seen
         (L.looks link.old) (L.looks link.new) notes.old notes.new p.1 p.0) }
     ensures within { IfOk result (λ p. p.1.taken ≤ MOST_TAKEN) }
+    ensures lives { IfOk result (λ p. Lives now p.1.taken session.old session.new) }
 {
     let mut taken = 0;
     'turns: for _ in 0..u64::MAX {

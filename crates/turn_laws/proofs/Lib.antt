@@ -1,4 +1,5 @@
 pub mod Deciding
 pub mod Explaining
 pub mod Leading
+pub mod Standing
 pub mod Turning

@@ -13,7 +13,8 @@ use Rattle.my_client.specs.declared.tape.Said.TheVariants.{Cancelled}
 use Rattle.my_client.specs.Kept.{Asked, Kept, asking, ended_by, nothing_kept}
 use Rattle.my_client.specs.Reads.{EndedRead, IsRead, IsWaiting, place_kept}
 use Rattle.my_thin_client.specs.Polls.{IsPolled}
-use Rattle.my_thin_client.specs.Stands.{IsSaid}
+use Rattle.my_thin_session.specs.Sessions.{Seen}
+use Rattle.my_thin_client.specs.Stands.{IsSaid, Stands}
 
 -- The calls that ended are as the reading says. No call is open, and each byte that was sent is one of the exchanges.
 pub record IsRest (login : Login) (k : Kept) : Type 0 where
@@ -60,3 +61,7 @@ RestIsRead = (login : Login) (k : Kept) → k.pending ≡ None → IsExplained l
 abbrev pub WaitingIsRead : Type 0
 WaitingIsRead = (login : Login) (a : Asked) (k : Kept) → k.pending ≡ Some a → IsExplained login k → IsWaiting login k
     → IsRead login k
+
+-- Where a session stands for what was kept, it is so.
+abbrev pub StandsIsExplained : Type 0
+StandsIsExplained = (login : Login) (s : Seen) (k : Kept) → Stands login s k → IsExplained login k

@@ -3,7 +3,7 @@
 #![tactic(auto)]
 
 ghost use Rattle.turn_laws.specs.Decided.{EachCallReturns, EachErrorIsOwn, EachHasCause, EachIsAnswer, EachIsDecided, EachIsReturned, EachStepReturns};
-ghost use Rattle.turn_laws.specs.Explained.{BegunIsExplained, CancelledIsExplained, NothingIsExplained, PolledIsExplained, RestIsRead, WaitingIsRead};
+ghost use Rattle.turn_laws.specs.Explained.{BegunIsExplained, CancelledIsExplained, NothingIsExplained, PolledIsExplained, RestIsRead, StandsIsExplained, WaitingIsRead};
 ghost use Rattle.turn_laws.specs.Turns.{NoEarlyLogin, NoEarlyPing, NoFaultOutOfTurn, NoReadingOn, PingInTurn, RightLogin};
 
 /// No poll has one of these: a login that is sent before the greeting was read (`login`), a ping that is sent before the answer to
@@ -42,7 +42,7 @@ pub fn errors_are_of_the_reading()
 
 /// What a connection keeps is what the reading says, with each byte that was sent one of the exchanges: before its first call (`nothing`),
 /// as a call begins (`begun`), after each poll (`polled`), and as a call is cancelled (`cancelled`). So each call ended, or is open, as
-/// the reading says (`rest`, `waiting`).
+/// the reading says (`rest`, `waiting`). It is so wherever a session stands for what was kept (`stands`).
 pub fn polls_are_explained()
     ensures nothing { NothingIsExplained }
     ensures begun { BegunIsExplained }
@@ -50,4 +50,5 @@ pub fn polls_are_explained()
     ensures cancelled { CancelledIsExplained }
     ensures rest { RestIsRead }
     ensures waiting { WaitingIsRead }
+    ensures stands { StandsIsExplained }
 {}

@@ -1,4 +1,5 @@
 use Rattle.turn_laws.proofs.Explaining as law
+use Rattle.turn_laws.proofs.Standing.{stands_is_explained}
 use Rattle.turn_laws.proofs.polls_are_explained.Goals as goal
 
 pub returns-clause-nothing : goal.returns-clause-nothing
@@ -18,3 +19,6 @@ returns-clause-rest c = law.rest_is_read
 
 pub returns-clause-waiting : goal.returns-clause-waiting
 returns-clause-waiting c = law.waiting_is_read
+
+pub returns-clause-stands : goal.returns-clause-stands
+returns-clause-stands c = stands_is_explained

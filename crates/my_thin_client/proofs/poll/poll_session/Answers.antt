@@ -1,8 +1,10 @@
-use Rattle.std.proofs.Common.{ℕ, ◌≡◌, ◌+◌, ◌-◌, ◌≤◌, arith, subst, sym}
+use Rattle.std.proofs.Common.{ℕ, ◌≡◌, ◌+◌, ◌-◌, ◌≤◌, arith, subst, sym, ap, refl}
 use Rattle.my_frame.specs.declared.limits.TheConstants.{MOST_TAKEN}
 use Rattle.my_thin_client.specs.declared.poll.Turn.{Turn}
 use Rattle.my_thin_client.specs.Stands.{StandsAsked}
 use Rattle.my_thin_client.specs.Turns.{EachTurn, took_by}
+use Rattle.my_link.specs.declared.met.Met.{Met}
+use Rattle.my_thin_client.proofs.Living.{lives_both, lives_still}
 use Rattle.my_thin_client.proofs.Polling.{EachSoFar, is_over, nothing_yet, sent_on, took_on}
 use Rattle.my_thin_client.proofs.poll.poll_session.Goals.{in-Sent, in-Took}
 use Rattle.my_thin_client.proofs.poll.poll_session.Goals as goal
@@ -10,6 +12,7 @@ use Rattle.my_thin_client.proofs.poll.poll_session.Goals as goal
 pub turns-init : goal.turns-init
 turns-init g c = record {
   within = omega arith;
+  lives = lives_still c.args.now 0 c.args.session.now c.args.session.now (omega arith) refl;
   so = nothing_yet g.T.Notes.keeps c.args.session.now.seen (g.L.Link.looks c.args.link.now) c.args.notes.now;
 }
 
@@ -25,6 +28,11 @@ returns-in-Over-clause-polls g c =
     (subst (λ (x : Turn). EachTurn StandsAsked g.T.Notes.keeps c.turns.session.seen c.take_turn.new.session.seen (g.L.Link.looks c.turns.link) (g.L.Link.looks c.take_turn.new.link) c.turns.notes c.take_turn.new.notes (MOST_TAKEN - c.turns.taken) x) c.in-Over.is c.in_ok-take_turn.ensures.turn)
     (omega (arith, c.turns.invariant.within)) c.met_at.ensures
 
+pub returns-in-Over-clause-lives : goal.returns-in-Over-clause-lives
+returns-in-Over-clause-lives g c =
+    lives_both c.args.now c.turns.taken (took_by c.in_ok-take_turn.field-0) c.met_at.result.taken c.args.session.now c.turns.session c.take_turn.new.session
+    (omega (arith, ap (λ (m : Met). m.taken) c.met_at.ensures, ap took_by c.in-Over.is)) c.turns.invariant.lives c.in_ok-take_turn.ensures.lives
+
 pub turns-preserved : goal.turns-preserved
 turns-preserved g c =
     let each = λ (x : Turn). EachTurn StandsAsked g.T.Notes.keeps c.turns.session.seen c.take_turn.new.session.seen (g.L.Link.looks c.turns.link) (g.L.Link.looks c.take_turn.new.link) c.turns.notes c.take_turn.new.notes (MOST_TAKEN - c.turns.taken) x in
@@ -34,6 +42,8 @@ turns-preserved g c =
           let same : c.match-branch-2.taken ≡ c.turns.taken = omega (arith, w.taken-is) in
           record {
             within = omega (arith, same, c.turns.invariant.within);
+            lives = lives_both c.args.now c.turns.taken (took_by c.in_ok-take_turn.field-0) c.match-branch-2.taken c.args.session.now c.turns.session c.take_turn.new.session
+                (omega (arith, same, ap took_by w.in-Sent.is)) c.turns.invariant.lives c.in_ok-take_turn.ensures.lives;
             so = subst far (sym same)
                 (sent_on g.T.Notes.keeps c.args.session.now.seen c.turns.session.seen c.take_turn.new.session.seen (g.L.Link.looks c.args.link.now) (g.L.Link.looks c.turns.link) (g.L.Link.looks c.take_turn.new.link)
                 c.args.notes.now c.turns.notes c.take_turn.new.notes c.turns.taken (MOST_TAKEN - c.turns.taken) c.turns.invariant.so (subst each w.in-Sent.is c.in_ok-take_turn.ensures.turn));
@@ -43,6 +53,8 @@ turns-preserved g c =
           let same : c.match-branch-2.taken ≡ c.turns.taken + w.in-Took.n = omega (arith, w.taken-is) in
           record {
             within = omega (arith, same, within, c.turns.invariant.within);
+            lives = lives_both c.args.now c.turns.taken (took_by c.in_ok-take_turn.field-0) c.match-branch-2.taken c.args.session.now c.turns.session c.take_turn.new.session
+                (omega (arith, same, ap took_by w.in-Took.is)) c.turns.invariant.lives c.in_ok-take_turn.ensures.lives;
             so = subst far (sym same)
                 (took_on g.T.Notes.keeps c.args.session.now.seen c.turns.session.seen c.take_turn.new.session.seen (g.L.Link.looks c.args.link.now) (g.L.Link.looks c.turns.link) (g.L.Link.looks c.take_turn.new.link)
                 c.args.notes.now c.turns.notes c.take_turn.new.notes c.turns.taken (MOST_TAKEN - c.turns.taken) c.turns.invariant.so w.in-Took.n (subst each w.in-Took.is c.in_ok-take_turn.ensures.turn));

@@ -1,10 +1,12 @@
 use Rattle.std.proofs.Common.{◌≤◌}
 use Rattle.my_frame.specs.declared.limits.TheConstants.{MOST_TAKEN}
+use Rattle.my_thin_client.specs.Lives.{Lives}
 use Rattle.my_thin_client.proofs.Polling.{EachSoFar}
 use Rattle.my_thin_client.proofs.poll.poll_session.Given as goal
 
 abbrev pub invariant-turns : goal.invariant-turns
 invariant-turns g l = record {
   within : l.taken ≤ MOST_TAKEN;
+  lives : Lives l.fn.now l.taken l.fn.session l.session;
   so : EachSoFar g.T.Notes.keeps l.fn.session.seen l.session.seen (g.L.Link.looks l.fn.link) (g.L.Link.looks l.link) l.fn.notes l.notes l.taken;
 }

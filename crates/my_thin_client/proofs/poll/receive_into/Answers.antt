@@ -1,4 +1,4 @@
-use Rattle.std.proofs.Common.{subst}
+use Rattle.std.proofs.Common.{subst, ap, refl, arith, length}
 use Rattle.std.proofs.lemmas.List.{take-append-le}
 use Rattle.my_reading.specs.Course.{Awaits}
 use Rattle.my_thin_session.specs.Sessions.{Seen}
@@ -7,6 +7,7 @@ use Rattle.my_thin_client.specs.declared.poll.Halt.TheVariants as halts
 use Rattle.my_thin_client.specs.Stands.{Stopped}
 use Rattle.my_thin_client.specs.Turns.{FailsNow}
 use Rattle.my_thin_client.proofs.Polling.{broke_read, came, ended_so, held_read, over_so}
+use Rattle.my_thin_client.proofs.Living.{lives_still, lives_then, lives_took}
 use Rattle.my_thin_client.proofs.poll.receive_into.Goals as goal
 
 pub returns-in_ok-note_taken-in-Got-clause-turn : goal.returns-in_ok-note_taken-in-Got-clause-turn
@@ -30,3 +31,22 @@ returns-in_ok-error-in-Failed-clause-turn g c =
     let e = c.in_ok-error-in-Failed.error in
     over_so g.T.Notes.keeps (Stopped Awaits) c.args.session.now.seen c.fail_now-in-Failed.new.session.seen _ _ c.args.notes.now c.args.room halts.ReadFailed (Failed e) c.in-Failed.ensures.looks
     (λ login k a w. broke_read login c.args.session.now.seen c.fail_now-in-Failed.new.session.seen k a c.args.room e w (subst (λ (u : Seen). FailsNow u c.fail_now-in-Failed.new.session.seen e) c.fail.ensures.seen c.in_ok-error-in-Failed.ensures.fails))
+
+pub returns-in_ok-note_taken-in-Got-clause-lives : goal.returns-in_ok-note_taken-in-Got-clause-lives
+returns-in_ok-note_taken-in-Got-clause-lives g c =
+    lives_took c.args.now c.in-Got.n c.args.session.now c.take.new.self c.read.new.buf _ (take-append-le c.in-Got.n c.read.new.buf _ c.in-Got.ensures.looks.1) c.in-Got.ensures.looks.1 c.in_ok-take-in-Got.ensures.ok c.in_ok-take-in-Got.ensures.lifetime
+
+pub returns-in-NotYet-clause-lives : goal.returns-in-NotYet-clause-lives
+returns-in-NotYet-clause-lives g c = lives_still c.args.now 0 c.args.session.now c.args.session.now (omega arith) refl
+
+pub returns-in_ok-error-in-End-clause-lives : goal.returns-in_ok-error-in-End-clause-lives
+returns-in_ok-error-in-End-clause-lives g c =
+    lives_then c.args.now 0 c.args.session.now c.end.new.self c.fail_now.new.session
+    (lives_still c.args.now 0 c.args.session.now c.end.new.self (omega (arith, ap (λ (s : Seen). length s.stand.unread) c.end.ensures.seen)) c.end.ensures.lifetime)
+    c.in_ok-error-in-End.ensures.lives
+
+pub returns-in_ok-error-in-Failed-clause-lives : goal.returns-in_ok-error-in-Failed-clause-lives
+returns-in_ok-error-in-Failed-clause-lives g c =
+    lives_then c.args.now 0 c.args.session.now c.fail.new.self c.fail_now-in-Failed.new.session
+    (lives_still c.args.now 0 c.args.session.now c.fail.new.self (omega (arith, ap (λ (s : Seen). length s.stand.unread) c.fail.ensures.seen)) c.fail.ensures.lifetime)
+    c.in_ok-error-in-Failed.ensures.lives

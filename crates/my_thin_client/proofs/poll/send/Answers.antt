@@ -1,4 +1,4 @@
-use Rattle.std.proofs.Common.{rules, subst}
+use Rattle.std.proofs.Common.{rules, subst, ap, refl, arith, length}
 use Rattle.my_reading.specs.Course.{Owes}
 use Rattle.my_thin_session.specs.Sessions.{Seen}
 use Rattle.my_client.specs.declared.poll.After.TheVariants.{Pending, Failed}
@@ -6,6 +6,7 @@ use Rattle.my_thin_client.specs.declared.poll.Halt.TheVariants as halts
 use Rattle.my_thin_client.specs.Stands.{Stopped}
 use Rattle.my_thin_client.specs.Turns.{FailsNow}
 use Rattle.my_thin_client.proofs.Polling.{broke_write, held_write, over_so, went}
+use Rattle.my_thin_client.proofs.Living.{lives_still, lives_then, sent_unread}
 use Rattle.my_thin_client.proofs.poll.send.Goals as goal
 
 pub returns-in_ok-note_sent-in-Took-clause-turn : goal.returns-in_ok-note_sent-in-Took-clause-turn
@@ -22,3 +23,16 @@ returns-in_ok-error-in-Failed-clause-turn g c = λ room.
     let e = c.in_ok-error-in-Failed.error in
     over_so g.T.Notes.keeps (Stopped Owes) c.args.session.now.seen c.fail_now.new.session.seen _ _ c.args.notes.now room halts.WriteFailed (Failed e) c.in-Failed.ensures.looks
     (λ login k a w. broke_write login c.args.session.now.seen c.fail_now.new.session.seen k a room e w (subst (λ (u : Seen). FailsNow u c.fail_now.new.session.seen e) c.fail.ensures.seen c.in_ok-error-in-Failed.ensures.fails))
+
+pub returns-in_ok-note_sent-in-Took-clause-lives : goal.returns-in_ok-note_sent-in-Took-clause-lives
+returns-in_ok-note_sent-in-Took-clause-lives g c =
+    lives_still c.args.now 0 c.args.session.now c.sent.new.self (omega (arith, ap (λ (s : Seen). length s.stand.unread) c.sent.ensures.seen, sent_unread c.in-Took.n c.args.session.now.seen)) c.sent.ensures.lifetime
+
+pub returns-in-NotYet-clause-lives : goal.returns-in-NotYet-clause-lives
+returns-in-NotYet-clause-lives g c = lives_still c.args.now 0 c.args.session.now c.args.session.now (omega arith) refl
+
+pub returns-in_ok-error-in-Failed-clause-lives : goal.returns-in_ok-error-in-Failed-clause-lives
+returns-in_ok-error-in-Failed-clause-lives g c =
+    lives_then c.args.now 0 c.args.session.now c.fail.new.self c.fail_now.new.session
+    (lives_still c.args.now 0 c.args.session.now c.fail.new.self (omega (arith, ap (λ (s : Seen). length s.stand.unread) c.fail.ensures.seen)) c.fail.ensures.lifetime)
+    c.in_ok-error-in-Failed.ensures.lives

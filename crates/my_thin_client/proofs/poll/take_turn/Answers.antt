@@ -9,6 +9,8 @@ use Rattle.my_thin_client.specs.declared.poll.Halt.TheVariants as halts
 use Rattle.my_thin_client.specs.Stands.{StandsAsked, Stopped}
 use Rattle.my_thin_client.proofs.Polling.{answered_so, behind, failed_so, full_so, over_so}
 use Rattle.my_thin_client.proofs.Stepping.{step_leaves}
+use Rattle.my_thin_client.specs.Turns.{took_by}
+use Rattle.my_thin_client.proofs.Living.{lives_by, lives_then}
 use Rattle.my_thin_client.proofs.poll.take_turn.Goals as goal
 
 pub returns-then-room-eq0-clause-turn : goal.returns-then-room-eq0-clause-turn
@@ -41,3 +43,22 @@ returns-in_ok-fault-in-Fault-clause-turn g c =
     (step_leaves login c.args.session.now.seen c.step.new.self.seen k a (steps.Fault e) w
     (λ o x. subst (λ (y : Error). IsStep o c.args.session.now.seen c.step.new.self.seen (steps.Fault y)) (sym c.in_ok-fault-in-Fault.ensures.value) (c.in-Fault.ensures.reads o x))
     c.in_ok-fault-in-Fault.ensures.kept))
+
+pub returns-then-room-eq0-clause-lives : goal.returns-then-room-eq0-clause-lives
+returns-then-room-eq0-clause-lives g c = lives_by c.args.now c.args.session.now c.step.new.self c.in-Need.ensures.shorter c.in-Need.ensures.lifetime
+
+pub returns-in-Send-clause-lives : goal.returns-in-Send-clause-lives
+returns-in-Send-clause-lives g c = IfOk-weaker c.send.result _ _
+    (λ turn f. lives_then c.args.now (took_by turn) c.args.session.now c.step.new.self c.send.new.session (lives_by c.args.now c.args.session.now c.step.new.self c.in-Send.ensures.shorter c.in-Send.ensures.lifetime) f)
+    c.send.ensures.lives
+
+pub returns-else-room-eq0-clause-lives : goal.returns-else-room-eq0-clause-lives
+returns-else-room-eq0-clause-lives g c = IfOk-weaker c.receive.result _ _
+    (λ turn f. lives_then c.args.now (took_by turn) c.args.session.now c.step.new.self c.receive.new.session (lives_by c.args.now c.args.session.now c.step.new.self c.in-Need.ensures.shorter c.in-Need.ensures.lifetime) f)
+    c.receive.ensures.lives
+
+pub returns-in-Done-clause-lives : goal.returns-in-Done-clause-lives
+returns-in-Done-clause-lives g c = lives_by c.args.now c.args.session.now c.step.new.self c.in-Done.ensures.shorter c.in-Done.ensures.lifetime
+
+pub returns-in_ok-fault-in-Fault-clause-lives : goal.returns-in_ok-fault-in-Fault-clause-lives
+returns-in_ok-fault-in-Fault-clause-lives g c = lives_by c.args.now c.args.session.now c.step.new.self c.in-Fault.ensures.shorter c.in-Fault.ensures.lifetime
