@@ -1,35 +1,17 @@
 //! What is found of the rows.
 
+use crate::lines::field;
+use crate::logins::login;
 use crate::rows::ROWS;
-use crate::transcripts::{answers_of, field, is_finding, script_of, tape_of};
-use my_flags::CapabilityFlags;
-use my_frame::{Blob, Listed, NoMemory};
+use crate::transcripts::{answers_of, is_finding, script_of, tape_of};
+use my_frame::NoMemory;
 use my_grammar::Login;
-use my_handshake::Attributes;
 use my_plan_judge::judge_run;
 use my_run_judge::{Found, judge_connection};
 use my_script::{Script, StepAnswer, Tape};
 use std::alloc::Global;
 use std::slice;
 use std::test::Fail;
-
-// A user `root` without a password.
-fn login(alloc: Global) -> Result<Login, NoMemory> {
-    let user = Blob::from_slice(alloc, b"root")?;
-    Ok(Login {
-        user: Some(user),
-        password: None,
-        database: None,
-        max_packet: 4_194_304,
-        attributes: Attributes::new(alloc),
-        capabilities: CapabilityFlags(0x10f_a281),
-        packet_limit: Some(4_194_304),
-        wait_timeout: Some(28_800),
-        init: Listed::new(alloc),
-        setup: Listed::new(alloc),
-        statements: 32,
-    })
-}
 
 // What is found of a run over its plan, or of connection 0 alone.
 fn judged(
@@ -59,7 +41,7 @@ fn judged_as_root(
     tape: &Tape,
     planned: bool,
 ) -> Result<Found, NoMemory> {
-    let login = login(alloc)?;
+    let login = login(alloc, "plain")?;
     let found = judged(alloc, &login, script, answers, tape, planned);
     drop(login);
     found

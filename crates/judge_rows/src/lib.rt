@@ -1,12 +1,35 @@
-//! Transcripts that `my_run_judge` and `my_plan_judge` find right, and others that they refute, as rows of text. A
-//! line is a step, its answer and what each use of the link met, and where a tape has its call, that call with the
-//! bytes that were sent and taken; a line with `=` says what is found of the lines above it. This crate has tests
-//! alone.
+//! What the judges find, as rows of text: of tapes that `my_judge` accepts, and of changes of each; and of transcripts
+//! that `my_run_judge` and `my_plan_judge` find right, and others that they refute. The bytes are those of the public
+//! pages of the protocol. This crate has tests alone.
 #![tactic(auto)]
 
 #[cfg(test)]
+mod changes;
+#[cfg(test)]
+mod findings;
+#[cfg(test)]
 mod judging;
+#[cfg(test)]
+mod lines;
+#[cfg(test)]
+mod logins;
+#[cfg(test)]
+mod parts;
+#[cfg(test)]
+mod renewals;
 #[cfg(test)]
 mod rows;
 #[cfg(test)]
+mod spans;
+#[cfg(test)]
+mod tapes;
+#[cfg(test)]
+mod transactions;
+#[cfg(test)]
 mod transcripts;
+#[cfg(test)]
+mod trials;
+#[cfg(test)]
+mod words;
+#[cfg(test)]
+mod wrong_tapes;

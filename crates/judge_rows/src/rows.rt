@@ -1,15 +1,4 @@
-//! Transcripts of connection 0, and the bytes of their tapes.
-
-/// Bytes by their names: a server's greeting with the answer to the login, its OK, the response to the greeting,
-/// and the changes to the user `bob` whose password is `secret`, to `rob` with the same, and to `root` without a
-/// password.
-pub const PARTS: &str = "\
-greeting 4a0000000a382e302e333600070000006162636465666768008ba22d02001f011500000000000000000000696a6b6c6d6e6f7071727374006d7973716c5f6e61746976655f70617373776f7264000700000200000002000000
-ok 0700000100000002000000
-response 3c00000181a20f01000040002d0000000000000000000000000000000000000000000000726f6f7400006d7973716c5f6e61746976655f70617373776f726400
-to_bob 3700000011626f6200148817c50fa779daef010ee7577825b0847df9842e73686f70002d006d7973716c5f6e61746976655f70617373776f726400
-to_rob 3700000011726f6200148817c50fa779daef010ee7577825b0847df9842e73686f70002d006d7973716c5f6e61746976655f70617373776f726400
-to_root 2000000011726f6f740000002d006d7973716c5f6e61746976655f70617373776f726400";
+//! Transcripts of connection 0.
 
 /// A transcript is separated from the next by an empty line. Its lines are a step and its answer, as in a script
 /// and its text; what each use of the link met: `hold`, `fault`, or how many bytes were taken; and the call of the

@@ -1,17 +1,12 @@
 //! Transcripts of rows.
 
-use crate::rows::PARTS;
+use crate::lines::{add_bytes, field};
 use my_frame::NoMemory;
 use my_handshake::ServerVersion;
 use my_link::Met;
 use my_reading::{Answer, Call, Error, IoError, IoFault, IoKind};
 use my_script::{Outcome, Read, Script, Step, StepAnswer, Tape, TapeCall, Use, read_script};
 use std::alloc::{AllocError, Global};
-
-/// A field of a line.
-pub fn field(line: &str, number: usize) -> &str {
-    line.split('|').nth(number).unwrap_or("").trim()
-}
 
 /// Whether a line says what is found.
 pub fn is_finding(line: &str) -> bool {
@@ -113,23 +108,6 @@ pub fn answers_of(alloc: Global, row: &str, lines: usize) -> Result<Vec<StepAnsw
     Ok(answers)
 }
 
-fn part_of(word: &str) -> &'static str {
-    for line in PARTS.lines() {
-        let (name, digits) = line.split_once(' ').unwrap_or((line, ""));
-        if word.strip_prefix('@') == Some(name) {
-            return digits;
-        }
-    }
-    ""
-}
-
-fn add_part(alloc: Global, bytes: &mut Vec<u8>, word: &str) -> Result<(), NoMemory> {
-    match hex::decode(alloc, part_of(word)) {
-        Ok(part) => Ok(bytes.extend_from_slice(part.as_slice())?),
-        Err(_) => Err(NoMemory),
-    }
-}
-
 // The call that makes the connection, or a change of user by the words of a step.
 fn call_of(alloc: Global, text: &str) -> Result<Call, NoMemory> {
     if text == "connect" {
@@ -167,8 +145,8 @@ fn add_line(alloc: Global, tape: &mut Tape, line: &str) -> Result<(), NoMemory> 
     let call = field(line, 3);
     if !call.is_empty() {
         add_call(alloc, tape, call, Some(Ok(Answer::Ready)))?;
-        add_part(alloc, &mut tape.sent, field(line, 4))?;
-        add_part(alloc, &mut tape.taken, field(line, 5))?;
+        add_bytes(alloc, &mut tape.sent, field(line, 4))?;
+        add_bytes(alloc, &mut tape.taken, field(line, 5))?;
     }
     Ok(())
 }
