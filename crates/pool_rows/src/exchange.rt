@@ -16,6 +16,7 @@ use my_link::MemLink;
 use my_pool::Exchange;
 use my_pool_core::{Answer, PollAnswer, PoolEvent};
 use my_pool_store::Kept;
+use my_pool_turns::turn;
 use my_world::MemWorld;
 use std::alloc::Global;
 use std::cell::Cell;
@@ -216,6 +217,10 @@ impl Table {
             "next" => {
                 let (word, number) = self.next(number);
                 Ok(is_wanted(want, word, &[number], 0))
+            }
+            "turn" => {
+                let left = turn(alloc, &mut self.pool, number) as u64;
+                Ok(is_wanted(want, "left", &[left], 0))
             }
             "query" => Ok(self.query(alloc, number) == want),
             "rung" => Ok(is_wanted(want, "ages", &[self.rung()], 0)),

@@ -6,9 +6,10 @@
 //! `dwait`, `dfail`: what a dial meets. `ask`, `poll AGE MOMENT`, `cancel AGE`, `ready AGE NUMBER`, `failed AGE NUMBER`,
 //! `give NUMBER`, `detach NUMBER`, `ttl MOMENT`, `close` and `gone` are events, with what they return after `=`; `no`: it may
 //! not happen. A poll that dials makes its connection at once. `next MOMENT`: the next connection that came back is decided on.
-//! `query NUMBER`: a connection in hand asks for a set, of which nothing is read. `rung = ages 12`: the wakers of the ages 1 and
-//! 2 were called, in this order, and no other since it was asked last. `told = events 5`: the journal tells five events, and they
-//! lead to this pool. `request AGE`, `place NUMBER`, `oldest`, `live`, `working` and `metrics` look.
+//! `turn MOMENT = left 1`: a turn, after which one connection is at work. `query NUMBER`: a connection in hand asks for a set,
+//! of which nothing is read. `rung = ages 12`: the wakers of the ages 1 and 2 were called, in this order, and no other since it
+//! was asked last. `told = events 5`: the journal tells five events, and they lead to this pool. `request AGE`, `place NUMBER`,
+//! `oldest`, `live`, `working` and `metrics` look.
 
 pub const EXCHANGES: &str = "\
 # pool_min=1&pool_max=1 a woken request that is given up wakes the next one; each waker is called once, in the event that wakes its request
@@ -206,4 +207,65 @@ next 0 = none
 metrics = counts 1 0 0 0 0 0 0 0 0 1
 ask = age 1
 poll 1 0 = dial 1001
+# pool_min=1&pool_max=1 a turn reads what is left of a set, and the connection is idle then
+link 1000 @greeting turn @login_ok turn @set
+ask = age 0
+poll 0 0 = dial 1000
+ready 0 1000 = done
+query 1000 = answered
+give 1000 = done
+ask = age 1
+poll 1 0 = wait
+turn 0 = left 0
+rung = ages 1
+metrics = counts 1 1 0 0 0 0 1 0 0 0 1 0
+poll 1 0 = take 1000
+told = events 12
+# pool_min=2&pool_max=2 one turn decides on each that came back
+link 1000 @greeting turn @login_ok
+link 1001 @greeting turn @login_ok
+ask = age 0
+poll 0 0 = dial 1000
+ready 0 1000 = done
+ask = age 1
+poll 1 0 = dial 1001
+ready 1 1001 = done
+give 1001 = done
+give 1000 = done
+turn 0 = left 0
+metrics = counts 2 2 0 0 0 0 0 0 0 0 2 0
+# pool_min=1&pool_max=1&reset_connection=true a reset that isn't answered yet is at work; the next turn goes on with it
+link 1000 @greeting turn @login_ok turn wait @ok
+ask = age 0
+poll 0 0 = dial 1000
+ready 0 1000 = done
+give 1000 = done
+turn 0 = left 1
+working = number 1
+metrics = counts 1 0 0 0 0 0 0 0 1
+turn 0 = left 0
+metrics = counts 1 1 0 0 0 0 0 0 1 0 1 0
+# pool_min=1&pool_max=1&reset_connection=true a reset that fails frees its connection, and wakes a request
+link 1000 @greeting turn @login_ok turn end
+ask = age 0
+poll 0 0 = dial 1000
+ready 0 1000 = done
+give 1000 = done
+ask = age 1
+poll 1 0 = wait
+turn 0 = left 0
+rung = ages 1
+metrics = counts 0 0 0 0 0 0 0 0 1 0 0 1
+# pool_min=1&pool_max=1 a closed pool closes its idle connections, and is gone once a turn has seen that none is left
+link 1000 @greeting turn @login_ok
+ask = age 0
+poll 0 0 = dial 1000
+ready 0 1000 = done
+give 1000 = done
+turn 0 = left 0
+close = done
+gone = there
+turn 0 = left 0
+gone = gone
+metrics = counts 0 0 0 0 0 0 0 1 0 0 1 0
 ";

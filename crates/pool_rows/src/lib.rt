@@ -1,6 +1,6 @@
-//! Rows over my_pool_core, my_pool_parts and my_pool: a row is an event of a pool, of a heap, or of an exchange over links in
-//! memory, with what it returns (`rows.rt` and `exchanges.rt` say how it reads). Beside them many events from a seed, after each
-//! of which the pool is looked at whole. This crate has tests alone.
+//! Rows over my_pool_core, my_pool_parts, my_pool and my_pool_turns: a row is an event of a pool, of a heap, or of an exchange
+//! over links in memory, with what it returns (`rows.rt` and `exchanges.rt` say how it reads). Beside them many events from a
+//! seed, after each of which the pool is looked at whole. This crate has tests alone.
 #![tactic(auto)]
 
 #[cfg(test)]
