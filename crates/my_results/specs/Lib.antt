@@ -1,0 +1,3 @@
+pub mod Tries
+pub mod Rows
+pub mod Streams
