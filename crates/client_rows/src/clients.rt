@@ -1,8 +1,8 @@
 //! Talks of a client.
 
-use crate::answers::word_of;
+use crate::answers::{failed, word_of};
 use crate::polls::made;
-use crate::queries::answer_at;
+use crate::queries::{answer_at, lend};
 use crate::talks::{Waiting, begun, new_by};
 use crate::waiting::ASKED;
 use crate::words::field;
@@ -10,12 +10,15 @@ use my_conn::{Conn, Connected};
 use my_connect::Client;
 use my_frame::NoMemory;
 use my_link::{MemLink, ReadyLink};
+use my_opts_parts::TxOpts;
+use my_query::Lent;
 use my_reading::{Call, CallKind, Error};
-use std::alloc::Global;
+use my_statements::Statement;
+use std::alloc::{AllocError, Global};
 use std::test::Fail;
 
 /// A client over a link in memory.
-type Near = Client<ReadyLink<MemLink>>;
+pub type Near = Client<ReadyLink<MemLink>>;
 
 fn idle(conn: Waiting) -> Result<Near, Error> {
     match Client::new(conn) {
@@ -34,12 +37,29 @@ fn client_of(alloc: Global, talk: &str) -> Result<Near, Error> {
     }
 }
 
+// What a call returns at a client, which may be lent.
+fn client_answer(
+    alloc: Global,
+    client: &mut Near,
+    held: &mut Option<Statement>,
+    call: &str,
+) -> Result<String, AllocError> {
+    if let Some(text) = call.strip_prefix("lend ") {
+        return lend(alloc, client, held, text);
+    }
+    if let Some(rest) = call.strip_prefix("tx ") {
+        let (end, inner) = rest.split_once(' ').unwrap_or((rest, ""));
+        return in_transaction(alloc, client, held, end, inner);
+    }
+    answer_at(alloc, client, held, call)
+}
+
 // Whether each line after the first returns what it should.
 fn goes_on(alloc: Global, client: &mut Near, talk: &str) -> bool {
     let mut held = None;
     let mut well = true;
     for line in talk.lines().skip(1) {
-        match answer_at(alloc, client, &mut held, field(line, 0)) {
+        match client_answer(alloc, client, &mut held, field(line, 0)) {
             Ok(text) => well = well && text.as_str() == field(line, 2),
             Err(_) => well = false,
         }
@@ -68,13 +88,106 @@ fn is_right(alloc: Global, talk: &str) -> bool {
 fn ample_client(rt: HostRuntime) -> Result<(), Fail> {
     let mut ran = 0u64;
     for talk in ASKED.split("\n\n") {
-        // Only a connection is lent.
+        assert!(rt; is_right(rt.alloc(), talk), "{talk}");
+        ran = ran.wrapping_add(1);
+    }
+    assert!(rt; ran == 17);
+    Ok(())
+}
+
+/// A line after the first is how a transaction ends, and a call in it; the answer is that of the call, of what ends the transaction,
+/// or of its begin.
+const TRANSACTIONS: &str = "\
+connect | @greeting turn @login_ok | ok
+tx commit collect SELECT n, t FROM people | turn @ok turn @people turn @ok | [(7, \"ann\"), (9, \"bo\")] ok
+tx rollback ignore SELECT n, t FROM people | turn @ok turn @err turn @ok | error 1064 ok
+tx commit send ping | turn @err | error 1064
+send ping | turn @ok | ok
+
+connect | @greeting turn @login_ok | ok
+tx leave ignore SELECT n, t FROM people | turn @begun turn @begun turn @ok | () left
+send ping | turn @ok | ok
+
+connect | @greeting turn @login_ok | ok
+tx commit send begin | turn @ok turn @ok | error nested ok";
+
+// What a call returns in a transaction, and what ends it then.
+fn in_transaction(
+    alloc: Global,
+    client: &mut Near,
+    held: &mut Option<Statement>,
+    end: &str,
+    call: &str,
+) -> Result<String, AllocError> {
+    match client.start_transaction(alloc, TxOpts::new()) {
+        Ok(transaction) => {
+            let mut transaction = transaction;
+            let mut text = answer_at(alloc, &mut transaction, held, call)?;
+            text.push_str(" ")?;
+            let last = match end {
+                "commit" => word_of(transaction.commit(alloc), held),
+                "rollback" => word_of(transaction.rollback(alloc), held),
+                _ => {
+                    drop(transaction);
+                    "left"
+                }
+            };
+            text.push_str(last)?;
+            Ok(text)
+        }
+        Err(error) => String::from_str(alloc, failed(error)),
+    }
+}
+
+// The same at a client that is lent.
+fn lent_on(alloc: Global, client: &mut Near, talk: &str) -> bool {
+    let mut lent = Lent::new(client);
+    let mut held = None;
+    let mut well = true;
+    for line in talk.lines().skip(1) {
+        match answer_at(alloc, &mut lent, &mut held, field(line, 0)) {
+            Ok(text) => well = well && text.as_str() == field(line, 2),
+            Err(_) => well = false,
+        }
+    }
+    drop(held);
+    well
+}
+
+// Whether the calls of a talk return what it says at a client that is lent.
+fn is_lent(alloc: Global, talk: &str) -> bool {
+    match client_of(alloc, talk) {
+        Ok(client) => {
+            let mut client = client;
+            let right = lent_on(alloc, &mut client, talk);
+            drop(client);
+            right
+        }
+        Err(error) => {
+            drop(error);
+            false
+        }
+    }
+}
+
+#[test]
+fn ample_lent(rt: HostRuntime) -> Result<(), Fail> {
+    let mut ran = 0u64;
+    for talk in ASKED.split("\n\n") {
         if !talk.contains("\nlend ") {
-            assert!(rt; is_right(rt.alloc(), talk), "{talk}");
+            assert!(rt; is_lent(rt.alloc(), talk), "{talk}");
             ran = ran.wrapping_add(1);
         }
     }
-    assert!(rt; ran == 14);
+    assert!(rt; ran == 16);
+    Ok(())
+}
+
+#[test]
+fn clients_have_transactions(rt: HostRuntime) -> Result<(), Fail> {
+    for talk in TRANSACTIONS.split("\n\n") {
+        assert!(rt; is_right(rt.alloc(), talk), "{talk}");
+    }
     Ok(())
 }
 

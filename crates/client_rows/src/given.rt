@@ -1,33 +1,19 @@
 //! What calls are given, by the words of their rows.
 
 use crate::words::blob_of;
-use my_frame::Listed;
 use my_opts::ChangeUserOpts;
 use my_opts_parts::{IsolationLevel, TxOpts};
 use my_params::Params;
+use my_query::{named, positional};
 use my_statements::Statement;
 use my_value::Value;
 use std::alloc::{AllocError, Global};
 
-fn named(alloc: Global) -> Params {
-    match Vec::from_array(alloc, [(blob_of(alloc, "a"), Value::Int(42))]) {
-        Ok(pairs) => Params::Named(Listed::from(pairs)),
-        Err(_) => Params::Empty,
-    }
-}
-
-fn positional(alloc: Global) -> Params {
-    match Vec::from_array(alloc, [Value::Int(42)]) {
-        Ok(values) => Params::Positional(Listed::from(values)),
-        Err(_) => Params::Empty,
-    }
-}
-
 /// The parameters of an execution: 42 by the name `a` or by its place, or none.
 pub fn params_of(alloc: Global, word: &str) -> Params {
     match word {
-        "a=42" => named(alloc),
-        "42" => positional(alloc),
+        "a=42" => named(alloc, [(blob_of(alloc, "a"), Value::Int(42))]).unwrap_or(Params::Empty),
+        "42" => positional(alloc, [Value::Int(42)]).unwrap_or(Params::Empty),
         _ => Params::Empty,
     }
 }

@@ -5,16 +5,16 @@ ghost use Rattle.std.specs.Prelude.{◌≡◌, None};
 use crate::answers::{failure, word_of};
 use crate::given::{copy_of, lists_of, params_of};
 use crate::sends::sent;
-use crate::words::blob_of;
 use my_conn::Conn;
 use my_link::BlockingLink;
-use my_query::{Calls, Lent, QueryError, Queryable};
+use my_query::{Calls, Lent, QueryError, Queryable, StatementLike};
 use my_statements::Statement;
 use my_value::Row;
 use std::alloc::{AllocError, Global};
 use std::fmt::Debug;
 
-fn refused(error: &QueryError) -> &'static str {
+/// What an error is.
+pub fn refused(error: &QueryError) -> &'static str {
     match error {
         QueryError::Client(error) => failure(error),
         QueryError::FromRow(row) if row.len() == 2 => "error row of 2",
@@ -22,8 +22,8 @@ fn refused(error: &QueryError) -> &'static str {
     }
 }
 
-// What a call returned.
-fn shown<T: Debug + Drop>(
+/// What a call returned.
+pub fn shown<T: Debug + Drop>(
     alloc: Global,
     answer: Result<T, QueryError>,
 ) -> Result<String, AllocError> {
@@ -35,8 +35,8 @@ fn shown<T: Debug + Drop>(
     text
 }
 
-// What a call returned, without its value.
-fn said(alloc: Global, word: &'static str) -> Result<String, AllocError> {
+/// What a call returned, without its value.
+pub fn said(alloc: Global, word: &'static str) -> Result<String, AllocError> {
     String::from_str(alloc, word)
 }
 
@@ -49,40 +49,42 @@ fn queried<C: Queryable>(
 ) -> Result<String, AllocError>
     requires { (C.conn_of holder.old).pending ≡ None }
 {
-    let text = blob_of(alloc, text);
     match name {
-        "collect" => shown(alloc, holder.query::<(u64, String)>(alloc, text)),
-        "first" => shown(alloc, holder.query_first::<(u64, String)>(alloc, text)),
+        "collect" => shown(alloc, holder.query::<(u64, String), _>(alloc, &text)),
+        "first" => shown(alloc, holder.query_first::<(u64, String), _>(alloc, &text)),
         "first_row" => {
-            let first = holder.query_first::<Row>(alloc, text);
+            let first = holder.query_first::<Row, _>(alloc, &text);
             shown(alloc, first.map(|row| row.map(|row| row.len())))
         }
-        "first_numbers" => shown(alloc, holder.query_first::<(u64, u64)>(alloc, text)),
+        "first_numbers" => shown(alloc, holder.query_first::<(u64, u64), _>(alloc, &text)),
         "fold" => {
-            let folded = holder.query_fold::<(u64, String), u64, _>(alloc, text, 1, |sum, row| {
-                sum.wrapping_mul(10).wrapping_add(row.0)
-            });
+            let folded = holder.query_fold::<(u64, String), _, u64, _>(
+                alloc,
+                &text,
+                1,
+                |sum, row| sum.wrapping_mul(10).wrapping_add(row.0),
+            );
             shown(alloc, folded)
         }
         "fold_rows" => {
             shown(
                 alloc,
-                holder.query_fold::<Row, u64, _>(alloc, text, 4, |_sum, _row| 0),
+                holder.query_fold::<Row, _, u64, _>(alloc, &text, 4, |_sum, _row| 0),
             )
         }
         "map" => {
-            let numbers = holder.query_map::<(u64, String), u64, _>(alloc, text, |row| row.0);
+            let numbers = holder.query_map::<(u64, String), _, u64, _>(alloc, &text, |row| row.0);
             shown(alloc, numbers)
         }
-        _ => shown(alloc, holder.query_drop(alloc, text)),
+        _ => shown(alloc, holder.query_drop(alloc, &text)),
     }
 }
 
-// An execution of the statement that is held, which gives numbers.
-fn executed<C: Queryable>(
+// An execution, which gives numbers, of the statement that is named.
+fn executed<C: Queryable, S: StatementLike>(
     alloc: Global,
     holder: &mut C,
-    statement: Statement,
+    stmt: &S,
     name: &str,
     rest: &str,
 ) -> Result<String, AllocError>
@@ -90,10 +92,10 @@ fn executed<C: Queryable>(
 {
     let params = params_of(alloc, rest);
     match name {
-        "exec" => shown(alloc, holder.exec::<u64>(alloc, statement, params)),
-        "exec_first" => shown(alloc, holder.exec_first::<u64>(alloc, statement, params)),
+        "exec" => shown(alloc, holder.exec::<u64, _>(alloc, stmt, params)),
+        "exec_first" => shown(alloc, holder.exec_first::<u64, _>(alloc, stmt, params)),
         "exec_fold" => {
-            let folded = holder.exec_fold::<u64, u64, _>(alloc, statement, params, 1, |sum, n| {
+            let folded = holder.exec_fold::<u64, _, u64, _>(alloc, stmt, params, 1, |sum, n| {
                 sum.wrapping_mul(10).wrapping_add(n)
             });
             shown(alloc, folded)
@@ -101,13 +103,34 @@ fn executed<C: Queryable>(
         "exec_map" => {
             shown(
                 alloc,
-                holder.exec_map::<u64, bool, _>(alloc, statement, params, |n| n > 4),
+                holder.exec_map::<u64, _, bool, _>(alloc, stmt, params, |n| n > 4),
             )
         }
-        _ => shown(alloc, holder.exec_drop(alloc, statement, params)),
+        _ => shown(alloc, holder.exec_drop(alloc, stmt, params)),
     }
 }
 
+// An execution, or a batch of executions, of the statement that is named.
+fn run<C: Queryable, S: StatementLike>(
+    alloc: Global,
+    holder: &mut C,
+    stmt: &S,
+    name: &str,
+    rest: &str,
+) -> Result<String, AllocError>
+    requires { (C.conn_of holder.old).pending ≡ None }
+{
+    if name == "exec_batch" {
+        let lists = lists_of(alloc, rest)?;
+        return said(
+            alloc,
+            word_of(holder.exec_batch(alloc, stmt, lists), &mut None),
+        );
+    }
+    executed(alloc, holder, stmt, name, rest)
+}
+
+// A call of the statement that is held, or of one that a text names.
 fn held_call<C: Queryable>(
     alloc: Global,
     holder: &mut C,
@@ -117,20 +140,18 @@ fn held_call<C: Queryable>(
 ) -> Result<String, AllocError>
     requires { (C.conn_of holder.old).pending ≡ None }
 {
+    if let Some((params, text)) = rest.split_once(" of ") {
+        return run(alloc, holder, &text, name, params);
+    }
     let Some(statement) = copy_of(alloc, held) else {
         return said(alloc, "unheld");
     };
-    match name {
-        "exec_batch" => {
-            let lists = lists_of(alloc, rest)?;
-            said(
-                alloc,
-                word_of(holder.exec_batch(alloc, statement, lists), held),
-            )
-        }
-        "close" => said(alloc, word_of(holder.close(alloc, statement), held)),
-        _ => executed(alloc, holder, statement, name, rest),
+    if name == "close" {
+        return said(alloc, word_of(holder.close(alloc, statement), held));
     }
+    let text = run(alloc, holder, &statement, name, rest);
+    drop(statement);
+    text
 }
 
 /// What a call returns, in the text of `{:?}`. After `send ` is one that only sends or reads.
@@ -145,7 +166,7 @@ pub fn answer_at<C: Queryable>(
     let (name, rest) = call.split_once(' ').unwrap_or((call, ""));
     match name {
         "prep" => {
-            let prepared = holder.prep(alloc, blob_of(alloc, rest));
+            let prepared = holder.prep(alloc, &rest);
             said(alloc, word_of(prepared, held))
         }
         "send" => said(alloc, sent(alloc, holder, held, rest)),
@@ -159,17 +180,17 @@ pub fn answer_at<C: Queryable>(
     }
 }
 
-// The connection is lent for a query and a ping.
-fn lend<L: BlockingLink>(
+/// The holder is lent for a query and a ping.
+pub fn lend<C: Queryable>(
     alloc: Global,
-    conn: &mut Conn<L>,
+    holder: &mut C,
     held: &mut Option<Statement>,
     text: &str,
 ) -> Result<String, AllocError>
-    requires { conn.old.pending ≡ None }
+    requires { (C.conn_of holder.old).pending ≡ None }
 {
-    let mut lent = Lent::new(conn);
-    let people = lent.query::<(u64, String)>(alloc, blob_of(alloc, text));
+    let mut lent = Lent::new(holder);
+    let people = lent.query::<(u64, String), _>(alloc, &text);
     let pinged = word_of(lent.ping(alloc), held);
     let text = shown(alloc, people);
     if pinged == "ok" {

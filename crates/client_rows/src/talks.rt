@@ -230,6 +230,6 @@ fn ample_query(rt: HostRuntime) -> Result<(), Fail> {
         assert!(rt; is_asked(rt.alloc(), talk), "{talk}");
         ran = ran.wrapping_add(1);
     }
-    assert!(rt; ran == 15);
+    assert!(rt; ran == 17);
     Ok(())
 }

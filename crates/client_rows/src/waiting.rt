@@ -277,6 +277,14 @@ first SELECT n, t FROM people | turn @people | Some((7, \"ann\"))
 connect | @greeting turn @login_ok | ok
 prep SELECT ? | turn @number_statement | statement
 exec 42 | turn @numbers | [5, 3]
+exec 42 of SELECT ? | turn @numbers | [5, 3]
+
+connect | @greeting turn @login_ok | ok
+exec_first 42 of SELECT ? | turn @number_statement turn @numbers | Some(5)
+exec_batch 42 42 of SELECT ? | turn @ok turn @ok | ok
+
+connect | @greeting turn @login_ok | ok
+exec 42 of SELECT ? | turn @err | error 1064
 
 connect | @greeting turn @login_ok | ok
 prep SELECT ? | turn @number_statement | statement

@@ -1,5 +1,5 @@
 -- What connecting over a world is.
-use Rattle.std.specs.Prelude.{◌≡◌, ◌⊎◌}
+use Rattle.std.specs.Prelude.{ℕ, ◌≡◌, ◌⊎◌, Bool}
 use Rattle.std.specs.declared.result.Result.{Result}
 use Rattle.std.specs.declared.result.Result.TheVariants.{Ok, Err}
 use Rattle.my_link.specs.Looks.{Looks}
@@ -7,19 +7,10 @@ use Rattle.my_opts.specs.Opts.{OptsView}
 use Rattle.my_opts_parts.specs.declared.error.UrlError.{UrlError}
 use Rattle.my_reading.specs.declared.error.Error.{Error}
 use Rattle.my_reading.specs.declared.error.Error.TheVariants as errors
-use Rattle.my_reading.specs.declared.error.IoError.TheVariants as io_errors
-use Rattle.my_reading.specs.declared.error.IoKind.TheVariants as kinds
-use Rattle.my_world.specs.World.{Chance, IsMoment, IsDrawn}
+use Rattle.my_world.specs.World.{IsMoment, IsDrawn, WorldSeen}
 use Rattle.my_conn.specs.Conn.{ConnSeen}
-use Rattle.my_conn.specs.News.{Given, NewIs}
-
--- a dial gave no link
-abbrev pub undialed : Error
-undialed = errors.Io (io_errors.Io (record { kind = kinds.Dial; place = 0 }))
-
--- Why no link was dialed: memory ran out, or the dial gave none.
-abbrev pub WhyUndialed : Error → Type 0
-WhyUndialed e = (e ≡ undialed) ⊎ (e ≡ errors.NoMemory)
+use Rattle.my_conn.specs.News.{NewIs, given_by}
+use Rattle.my_connect.specs.Dialed.{DialIs, IsTold}
 
 -- Why a text gave no options: it gives none, for this cause; or memory ran out.
 abbrev pub WhyUnread : Result OptsView UrlError → Error → Type 0
@@ -36,15 +27,32 @@ abbrev pub FailsBy : {L : Type 0} → (Error → Type 0) → Result (ConnSeen L)
 FailsBy why (Ok c) = ⊥
 FailsBy why (Err e) = why e
 
--- Over a link of the world, at its moment and by its next random word, a connection was made with these options, or its making failed.
-abbrev pub IsMadeBy : {L : Type 0} → (L → Looks) → OptsView → Chance → Result (ConnSeen L) Error → Type 0
-IsMadeBy look opts chance result = (g : Given) × NewIs look opts g result × IsMoment chance.moment g.now × IsDrawn chance.randoms g.random
+-- what a world tells of the moment and of a random word
+pub record Chances : Type 0 where
+  pub now : ℕ
+  pub random : ℕ
 
--- A link was dialed, and a connection made over it; or no link was dialed.
-abbrev pub ConnectIs : {L : Type 0} → (L → Looks) → OptsView → Chance → Result (ConnSeen L) Error → Type 0
-ConnectIs look opts chance result = IsMadeBy look opts chance result ⊎ FailsBy WhyUndialed result
+-- Over the link that was dialed a connection was made with these options, or its making failed; without a link the cause is returned.
+abbrev pub MadeOver : {L : Type 0} → (L → Looks) → (L → Bool) → OptsView → Chances → Result L Error
+    → Result (ConnSeen L) Error → Type 0
+MadeOver look socket opts told (Ok link) result = NewIs look opts (given_by look socket link told.now told.random) result
+MadeOver look socket opts told (Err e) result = result ≡ Err e
 
--- The text gives options, and a connection was made with these; or it gave none.
-abbrev pub UrlConnectIs : {L : Type 0} → (L → Looks) → Result OptsView UrlError → Chance → Result (ConnSeen L) Error → Type 0
-UrlConnectIs look read chance result = ((opts : OptsView) × (read ≡ Ok opts) × ConnectIs look opts chance result)
-    ⊎ FailsBy (WhyUnread read) result
+-- The world told the moment and its next random word, then the link was dialed, and a connection made over it.
+pub record ConnectIs {L : Type 0} (look : L → Looks) (socket : L → Bool) (opts : OptsView) (old new : WorldSeen)
+    (result : Result (ConnSeen L) Error) : Type 0 where
+  pub told : Chances
+  pub moment : IsMoment old.chance.moment told.now
+  pub random : IsDrawn old.chance.randoms told.random
+  pub mid : WorldSeen
+  pub is_told : IsTold old mid
+  pub link : Result L Error
+  pub dialed : DialIs look mid new link
+  pub made : MadeOver look socket opts told link result
+
+-- The text gives options, and a connection was made with these; or it gave none, and nothing was dialed.
+abbrev pub UrlConnectIs : {L : Type 0} → (L → Looks) → (L → Bool) → Result OptsView UrlError → WorldSeen → WorldSeen
+    → Result (ConnSeen L) Error → Type 0
+UrlConnectIs look socket read old new result =
+    ((opts : OptsView) × (read ≡ Ok opts) × ConnectIs look socket opts old new result)
+    ⊎ (FailsBy (WhyUnread read) result × (new ≡ old))

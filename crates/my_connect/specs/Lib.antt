@@ -1,1 +1,5 @@
+pub mod Idle
+pub mod Transactions
+pub mod Dialed
 pub mod Connected
+pub mod Refuted

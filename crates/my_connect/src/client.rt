@@ -3,6 +3,8 @@ ghost use Rattle.std.specs.Prelude.{◌≡◌, None, IfErr, OkIff};
 ghost use Rattle.my_handshake.specs.Version.{version_of};
 ghost use Rattle.my_conn.specs.Conn.{ConnSeen};
 ghost use Rattle.my_conn.specs.Drives.{DoneIs};
+ghost use Rattle.my_conn.specs.Forgets.{ForgetIs};
+ghost use Rattle.my_connect.specs.Idle.{idle_of};
 ghost use Rattle.my_conn.specs.Facts.{affected_by, info_by, insert_by, warnings_by};
 ghost use Rattle.my_reading.specs.declared.call.Call.TheVariants as calls;
 ghost use Rattle.my_reading.specs.declared.call.CallKind.TheVariants as kinds;
@@ -115,6 +117,13 @@ impl<L> Client<L> {
         self.conn.info()
     }
 
+    /// Gives the transaction up, where the server has one: it is rolled back before the next command. Nothing is sent.
+    pub fn forget_transaction(&mut self)
+        ensures { ForgetIs self.old self.new }
+    {
+        self.conn.forget_transaction();
+    }
+
     /// Sets the moment of its calls, in milliseconds.
     pub fn set_now(&mut self, now: u64)
         ensures { self.new ≡ record self.old { fixed = record self.old.fixed { now = now } } }
@@ -133,13 +142,17 @@ impl<L: BlockingLink + Drop> Client<L> {
 }
 
 impl<L: BlockingLink> Calls for Client<L> {
-    ghost use Rattle.std.specs.Prelude.{None};
+    ghost use Rattle.std.specs.Prelude.{[]};
 
     type L = L;
 
-    ghost conn_of = { λ c. record c { pending = None } };
+    ghost conn_of = { λ c. idle_of c };
 
-    ghost loan_of = { λ c. None };
+    ghost loans_of = { λ c. [] };
+
+    fn conn(&self) -> &Conn<L> {
+        &self.conn
+    }
 
     fn ping(&mut self, alloc: Global) -> Result<(), Error> {
         self.conn.ping(alloc)
@@ -177,6 +190,10 @@ impl<L: BlockingLink> Calls for Client<L> {
 
     fn next_row(&mut self, alloc: Global) -> Result<NextAnswer, Error> {
         self.conn.next_row(alloc)
+    }
+
+    fn take_set(&mut self, alloc: Global) -> Result<bool, Error> {
+        Calls::take_set(&mut self.conn, alloc)
     }
 
     fn drop_rest(&mut self, alloc: Global) -> Result<(), Error> {

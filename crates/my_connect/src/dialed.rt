@@ -1,7 +1,8 @@
 //! A client over a world.
-ghost use Rattle.std.specs.Prelude.{◌≡◌, IfErr};
+ghost use Rattle.std.specs.Prelude.{◌≡◌};
 ghost use Rattle.my_opts.specs.Url.{options_of};
-ghost use Rattle.my_connect.specs.Connected.{ConnectIs, OptionsAre, UrlConnectIs, WhyUndialed, undialed};
+ghost use Rattle.my_connect.specs.Connected.{ConnectIs, OptionsAre, UrlConnectIs};
+ghost use Rattle.my_connect.specs.Dialed.{DialIs, undialed};
 
 use crate::client::Client;
 use my_conn::Conn;
@@ -39,7 +40,7 @@ fn undialed() -> Error
 
 // The link of the number 0, dialed at the target of the options.
 fn dial<W: World>(alloc: Global, opts: &Opts, world: &mut W) -> Result<W::L, Error>
-    ensures { IfErr result WhyUndialed }
+    ensures { DialIs W.L.looks (W.seen world.old) (W.seen world.new) result }
 {
     let target = match opts.target(alloc) {
         Ok(target) => target,
@@ -49,7 +50,8 @@ fn dial<W: World>(alloc: Global, opts: &Opts, world: &mut W) -> Result<W::L, Err
     drop(target);
     match step {
         DialStep::Link(link) => Ok(link),
-        DialStep::NotYet | DialStep::Failed => Err(undialed()),
+        DialStep::NotYet => Err(undialed()),
+        DialStep::Failed => Err(undialed()),
     }
 }
 
@@ -62,7 +64,7 @@ pub fn connect_with<W: World>(
 ) -> Result<Client<W::L>, Error>
 where
     W::L: BlockingLink + Drop,
-    ensures { ConnectIs W.L.looks opts (W.seen world.old).chance result }
+    ensures { ConnectIs W.L.looks W.L.socket opts (W.seen world.old) (W.seen world.new) result }
 {
     let now = world.now();
     let random = world.random();
@@ -83,7 +85,7 @@ where
 pub fn connect<W: World>(alloc: Global, url: &str, world: &mut W) -> Result<Client<W::L>, Error>
 where
     W::L: BlockingLink + Drop,
-    ensures { UrlConnectIs W.L.looks (options_of url.now) (W.seen world.old).chance result }
+    ensures { UrlConnectIs W.L.looks W.L.socket (options_of url.now) (W.seen world.old) (W.seen world.new) result }
 {
     match options(alloc, url) {
         Ok(opts) => connect_with(alloc, opts, world),

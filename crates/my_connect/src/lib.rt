@@ -4,6 +4,8 @@
 
 mod client;
 mod dialed;
+pub mod laws;
+mod transaction;
 
 pub use client::Client;
 pub use dialed::{connect, connect_with};
@@ -13,8 +15,11 @@ pub use my_link::BlockingLink;
 pub use my_opts::Opts;
 pub use my_opts_parts::TxOpts;
 pub use my_params::Params;
-pub use my_query::{Calls, Lent, QueryError, Queryable};
+pub use my_query::{
+    AsQuery, Calls, Lent, QueryError, Queryable, StatementLike, bytes, named, positional, text,
+};
 pub use my_reading::Error;
 pub use my_statements::Statement;
 pub use my_value::{FromRow, Row, Value};
 pub use my_world::World;
+pub use transaction::Transaction;

@@ -3,9 +3,7 @@ use Rattle.std.specs.Prelude.{◌≡◌}
 use Rattle.std.specs.declared.result.Result.{Result}
 use Rattle.std.specs.declared.result.Result.TheVariants.{Ok, Err}
 use Rattle.my_link.specs.Looks.{Looks}
-use Rattle.my_reading.specs.declared.call.Call.{Call}
 use Rattle.my_reading.specs.declared.call.Call.TheVariants as calls
-use Rattle.my_reading.specs.declared.call.CallKind.{CallKind}
 use Rattle.my_reading.specs.declared.call.CallKind.TheVariants as kinds
 use Rattle.my_reading.specs.declared.error.Error.{Error}
 use Rattle.my_conn.specs.Conn.{ConnSeen}
@@ -31,10 +29,10 @@ ReadIs {L} {A} look reads (Ok done) old new result = (r : Result A QueryError) �
     × RestIs look r mid new result
 ReadIs look reads (Err error) old new result = (result ≡ Err (Client error)) × (new ≡ old)
 
--- This call began an answer, this was read of it, and the rest dropped. The first of these that failed was the last call.
-abbrev pub AnswerIs : {L A : Type 0} → (L → Looks) → CallKind → Call → (ConnSeen L → ConnSeen L → Result A QueryError → Type 0)
-    → ConnSeen L → ConnSeen L → Result A QueryError → Type 0
-AnswerIs {L} look c call reads old new result = (r : Result (Unit {0}) Error) × (mid : ConnSeen L) × DoneIs look c call old mid r
+-- An answer was begun so, this was read of it, and the rest dropped. The first of these that failed was the last.
+abbrev pub AnswerIs : {L A : Type 0} → (L → Looks) → (ConnSeen L → ConnSeen L → Result (Unit {0}) Error → Type 0)
+    → (ConnSeen L → ConnSeen L → Result A QueryError → Type 0) → ConnSeen L → ConnSeen L → Result A QueryError → Type 0
+AnswerIs {L} look begins reads old new result = (r : Result (Unit {0}) Error) × (mid : ConnSeen L) × begins old mid r
     × ReadIs look reads r mid new result
 
 -- Nothing was read.

@@ -1,3 +1,5 @@
+pub mod Fatal
+pub mod Begins
 pub mod Reads
 pub mod Gathers
 pub mod Answers

@@ -5,7 +5,7 @@ ghost use Rattle.my_query.specs.Gathers.{Collects, Folds, Maps};
 use std::alloc::AllocError;
 
 /// What takes in items, one after another.
-pub(crate) trait Gather<T>: Sized {
+pub trait Gather<T>: Sized {
     /// It may take in an item.
     ghost ready: { Self → Type 0 };
 
@@ -21,9 +21,9 @@ pub(crate) trait Gather<T>: Sized {
 
 /// The value so far, and the function that folds.
 #[derive(Drop)]
-pub(crate) struct Folded<U, F> {
-    pub(crate) value: U,
-    pub(crate) f: F,
+pub struct Folded<U, F> {
+    pub value: U,
+    pub f: F,
 }
 
 impl<T, U, F: FnMut(U, T) -> U> Gather<T> for Folded<U, F> {
@@ -40,8 +40,8 @@ impl<T, U, F: FnMut(U, T) -> U> Gather<T> for Folded<U, F> {
 
 /// The items so far.
 #[derive(Drop)]
-pub(crate) struct Collected<T> {
-    pub(crate) items: Vec<T>,
+pub struct Collected<T> {
+    pub items: Vec<T>,
 }
 
 impl<T: Drop> Gather<T> for Collected<T> {
@@ -60,9 +60,9 @@ impl<T: Drop> Gather<T> for Collected<T> {
 
 /// What the function returned of the items so far, and the function.
 #[derive(Drop)]
-pub(crate) struct Mapped<U, F> {
-    pub(crate) items: Vec<U>,
-    pub(crate) f: F,
+pub struct Mapped<U, F> {
+    pub items: Vec<U>,
+    pub f: F,
 }
 
 impl<T, U: Drop, F: FnMut(T) -> U> Gather<T> for Mapped<U, F> {

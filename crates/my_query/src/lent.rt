@@ -1,56 +1,59 @@
-//! A connection that is lent.
+//! A holder that is lent.
 ghost use Rattle.std.specs.Prelude.{◌≡◌};
 
 use crate::calls::Calls;
 use crate::queryable::Queryable;
 use my_conn::{Conn, NextAnswer};
 use my_frame::Blob;
-use my_link::BlockingLink;
 use my_opts_parts::TxOpts;
 use my_params::Params;
 use my_reading::Error;
 use my_statements::Statement;
 use std::alloc::Global;
 
-/// A connection that is lent: its calls are that connection's.
+/// A holder that is lent: its calls are that holder's.
 #[derive(Drop)]
-pub struct Lent<'a, L> {
-    pub conn: &'a mut Conn<L>,
+pub struct Lent<'a, C> {
+    pub holder: &'a mut C,
 }
 
-impl<'a, L> Lent<'a, L> {
-    /// Lends the connection until this is let go.
-    pub fn new(conn: &'a mut Conn<L>) -> Lent<'a, L>
-        ensures same { result.conn.ghost_name ≡ conn.entry.ghost_name }
-        ensures value { result.conn.now ≡ conn.old }
+impl<'a, C> Lent<'a, C> {
+    /// Lends the holder until this is let go.
+    pub fn new(holder: &'a mut C) -> Lent<'a, C>
+        ensures same { result.holder.ghost_name ≡ holder.entry.ghost_name }
+        ensures value { result.holder.now ≡ holder.old }
     {
-        Lent { conn }
+        Lent { holder }
     }
 }
 
-impl<'a, L: BlockingLink> Calls for Lent<'a, L> {
-    ghost use Rattle.std.specs.Prelude.{Some};
+impl<'a, C: Calls> Calls for Lent<'a, C> {
+    ghost use Rattle.std.specs.Prelude.{◌∷◌};
 
-    type L = L;
+    type L = C::L;
 
-    ghost conn_of = { λ l. l.conn.now };
+    ghost conn_of = { λ l. C.conn_of l.holder.now };
 
-    ghost loan_of = { λ l. Some l.conn.ghost_name };
+    ghost loans_of = { λ l. l.holder.ghost_name ∷ C.loans_of l.holder.now };
+
+    fn conn(&self) -> &Conn<C::L> {
+        self.holder.conn()
+    }
 
     fn ping(&mut self, alloc: Global) -> Result<(), Error> {
-        Conn::ping(&mut *self.conn, alloc)
+        self.holder.ping(alloc)
     }
 
     fn send_prepare(&mut self, alloc: Global, query: Blob) -> Result<Statement, Error> {
-        self.conn.send_prepare(alloc, query)
+        self.holder.send_prepare(alloc, query)
     }
 
     fn send_close(&mut self, alloc: Global, statement: Statement) -> Result<(), Error> {
-        self.conn.send_close(alloc, statement)
+        self.holder.send_close(alloc, statement)
     }
 
     fn send_query(&mut self, alloc: Global, query: Blob) -> Result<(), Error> {
-        self.conn.send_query(alloc, query)
+        self.holder.send_query(alloc, query)
     }
 
     fn send_execution(
@@ -59,7 +62,7 @@ impl<'a, L: BlockingLink> Calls for Lent<'a, L> {
         statement: Statement,
         params: Params,
     ) -> Result<(), Error> {
-        self.conn.send_execution(alloc, statement, params)
+        self.holder.send_execution(alloc, statement, params)
     }
 
     fn send_batch(
@@ -68,28 +71,32 @@ impl<'a, L: BlockingLink> Calls for Lent<'a, L> {
         statement: Statement,
         lists: Vec<Params>,
     ) -> Result<(), Error> {
-        self.conn.send_batch(alloc, statement, lists)
+        self.holder.send_batch(alloc, statement, lists)
     }
 
     fn next_row(&mut self, alloc: Global) -> Result<NextAnswer, Error> {
-        self.conn.next_row(alloc)
+        self.holder.next_row(alloc)
+    }
+
+    fn take_set(&mut self, alloc: Global) -> Result<bool, Error> {
+        self.holder.take_set(alloc)
     }
 
     fn drop_rest(&mut self, alloc: Global) -> Result<(), Error> {
-        self.conn.drop_rest(alloc)
+        self.holder.drop_rest(alloc)
     }
 
     fn send_begin(&mut self, alloc: Global, opts: TxOpts) -> Result<(), Error> {
-        Conn::send_begin(&mut *self.conn, alloc, opts)
+        self.holder.send_begin(alloc, opts)
     }
 
     fn send_commit(&mut self, alloc: Global) -> Result<(), Error> {
-        Conn::send_commit(&mut *self.conn, alloc)
+        self.holder.send_commit(alloc)
     }
 
     fn send_rollback(&mut self, alloc: Global) -> Result<(), Error> {
-        Conn::send_rollback(&mut *self.conn, alloc)
+        self.holder.send_rollback(alloc)
     }
 }
 
-impl<'a, L: BlockingLink> Queryable for Lent<'a, L> {}
+impl<'a, C: Calls> Queryable for Lent<'a, C> {}

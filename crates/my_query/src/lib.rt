@@ -1,15 +1,27 @@
-//! Rows in one call: queries and statements whose rows are collected, folded or mapped, at a connection or at one that is lent.
+//! Rows in one call: queries and statements whose rows are collected, folded or mapped, at a connection or at one that
+//! is lent.
 #![tactic(auto)]
 
+mod as_query;
+mod begins;
 mod calls;
 mod error;
 mod gather;
+mod given;
 mod lent;
 mod queryable;
 mod read;
 mod rest;
+mod statement_like;
 
+pub use as_query::AsQuery;
+pub use begins::{execute, send_text};
 pub use calls::Calls;
 pub use error::QueryError;
+pub use gather::{Collected, Folded, Gather, Mapped};
+pub use given::{bytes, named, positional, text};
 pub use lent::Lent;
 pub use queryable::Queryable;
+pub use read::{next_item, read_set};
+pub use rest::drop_after;
+pub use statement_like::{StatementLike, ToStatementResult};

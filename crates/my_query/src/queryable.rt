@@ -3,12 +3,14 @@ ghost use Rattle.std.specs.Prelude.{◌≡◌, None};
 ghost use Rattle.my_reading.specs.declared.call.Call.TheVariants as calls;
 ghost use Rattle.my_reading.specs.declared.call.CallKind.TheVariants as kinds;
 
+use crate::as_query::AsQuery;
+use crate::begins::{execute, execute_each, prepare_text, send_text};
 use crate::calls::Calls;
 use crate::error::QueryError;
 use crate::gather::{Collected, Folded, Mapped};
 use crate::rest::{drop_answer, first_of_answer, gather_answer};
+use crate::statement_like::StatementLike;
 use my_conn::Conn;
-use my_frame::Blob;
 use my_link::BlockingLink;
 use my_params::Params;
 use my_reading::Error;
@@ -23,20 +25,22 @@ pub trait Queryable: Calls {
     ghost use Rattle.my_query.specs.Answers.{AnswerIs, NothingIs};
     ghost use Rattle.my_query.specs.Calls.{CollectsFirst, FoldsFirst, MapsFirst};
     ghost use Rattle.my_query.specs.Reads.{ItemIs};
-    ghost use Rattle.my_conn.specs.Drives.{DoneIs, PrepareIs};
+    ghost use Rattle.my_query.specs.Begins.{BatchIs, ExecuteIs, QueryIs, StatementIs};
+    ghost use Rattle.my_query.specs.declared.statement_like.ToStatementResult.TheVariants as likes;
+    ghost use Rattle.my_conn.specs.Drives.{DoneIs};
 
     /// Sends a query, and returns what the rows of the first set became, in order. The rest of the answer is dropped.
     ///
     /// A row that doesn't convert ends it: that row is in the error, and the rest of the answer is still to be read.
-    fn query<T: FromRow + Drop>(&mut self, alloc: Global, query: Blob) -> Result<Vec<T>, QueryError>
+    fn query<T: FromRow + Drop, Q: AsQuery>(&mut self, alloc: Global, query: &Q) -> Result<Vec<T>, QueryError>
         requires { (Self.conn_of self.old).pending ≡ None }
         ensures idle { (Self.conn_of self.new).pending ≡ None }
-        ensures loan { Self.loan_of self.new ≡ Self.loan_of self.old }
-        ensures collects { CollectsFirst Self.L.looks kinds.Query (calls.Query query)
+        ensures loans { Self.loans_of self.new ≡ Self.loans_of self.old }
+        ensures collects { CollectsFirst Self.L.looks (QueryIs Self.L.looks (Q.text_of query.now))
             T.row_converts T.row_becomes
             (Self.conn_of self.old) (Self.conn_of self.new) result }
     {
-        let begun = self.send_query(alloc, query);
+        let begun = send_text::<Q, Self>(self, alloc, query);
         let start = Collected {
             items: Vec::new(alloc),
         };
@@ -48,40 +52,40 @@ pub trait Queryable: Calls {
 
     /// Sends a query, and returns what the first row of the first set became. `None`: that set has no row, or there is no set. The rest of
     /// the answer is dropped.
-    fn query_first<T: FromRow + Drop>(
+    fn query_first<T: FromRow + Drop, Q: AsQuery>(
         &mut self,
         alloc: Global,
-        query: Blob,
+        query: &Q,
     ) -> Result<Option<T>, QueryError>
         requires { (Self.conn_of self.old).pending ≡ None }
         ensures idle { (Self.conn_of self.new).pending ≡ None }
-        ensures loan { Self.loan_of self.new ≡ Self.loan_of self.old }
-        ensures first { AnswerIs Self.L.looks kinds.Query (calls.Query query)
+        ensures loans { Self.loans_of self.new ≡ Self.loans_of self.old }
+        ensures first { AnswerIs Self.L.looks (QueryIs Self.L.looks (Q.text_of query.now))
             (ItemIs Self.L.looks T.row_converts T.row_becomes)
             (Self.conn_of self.old) (Self.conn_of self.new) result }
     {
-        let begun = self.send_query(alloc, query);
+        let begun = send_text::<Q, Self>(self, alloc, query);
         first_of_answer::<T, Self>(self, alloc, begun)
     }
 
     /// Sends a query, and returns what the function makes of each row of the first set, in order. The rest of the answer is dropped.
     ///
     /// A row that doesn't convert ends it, as in `query`.
-    fn query_map<T: FromRow, U: Drop, F: FnMut(T) -> U>(
+    fn query_map<T: FromRow, Q: AsQuery, U: Drop, F: FnMut(T) -> U>(
         &mut self,
         alloc: Global,
-        query: Blob,
+        query: &Q,
         f: F,
     ) -> Result<Vec<U>, QueryError>
         requires idle { (Self.conn_of self.old).pending ≡ None }
         requires callable { F.IsAlwaysCallable f }
         ensures idle { (Self.conn_of self.new).pending ≡ None }
-        ensures loan { Self.loan_of self.new ≡ Self.loan_of self.old }
-        ensures maps { MapsFirst Self.L.looks kinds.Query (calls.Query query)
+        ensures loans { Self.loans_of self.new ≡ Self.loans_of self.old }
+        ensures maps { MapsFirst Self.L.looks (QueryIs Self.L.looks (Q.text_of query.now))
             T.row_converts T.row_becomes (λ p x v q. F.step p x v q) f
             (Self.conn_of self.old) (Self.conn_of self.new) result }
     {
-        let begun = self.send_query(alloc, query);
+        let begun = send_text::<Q, Self>(self, alloc, query);
         let start = Mapped {
             items: Vec::new(alloc),
             f,
@@ -95,22 +99,22 @@ pub trait Queryable: Calls {
     /// Sends a query, and folds the function over the rows of the first set, in order, from `init`. The rest of the answer is dropped.
     ///
     /// A row that doesn't convert ends it, as in `query`.
-    fn query_fold<T: FromRow, U: Drop, F: FnMut(U, T) -> U>(
+    fn query_fold<T: FromRow, Q: AsQuery, U: Drop, F: FnMut(U, T) -> U>(
         &mut self,
         alloc: Global,
-        query: Blob,
+        query: &Q,
         init: U,
         f: F,
     ) -> Result<U, QueryError>
         requires idle { (Self.conn_of self.old).pending ≡ None }
         requires callable { F.IsAlwaysCallable f }
         ensures idle { (Self.conn_of self.new).pending ≡ None }
-        ensures loan { Self.loan_of self.new ≡ Self.loan_of self.old }
-        ensures folds { FoldsFirst Self.L.looks kinds.Query (calls.Query query)
+        ensures loans { Self.loans_of self.new ≡ Self.loans_of self.old }
+        ensures folds { FoldsFirst Self.L.looks (QueryIs Self.L.looks (Q.text_of query.now))
             T.row_converts T.row_becomes (λ p x y v q. F.step p x y v q) init f
             (Self.conn_of self.old) (Self.conn_of self.new) result }
     {
-        let begun = self.send_query(alloc, query);
+        let begun = send_text::<Q, Self>(self, alloc, query);
         let start = Folded { value: init, f };
         match gather_answer::<T, Folded<U, F>, Self>(self, alloc, begun, start) {
             Ok(folded) => return Ok(folded.value),
@@ -119,35 +123,35 @@ pub trait Queryable: Calls {
     }
 
     /// Sends a query, and drops the answer.
-    fn query_drop(&mut self, alloc: Global, query: Blob) -> Result<(), QueryError>
+    fn query_drop<Q: AsQuery>(&mut self, alloc: Global, query: &Q) -> Result<(), QueryError>
         requires { (Self.conn_of self.old).pending ≡ None }
         ensures idle { (Self.conn_of self.new).pending ≡ None }
-        ensures loan { Self.loan_of self.new ≡ Self.loan_of self.old }
-        ensures drops { AnswerIs Self.L.looks kinds.Query (calls.Query query) NothingIs
+        ensures loans { Self.loans_of self.new ≡ Self.loans_of self.old }
+        ensures drops { AnswerIs Self.L.looks (QueryIs Self.L.looks (Q.text_of query.now)) NothingIs
             (Self.conn_of self.old) (Self.conn_of self.new) result }
     {
-        let begun = self.send_query(alloc, query);
+        let begun = send_text::<Q, Self>(self, alloc, query);
         drop_answer(self, alloc, begun)
     }
 
-    /// Executes a statement with these parameters, and returns what the rows of the first set became, in order. The rest of the
+    /// Executes the statement that is named with these parameters, and returns what the rows of the first set became, in order. The rest of the
     /// answer is dropped.
     ///
     /// A row that doesn't convert ends it: that row is in the error, and the rest of the answer is still to be read.
-    fn exec<T: FromRow + Drop>(
+    fn exec<T: FromRow + Drop, S: StatementLike>(
         &mut self,
         alloc: Global,
-        statement: Statement,
+        stmt: &S,
         params: Params,
     ) -> Result<Vec<T>, QueryError>
         requires { (Self.conn_of self.old).pending ≡ None }
         ensures idle { (Self.conn_of self.new).pending ≡ None }
-        ensures loan { Self.loan_of self.new ≡ Self.loan_of self.old }
-        ensures collects { CollectsFirst Self.L.looks kinds.Execute (calls.Execute statement params)
+        ensures loans { Self.loans_of self.new ≡ Self.loans_of self.old }
+        ensures collects { CollectsFirst Self.L.looks (ExecuteIs Self.L.looks (S.like_of stmt.now) params)
             T.row_converts T.row_becomes
             (Self.conn_of self.old) (Self.conn_of self.new) result }
     {
-        let begun = self.send_execution(alloc, statement, params);
+        let begun = execute::<S, Self>(self, alloc, stmt, params);
         let start = Collected {
             items: Vec::new(alloc),
         };
@@ -157,45 +161,45 @@ pub trait Queryable: Calls {
         }
     }
 
-    /// Executes a statement with these parameters, and returns what the first row of the first set became. `None`: that set has
+    /// Executes the statement that is named with these parameters, and returns what the first row of the first set became. `None`: that set has
     /// no row, or there is no set. The rest of the answer is dropped.
-    fn exec_first<T: FromRow + Drop>(
+    fn exec_first<T: FromRow + Drop, S: StatementLike>(
         &mut self,
         alloc: Global,
-        statement: Statement,
+        stmt: &S,
         params: Params,
     ) -> Result<Option<T>, QueryError>
         requires { (Self.conn_of self.old).pending ≡ None }
         ensures idle { (Self.conn_of self.new).pending ≡ None }
-        ensures loan { Self.loan_of self.new ≡ Self.loan_of self.old }
-        ensures first { AnswerIs Self.L.looks kinds.Execute (calls.Execute statement params)
+        ensures loans { Self.loans_of self.new ≡ Self.loans_of self.old }
+        ensures first { AnswerIs Self.L.looks (ExecuteIs Self.L.looks (S.like_of stmt.now) params)
             (ItemIs Self.L.looks T.row_converts T.row_becomes)
             (Self.conn_of self.old) (Self.conn_of self.new) result }
     {
-        let begun = self.send_execution(alloc, statement, params);
+        let begun = execute::<S, Self>(self, alloc, stmt, params);
         first_of_answer::<T, Self>(self, alloc, begun)
     }
 
-    /// Executes a statement with these parameters, and returns what the function makes of each row of the first set, in order. The
+    /// Executes the statement that is named with these parameters, and returns what the function makes of each row of the first set, in order. The
     /// rest of the answer is dropped.
     ///
     /// A row that doesn't convert ends it, as in `exec`.
-    fn exec_map<T: FromRow, U: Drop, F: FnMut(T) -> U>(
+    fn exec_map<T: FromRow, S: StatementLike, U: Drop, F: FnMut(T) -> U>(
         &mut self,
         alloc: Global,
-        statement: Statement,
+        stmt: &S,
         params: Params,
         f: F,
     ) -> Result<Vec<U>, QueryError>
         requires idle { (Self.conn_of self.old).pending ≡ None }
         requires callable { F.IsAlwaysCallable f }
         ensures idle { (Self.conn_of self.new).pending ≡ None }
-        ensures loan { Self.loan_of self.new ≡ Self.loan_of self.old }
-        ensures maps { MapsFirst Self.L.looks kinds.Execute (calls.Execute statement params)
+        ensures loans { Self.loans_of self.new ≡ Self.loans_of self.old }
+        ensures maps { MapsFirst Self.L.looks (ExecuteIs Self.L.looks (S.like_of stmt.now) params)
             T.row_converts T.row_becomes (λ p x v q. F.step p x v q) f
             (Self.conn_of self.old) (Self.conn_of self.new) result }
     {
-        let begun = self.send_execution(alloc, statement, params);
+        let begun = execute::<S, Self>(self, alloc, stmt, params);
         let start = Mapped {
             items: Vec::new(alloc),
             f,
@@ -206,14 +210,14 @@ pub trait Queryable: Calls {
         }
     }
 
-    /// Executes a statement with these parameters, and folds the function over the rows of the first set, in order, from `init`.
+    /// Executes the statement that is named with these parameters, and folds the function over the rows of the first set, in order, from `init`.
     /// The rest of the answer is dropped.
     ///
     /// A row that doesn't convert ends it, as in `exec`.
-    fn exec_fold<T: FromRow, U: Drop, F: FnMut(U, T) -> U>(
+    fn exec_fold<T: FromRow, S: StatementLike, U: Drop, F: FnMut(U, T) -> U>(
         &mut self,
         alloc: Global,
-        statement: Statement,
+        stmt: &S,
         params: Params,
         init: U,
         f: F,
@@ -221,12 +225,12 @@ pub trait Queryable: Calls {
         requires idle { (Self.conn_of self.old).pending ≡ None }
         requires callable { F.IsAlwaysCallable f }
         ensures idle { (Self.conn_of self.new).pending ≡ None }
-        ensures loan { Self.loan_of self.new ≡ Self.loan_of self.old }
-        ensures folds { FoldsFirst Self.L.looks kinds.Execute (calls.Execute statement params)
+        ensures loans { Self.loans_of self.new ≡ Self.loans_of self.old }
+        ensures folds { FoldsFirst Self.L.looks (ExecuteIs Self.L.looks (S.like_of stmt.now) params)
             T.row_converts T.row_becomes (λ p x y v q. F.step p x y v q) init f
             (Self.conn_of self.old) (Self.conn_of self.new) result }
     {
-        let begun = self.send_execution(alloc, statement, params);
+        let begun = execute::<S, Self>(self, alloc, stmt, params);
         let start = Folded { value: init, f };
         match gather_answer::<T, Folded<U, F>, Self>(self, alloc, begun, start) {
             Ok(folded) => return Ok(folded.value),
@@ -234,30 +238,31 @@ pub trait Queryable: Calls {
         }
     }
 
-    /// Executes a statement with these parameters, and drops the answer.
-    fn exec_drop(
+    /// Executes the statement that is named with these parameters, and drops the answer.
+    fn exec_drop<S: StatementLike>(
         &mut self,
         alloc: Global,
-        statement: Statement,
+        stmt: &S,
         params: Params,
     ) -> Result<(), QueryError>
         requires { (Self.conn_of self.old).pending ≡ None }
         ensures idle { (Self.conn_of self.new).pending ≡ None }
-        ensures loan { Self.loan_of self.new ≡ Self.loan_of self.old }
-        ensures drops { AnswerIs Self.L.looks kinds.Execute (calls.Execute statement params) NothingIs
+        ensures loans { Self.loans_of self.new ≡ Self.loans_of self.old }
+        ensures drops { AnswerIs Self.L.looks (ExecuteIs Self.L.looks (S.like_of stmt.now) params) NothingIs
             (Self.conn_of self.old) (Self.conn_of self.new) result }
     {
-        let begun = self.send_execution(alloc, statement, params);
+        let begun = execute::<S, Self>(self, alloc, stmt, params);
         drop_answer(self, alloc, begun)
     }
 
     /// Prepares a statement of this text, which may have named parameters. One that is cached is returned at once.
-    fn prep(&mut self, alloc: Global, query: Blob) -> Result<Statement, Error>
+    fn prep<Q: AsQuery>(&mut self, alloc: Global, query: &Q) -> Result<Statement, Error>
         requires { (Self.conn_of self.old).pending ≡ None }
-        ensures prepares { PrepareIs Self.L.looks query (Self.conn_of self.old) (Self.conn_of self.new) result }
-        ensures loan { Self.loan_of self.new ≡ Self.loan_of self.old }
+        ensures prepares { StatementIs Self.L.looks (likes.Mediate (Q.text_of query.now))
+            (Self.conn_of self.old) (Self.conn_of self.new) result }
+        ensures loans { Self.loans_of self.new ≡ Self.loans_of self.old }
     {
-        self.send_prepare(alloc, query)
+        prepare_text::<Q, Self>(self, alloc, query)
     }
 
     /// Closes a statement: it isn't cached any more, and the server forgets it.
@@ -265,24 +270,24 @@ pub trait Queryable: Calls {
         requires { (Self.conn_of self.old).pending ≡ None }
         ensures done { DoneIs Self.L.looks kinds.CloseStmt (calls.CloseStmt statement.inner.id)
             (Self.conn_of self.old) (Self.conn_of self.new) result }
-        ensures loan { Self.loan_of self.new ≡ Self.loan_of self.old }
+        ensures loans { Self.loans_of self.new ≡ Self.loans_of self.old }
     {
         self.send_close(alloc, statement)
     }
 
-    /// Executes a statement once with each of these parameters, and passes over each result.
-    fn exec_batch(
+    /// Executes the statement that is named once with each of these parameters, and passes over each result.
+    fn exec_batch<S: StatementLike>(
         &mut self,
         alloc: Global,
-        statement: Statement,
+        stmt: &S,
         lists: Vec<Params>,
     ) -> Result<(), Error>
         requires { (Self.conn_of self.old).pending ≡ None }
-        ensures done { DoneIs Self.L.looks kinds.Batch (calls.Batch statement lists.items)
+        ensures executes { BatchIs Self.L.looks (S.like_of stmt.now) lists.items
             (Self.conn_of self.old) (Self.conn_of self.new) result }
-        ensures loan { Self.loan_of self.new ≡ Self.loan_of self.old }
+        ensures loans { Self.loans_of self.new ≡ Self.loans_of self.old }
     {
-        self.send_batch(alloc, statement, lists)
+        execute_each::<S, Self>(self, alloc, stmt, lists)
     }
 }
 

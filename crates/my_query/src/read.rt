@@ -11,14 +11,14 @@ use my_reading::Error;
 use my_value::{FromRow, FromRowError};
 use std::alloc::Global;
 
-// Reads the next row, and converts it. `None`: the set ended, or nothing is left.
-pub(crate) fn next_item<T: FromRow, C: Calls>(
+/// Reads the next row, and converts it. `None`: the set ended, or nothing is left.
+pub fn next_item<T: FromRow, C: Calls>(
     conn: &mut C,
     alloc: Global,
 ) -> Result<Option<T>, QueryError>
     requires { (C.conn_of conn.old).pending ≡ None }
     ensures idle { (C.conn_of conn.new).pending ≡ None }
-    ensures loan { C.loan_of conn.new ≡ C.loan_of conn.old }
+    ensures loans { C.loans_of conn.new ≡ C.loans_of conn.old }
     ensures item { ItemIs C.L.looks T.row_converts T.row_becomes (C.conn_of conn.old) (C.conn_of conn.new) result }
 {
     match conn.next_row(alloc) {
@@ -33,8 +33,8 @@ pub(crate) fn next_item<T: FromRow, C: Calls>(
     }
 }
 
-// Reads the rows of the set up to its end, and gathers what they become. A set of 2^64 rows is refused as out of memory.
-pub(crate) fn read_set<T: FromRow, G: Gather<T> + Drop, C: Calls>(
+/// Reads the rows of the set up to its end, and gathers what they become. A set of 2^64 rows is refused as out of memory.
+pub fn read_set<T: FromRow, G: Gather<T> + Drop, C: Calls>(
     conn: &mut C,
     alloc: Global,
     start: G,
@@ -42,7 +42,7 @@ pub(crate) fn read_set<T: FromRow, G: Gather<T> + Drop, C: Calls>(
     requires idle { (C.conn_of conn.old).pending ≡ None }
     requires ready { G.ready start }
     ensures idle { (C.conn_of conn.new).pending ≡ None }
-    ensures loan { C.loan_of conn.new ≡ C.loan_of conn.old }
+    ensures loans { C.loans_of conn.new ≡ C.loans_of conn.old }
     ensures set { SetIs C.L.looks T.row_converts T.row_becomes G.takes start
         (C.conn_of conn.old) (C.conn_of conn.new) result }
 {

@@ -12,15 +12,15 @@ use my_reading::Error;
 use my_value::FromRow;
 use std::alloc::Global;
 
-// Drops the rest of an answer of which this was read.
-pub(crate) fn drop_after<A: Drop, C: Calls>(
+/// Drops the rest of an answer of which this was read.
+pub fn drop_after<A: Drop, C: Calls>(
     conn: &mut C,
     alloc: Global,
     read: Result<A, QueryError>,
 ) -> Result<A, QueryError>
     requires { (C.conn_of conn.old).pending ≡ None }
     ensures idle { (C.conn_of conn.new).pending ≡ None }
-    ensures loan { C.loan_of conn.new ≡ C.loan_of conn.old }
+    ensures loans { C.loans_of conn.new ≡ C.loans_of conn.old }
     ensures rest { RestIs C.L.looks read (C.conn_of conn.old) (C.conn_of conn.new) result }
 {
     match read {
@@ -42,7 +42,7 @@ pub(crate) fn gather_answer<T: FromRow, G: Gather<T> + Drop, C: Calls>(
     requires idle { (C.conn_of conn.old).pending ≡ None }
     requires ready { G.ready start }
     ensures idle { (C.conn_of conn.new).pending ≡ None }
-    ensures loan { C.loan_of conn.new ≡ C.loan_of conn.old }
+    ensures loans { C.loans_of conn.new ≡ C.loans_of conn.old }
     ensures reads { ReadIs C.L.looks (SetIs C.L.looks T.row_converts T.row_becomes G.takes start) begun
         (C.conn_of conn.old) (C.conn_of conn.new) result }
 {
@@ -63,7 +63,7 @@ pub(crate) fn first_of_answer<T: FromRow + Drop, C: Calls>(
 ) -> Result<Option<T>, QueryError>
     requires { (C.conn_of conn.old).pending ≡ None }
     ensures idle { (C.conn_of conn.new).pending ≡ None }
-    ensures loan { C.loan_of conn.new ≡ C.loan_of conn.old }
+    ensures loans { C.loans_of conn.new ≡ C.loans_of conn.old }
     ensures reads { ReadIs C.L.looks (ItemIs C.L.looks T.row_converts T.row_becomes) begun
         (C.conn_of conn.old) (C.conn_of conn.new) result }
 {
@@ -84,7 +84,7 @@ pub(crate) fn drop_answer<C: Calls>(
 ) -> Result<(), QueryError>
     requires { (C.conn_of conn.old).pending ≡ None }
     ensures idle { (C.conn_of conn.new).pending ≡ None }
-    ensures loan { C.loan_of conn.new ≡ C.loan_of conn.old }
+    ensures loans { C.loans_of conn.new ≡ C.loans_of conn.old }
     ensures reads { ReadIs C.L.looks NothingIs begun (C.conn_of conn.old) (C.conn_of conn.new) result }
 {
     match begun {

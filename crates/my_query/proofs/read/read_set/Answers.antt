@@ -31,7 +31,7 @@ rows-preserved g c =
     c.in-Ok-Some.field-0-is c.in-Ok-Some.ensures.item in
     record {
       idle = c.next_item.ensures.idle;
-      loan = c.next_item.ensures.loan ∙ c.rows.invariant.loan;
+      loans = c.next_item.ensures.loans ∙ c.rows.invariant.loans;
       ready = c.in-Ok.ensures.ready;
       gathers = (
         read.0 ∷ so.0,

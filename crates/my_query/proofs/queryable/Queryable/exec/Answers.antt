@@ -7,7 +7,7 @@ returns-in-Ok-clause-collects g c = (
   c.new.ensures.items,
   Ok c.in-Ok.collected,
   refl,
-  (c.send_execution-begun.result, g.Self.Calls.conn_of c.send_execution-begun.new.self, c.send_execution-begun.ensures.done, c.in-Ok.ensures.reads),
+  (c.execute-begun.result, g.Self.Calls.conn_of c.execute-begun.new.conn, c.execute-begun.ensures.executes, c.in-Ok.ensures.reads),
 )
 
 pub returns-in-Err-clause-collects : goal.returns-in-Err-clause-collects
@@ -16,5 +16,5 @@ returns-in-Err-clause-collects g c = (
   c.new.ensures.items,
   Err c.in-Err.error,
   refl,
-  (c.send_execution-begun.result, g.Self.Calls.conn_of c.send_execution-begun.new.self, c.send_execution-begun.ensures.done, c.in-Err.ensures.reads),
+  (c.execute-begun.result, g.Self.Calls.conn_of c.execute-begun.new.conn, c.execute-begun.ensures.executes, c.in-Err.ensures.reads),
 )

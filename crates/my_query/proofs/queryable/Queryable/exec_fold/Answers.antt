@@ -5,12 +5,12 @@ pub returns-in-Ok-clause-folds : goal.returns-in-Ok-clause-folds
 returns-in-Ok-clause-folds g c = (
   Ok c.in-Ok.folded,
   refl,
-  (c.send_execution-begun.result, g.Self.Calls.conn_of c.send_execution-begun.new.self, c.send_execution-begun.ensures.done, c.in-Ok.ensures.reads),
+  (c.execute-begun.result, g.Self.Calls.conn_of c.execute-begun.new.conn, c.execute-begun.ensures.executes, c.in-Ok.ensures.reads),
 )
 
 pub returns-in-Err-clause-folds : goal.returns-in-Err-clause-folds
 returns-in-Err-clause-folds g c = (
   Err c.in-Err.error,
   refl,
-  (c.send_execution-begun.result, g.Self.Calls.conn_of c.send_execution-begun.new.self, c.send_execution-begun.ensures.done, c.in-Err.ensures.reads),
+  (c.execute-begun.result, g.Self.Calls.conn_of c.execute-begun.new.conn, c.execute-begun.ensures.executes, c.in-Err.ensures.reads),
 )

@@ -7,7 +7,7 @@ returns-in-Ok-clause-collects g c = (
   c.new.ensures.items,
   Ok c.in-Ok.collected,
   refl,
-  (c.send_query-begun.result, g.Self.Calls.conn_of c.send_query-begun.new.self, c.send_query-begun.ensures.done, c.in-Ok.ensures.reads),
+  (c.send_text-begun.result, g.Self.Calls.conn_of c.send_text-begun.new.conn, c.send_text-begun.ensures.query, c.in-Ok.ensures.reads),
 )
 
 pub returns-in-Err-clause-collects : goal.returns-in-Err-clause-collects
@@ -16,5 +16,5 @@ returns-in-Err-clause-collects g c = (
   c.new.ensures.items,
   Err c.in-Err.error,
   refl,
-  (c.send_query-begun.result, g.Self.Calls.conn_of c.send_query-begun.new.self, c.send_query-begun.ensures.done, c.in-Err.ensures.reads),
+  (c.send_text-begun.result, g.Self.Calls.conn_of c.send_text-begun.new.conn, c.send_text-begun.ensures.query, c.in-Err.ensures.reads),
 )

@@ -5,12 +5,12 @@ pub returns-in-Ok-clause-folds : goal.returns-in-Ok-clause-folds
 returns-in-Ok-clause-folds g c = (
   Ok c.in-Ok.folded,
   refl,
-  (c.send_query-begun.result, g.Self.Calls.conn_of c.send_query-begun.new.self, c.send_query-begun.ensures.done, c.in-Ok.ensures.reads),
+  (c.send_text-begun.result, g.Self.Calls.conn_of c.send_text-begun.new.conn, c.send_text-begun.ensures.query, c.in-Ok.ensures.reads),
 )
 
 pub returns-in-Err-clause-folds : goal.returns-in-Err-clause-folds
 returns-in-Err-clause-folds g c = (
   Err c.in-Err.error,
   refl,
-  (c.send_query-begun.result, g.Self.Calls.conn_of c.send_query-begun.new.self, c.send_query-begun.ensures.done, c.in-Err.ensures.reads),
+  (c.send_text-begun.result, g.Self.Calls.conn_of c.send_text-begun.new.conn, c.send_text-begun.ensures.query, c.in-Err.ensures.reads),
 )

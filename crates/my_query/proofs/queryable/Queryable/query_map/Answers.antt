@@ -8,7 +8,7 @@ returns-in-Ok-clause-maps g c = (
   refl,
   Ok c.in-Ok.mapped,
   refl,
-  (c.send_query-begun.result, g.Self.Calls.conn_of c.send_query-begun.new.self, c.send_query-begun.ensures.done, c.in-Ok.ensures.reads),
+  (c.send_text-begun.result, g.Self.Calls.conn_of c.send_text-begun.new.conn, c.send_text-begun.ensures.query, c.in-Ok.ensures.reads),
 )
 
 pub returns-in-Err-clause-maps : goal.returns-in-Err-clause-maps
@@ -18,5 +18,5 @@ returns-in-Err-clause-maps g c = (
   refl,
   Err c.in-Err.error,
   refl,
-  (c.send_query-begun.result, g.Self.Calls.conn_of c.send_query-begun.new.self, c.send_query-begun.ensures.done, c.in-Err.ensures.reads),
+  (c.send_text-begun.result, g.Self.Calls.conn_of c.send_text-begun.new.conn, c.send_text-begun.ensures.query, c.in-Err.ensures.reads),
 )
