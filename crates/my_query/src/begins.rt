@@ -13,11 +13,7 @@ use my_statements::Statement;
 use std::alloc::Global;
 
 /// Sends a query of this text.
-pub fn send_text<Q: AsQuery, C: Calls>(
-    conn: &mut C,
-    alloc: Global,
-    query: &Q,
-) -> Result<(), Error>
+pub fn send_text<Q: AsQuery, C: Calls>(conn: &mut C, alloc: Global, query: &Q) -> Result<(), Error>
     requires { (C.conn_of conn.old).pending ≡ None }
     ensures idle { (C.conn_of conn.new).pending ≡ None }
     ensures loans { C.loans_of conn.new ≡ C.loans_of conn.old }

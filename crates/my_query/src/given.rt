@@ -23,10 +23,7 @@ pub fn bytes(alloc: Global, bytes: &[u8]) -> Result<Value, NoMemory>
 }
 
 /// Parameters by their places: one value for each `?`.
-pub fn positional<const N: usize>(
-    alloc: Global,
-    values: [Value; N],
-) -> Result<Params, NoMemory>
+pub fn positional<const N: usize>(alloc: Global, values: [Value; N]) -> Result<Params, NoMemory>
     ensures { IfOk result (λ p. p ≡ params.Positional values.entry) }
 {
     let values = Vec::from_array(alloc, values)?;
@@ -34,10 +31,7 @@ pub fn positional<const N: usize>(
 }
 
 /// Parameters by their names: a value for each name. Of several pairs with one name the last counts.
-pub fn named<const N: usize>(
-    alloc: Global,
-    pairs: [(Blob, Value); N],
-) -> Result<Params, NoMemory>
+pub fn named<const N: usize>(alloc: Global, pairs: [(Blob, Value); N]) -> Result<Params, NoMemory>
     ensures { IfOk result (λ p. p ≡ params.Named pairs.entry) }
 {
     let pairs = Vec::from_array(alloc, pairs)?;

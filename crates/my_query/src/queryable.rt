@@ -32,7 +32,11 @@ pub trait Queryable: Calls {
     /// Sends a query, and returns what the rows of the first set became, in order. The rest of the answer is dropped.
     ///
     /// A row that doesn't convert ends it: that row is in the error, and the rest of the answer is still to be read.
-    fn query<T: FromRow + Drop, Q: AsQuery>(&mut self, alloc: Global, query: &Q) -> Result<Vec<T>, QueryError>
+    fn query<T: FromRow + Drop, Q: AsQuery>(
+        &mut self,
+        alloc: Global,
+        query: &Q,
+    ) -> Result<Vec<T>, QueryError>
         requires { (Self.conn_of self.old).pending ≡ None }
         ensures idle { (Self.conn_of self.new).pending ≡ None }
         ensures loans { Self.loans_of self.new ≡ Self.loans_of self.old }

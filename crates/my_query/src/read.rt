@@ -12,10 +12,7 @@ use my_value::{FromRow, FromRowError};
 use std::alloc::Global;
 
 /// Reads the next row, and converts it. `None`: the set ended, or nothing is left.
-pub fn next_item<T: FromRow, C: Calls>(
-    conn: &mut C,
-    alloc: Global,
-) -> Result<Option<T>, QueryError>
+pub fn next_item<T: FromRow, C: Calls>(conn: &mut C, alloc: Global) -> Result<Option<T>, QueryError>
     requires { (C.conn_of conn.old).pending ≡ None }
     ensures idle { (C.conn_of conn.new).pending ≡ None }
     ensures loans { C.loans_of conn.new ≡ C.loans_of conn.old }
