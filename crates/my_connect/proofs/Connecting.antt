@@ -13,8 +13,8 @@ both_same s t n = record { reads = (t n).reads ∙ (s n).reads; writes = (t n).w
 
 -- the moment is told first, then the word
 pub both_told : {a b c : WorldSeen} → SamePlans a.plans b.plans → SamePlans b.plans c.plans → b.dials ≡ a.dials → c.dials ≡ b.dials
-    → b.takes ≡ a.takes → c.takes ≡ b.takes → b.chance ≡ a.chance → c.chance ≡ drawn b.chance → IsTold a c
-both_told p q d e t u h i = record { plans = both_same p q; dials = e ∙ d; takes = u ∙ t; chance = i ∙ ap drawn h }
+    → b.takes ≡ a.takes → c.takes ≡ b.takes → b.chance ≡ a.chance → c.chance ≡ drawn b.chance → b.back ≡ a.back → c.back ≡ b.back → IsTold a c
+both_told p q d e t u h i k l = record { plans = both_same p q; dials = e ∙ d; takes = u ∙ t; chance = i ∙ ap drawn h; back = l ∙ k }
 
 pub connects : {L : Type 0} → (look : L → Looks) (socket : L → Bool) (opts : OptsView) (first next mid last : WorldSeen) (now random : ℕ)
     (link : Result L Error) (result : Result (ConnSeen L) Error) → IsMoment first.chance.moment now → IsDrawn next.chance.randoms random

@@ -21,12 +21,14 @@ pub record IsTold (old new : WorldSeen) : Type 0 where
   pub dials : new.dials ≡ old.dials
   pub takes : new.takes ≡ old.takes
   pub chance : new.chance ≡ drawn old.chance
+  pub back : new.back ≡ old.back
 
 -- A dial of the link 0 changes its plan and the counts of dials alone.
 pub record IsNear (old new : WorldSeen) : Type 0 where
   pub others : SameBut 0 old.plans new.plans
   pub takes : new.takes ≡ old.takes
   pub chance : new.chance ≡ old.chance
+  pub back : new.back ≡ old.back
 
 -- It gave this link, as its plan has it, which is fresh.
 pub record IsGiven {L : Type 0} (look : L → Looks) (old new : WorldSeen) (link : L) : Type 0 where
