@@ -33,7 +33,8 @@ use Rattle.my_judge.specs.declared.tape.Ending.{Ending}
 use Rattle.my_judge.specs.declared.tape.Ending.TheVariants.{Answered, Failed, Cancelled}
 use Rattle.my_judge.specs.declared.tape.TapeCall.{TapeCall}
 use Rattle.my_judge.specs.Courses.{HaltIs}
-use Rattle.my_judge.specs.Ended.{EndsSo, IsCutSo, closes_at, ending_of, settled_at}
+use Rattle.my_judge.specs.Ended.{EndsSo, IsCutSo, ending_of, settled_at}
+use Rattle.my_machine.specs.Closes.{closes_at}
 use Rattle.my_judge.specs.declared.reader.Reader.{Reader}
 use Rattle.my_judge.specs.Reads.{IsRead, IsTaken, ReadsCall, halt_at, may_stand, read_of, with_span}
 use Rattle.my_judge.specs.Settled.{settled, settled_told, span_with}

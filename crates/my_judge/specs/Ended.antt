@@ -2,10 +2,9 @@
 use Rattle.std.specs.Prelude.{◌≡◌, ◌⊎◌, Option, Some, None, Bool, true, false}
 use Rattle.my_grammar.specs.declared.spot.Spot.{Spot}
 use Rattle.my_reading.specs.declared.call.CallKind.{CallKind}
-use Rattle.my_reading.specs.declared.call.CallKind.TheVariants.{NextRow, DropResult, TakeSet, SkipTaken}
 use Rattle.my_reading.specs.declared.error.IoKind.TheVariants.{Link}
-use Rattle.my_reading.specs.Endings.{awaits_head}
 use Rattle.my_reading.specs.Errors.{io_error, unexpected_eof}
+use Rattle.my_machine.specs.Closes.{closes_at}
 use Rattle.my_judge.specs.declared.stand.Stand.{Stand}
 use Rattle.my_machine.specs.declared.step.Ending.{Ending as Returned}
 use Rattle.my_machine.specs.declared.step.Ending.TheVariants as returned
@@ -13,14 +12,6 @@ use Rattle.my_machine.specs.declared.step.Stop.{Stop}
 use Rattle.my_machine.specs.declared.step.Stop.TheVariants.{Owes, Awaits, Returns}
 use Rattle.my_judge.specs.declared.tape.Ending.{Ending}
 use Rattle.my_judge.specs.declared.tape.Ending.TheVariants.{Answered, Failed, Cancelled}
-
--- whether cancelling a call there closes the connection
-abbrev pub closes_at : CallKind → Spot → Bool
-closes_at NextRow spot = awaits_head spot
-closes_at DropResult spot = awaits_head spot
-closes_at TakeSet spot = awaits_head spot
-closes_at SkipTaken spot = awaits_head spot
-closes_at kind spot = true
 
 -- cancelling a call there closes the connection or not
 abbrev pub settled_at : CallKind → Spot → Option Ending → Option Ending

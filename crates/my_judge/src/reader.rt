@@ -27,7 +27,7 @@ use crate::stand::Stand;
 use crate::tape::{Ending, Tape, TapeCall};
 use my_frame::NoMemory;
 use my_grammar::{Login, Spot};
-use my_machine::Stop;
+use my_machine::{Stop, closes_by, is_connect, is_quit, is_unrefused};
 use my_reading::{Answer, Call, CallKind, DriverError, Error, Facts};
 use std::alloc::Global;
 
@@ -38,16 +38,6 @@ pub struct Reader {
     pub closed: bool,
 }
 
-// Whether the call has nothing to do on a closed connection.
-fn is_unrefused(kind: CallKind) -> bool
-    ensures { result ≡ is_unrefused kind }
-{
-    match kind {
-        CallKind::Quit | CallKind::ForgetTransaction => true,
-        _ => false,
-    }
-}
-
 // What a call on a closed connection returns.
 fn closed_answer(call: &Call) -> my_machine::Ending
     ensures { returned_of result ≡ closed_answer call.now }
@@ -56,49 +46,6 @@ fn closed_answer(call: &Call) -> my_machine::Ending
         my_machine::Ending::Answered(Answer::Ready)
     } else {
         my_machine::Ending::Failed(Error::Driver(DriverError::ConnectionClosed))
-    }
-}
-
-fn is_quit(kind: CallKind) -> bool
-    ensures { result ≡ is_quit kind }
-{
-    match kind {
-        CallKind::Quit => true,
-        _ => false,
-    }
-}
-
-/// Whether the call connects.
-pub fn is_connect(kind: CallKind) -> bool
-    ensures { result ≡ is_connect kind }
-{
-    match kind {
-        CallKind::Connect => true,
-        _ => false,
-    }
-}
-
-// Whether the refusal closes a connection.
-fn closes_driver(refusal: &DriverError) -> bool
-    ensures { result ≡ closes_driver refusal.now }
-{
-    match refusal {
-        DriverError::ConnectionClosed
-        | DriverError::MixedParams
-        | DriverError::NestedTransaction
-        | DriverError::ReadOnlyTransNotSupported => false,
-        _ => true,
-    }
-}
-
-// Whether the error closes a connection.
-fn closes_by(error: &Error, kind: CallKind) -> bool
-    ensures { result ≡ closes_by error.now kind }
-{
-    match error {
-        Error::Driver(refusal) => closes_driver(refusal),
-        Error::Io(_) | Error::Url(_) | Error::Other(_) | Error::NoMemory => true,
-        Error::Server(_) => is_connect(kind),
     }
 }
 

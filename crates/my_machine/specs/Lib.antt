@@ -1,3 +1,5 @@
+pub mod Closes
+pub mod Found
 pub mod Parts
 pub mod Stands
 pub mod Stops

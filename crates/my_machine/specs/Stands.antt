@@ -321,6 +321,11 @@ after_kind parts.Item kinds.Row row new = turn (Stops (Returns (Answered (answer
 after_kind parts.Set (kinds.Good status) row new = turn (Stops (Returns (Answered answers.Ready))) (with_taken (with_end true new))
 after_kind part k row new = turn Stays new
 
+-- whether a payload of this kind is a row that is returned
+abbrev pub is_item_row : Part → Kind → Bool
+is_item_row parts.Item kinds.Row = true
+is_item_row part k = false
+
 -- An ERR ends the call. While a transaction is being committed it is rolled back first, and the first ERR is what the call returns.
 abbrev pub refused_at : Trial → ServerError → Stand → Turn
 refused_at trials.Off e new = turn (failure (errors.Server e)) new

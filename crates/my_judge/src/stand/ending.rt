@@ -2,39 +2,18 @@
 
 ghost use Rattle.std.specs.Prelude.{◌≡◌, ◌⊎◌, Some, true};
 ghost use Rattle.std.specs.Bool.{Decides};
-ghost use Rattle.my_reading.specs.Endings.{awaits_head};
 ghost use Rattle.my_reading.specs.Errors.{io_error, unexpected_eof};
-ghost use Rattle.my_judge.specs.Ended.{EndsSo, IsCutSo, closes_at, ending_of, settled_at};
+ghost use Rattle.my_judge.specs.Ended.{EndsSo, IsCutSo, ending_of, settled_at};
+ghost use Rattle.my_machine.specs.Closes.{closes_at};
 
 use super::Stand;
 use crate::tape::Ending;
 use my_grammar::Spot;
-use my_machine::Stop;
+use my_machine::{Stop, closes_at};
 use my_reading::{Answer, CallKind, Error, IoError, IoFault, IoKind};
 use my_statements::Statement;
 use my_statements::laws::equal_statements_are_same;
 use my_value::Row;
-
-fn awaits_head(spot: Spot) -> bool
-    ensures { result ≡ awaits_head spot }
-{
-    match spot {
-        Spot::Idle | Spot::Rows => false,
-        _ => true,
-    }
-}
-
-// Whether cancelling the call closes the connection.
-fn closes_at(kind: CallKind, spot: Spot) -> bool
-    ensures { result ≡ closes_at kind spot }
-{
-    match kind {
-        CallKind::NextRow | CallKind::DropResult | CallKind::TakeSet | CallKind::SkipTaken => {
-            awaits_head(spot)
-        }
-        _ => true,
-    }
-}
 
 // Whether the error is this fault, after `place` packets.
 fn is_fault(error: &Error, kind: IoKind, place: u64) -> bool

@@ -1,6 +1,6 @@
 //! The payload in front is read.
 
-ghost use Rattle.std.specs.Prelude.{◌≡◌, [], ◌++◌, ◌≤◌, IfOk, OnOk, drop, length};
+ghost use Rattle.std.specs.Prelude.{ℕ, ◌≡◌, [], ◌++◌, IfOk, OnOk, drop, false, length};
 ghost use Rattle.my_frame.specs.Chunks.{number_after_payload};
 ghost use Rattle.my_grammar.specs.Growth.{number_next, said};
 ghost use Rattle.my_grammar.specs.Kinds.{kind_there};
@@ -9,13 +9,16 @@ ghost use Rattle.my_reply.specs.Replies.{prepare_ok_at};
 ghost use Rattle.my_reading.specs.Course.{is_greeting, is_rows};
 ghost use Rattle.my_reading.specs.Rows.{row_of};
 ghost use Rattle.my_machine.specs.Stands.{IsTurn, failure, heard, reads, read_payload, unfit};
-ghost use Rattle.my_machine.specs.Stands.{after_greeting, after_kind, after_prepared, is_cached_by};
+ghost use Rattle.my_value.specs.RowParts.{RowParts};
+ghost use Rattle.my_machine.specs.Found.{IsPlaced, payload_in};
+ghost use Rattle.my_machine.specs.Stands.{after_greeting, after_kind, after_prepared, is_cached_by, is_item_row};
 
 use super::Stand;
+use super::payload::{FoundPayload, find_payload};
 use crate::part::Part;
 use crate::step::{Ending, Step, Stop};
-use my_frame::{CodecError, CodecFault, FramedPayload, NoMemory, ReadError, payload_in_front};
-use my_grammar::{Kind, Login, Spot, kind_at, login_response};
+use my_frame::{CodecError, CodecFault, NoMemory, ReadError};
+use my_grammar::{Kind, Login, Queue, Spot, kind_at, login_response};
 use my_reading::{Answer, Error, IoError, IoFault, IoKind, read_row};
 use my_reply::read_prepare_ok;
 use my_value::Row;
@@ -63,6 +66,29 @@ pub(super) fn is_rows(spot: Spot) -> bool
     }
 }
 
+// What the client says at once after a payload is owed, and the next sequence id is returned.
+fn say(
+    alloc: Global,
+    login: &Login,
+    kind: Kind,
+    payload: &[u8],
+    next: u8,
+    owed: &mut Queue,
+) -> Result<u8, NoMemory>
+    ensures owed { (n : ℕ) → next ≡ number_after_payload payload.now n
+        → OnOk result (owed.new ≡ owed.old ++ said login.now kind payload.now n) }
+    ensures number { (n : ℕ) → next ≡ number_after_payload payload.now n
+        → IfOk result (λ m. m ≡ number_next login.now kind payload.now n) }
+{
+    match kind {
+        Kind::Greets(_) => {
+            let response = login_response(alloc, login, payload)?;
+            owed.push_payload(response.as_slice(), next)
+        }
+        _ => Ok(next),
+    }
+}
+
 impl Stand {
     /// A payload that fits no case.
     pub(super) fn unfit(&self) -> Step
@@ -74,48 +100,25 @@ impl Stand {
         })))
     }
 
-    // What the client says at once after a payload, and the next sequence id.
-    fn say(
-        &mut self,
-        alloc: Global,
-        login: &Login,
-        kind: Kind,
-        payload: &[u8],
-        next: u8,
-    ) -> Result<(), NoMemory>
-        requires { next ≡ number_after_payload payload.now self.old.number }
-        ensures { let s = self.old in
-            let all = s.owed ++ said login.now kind payload.now s.number in
-            let number = number_next login.now kind payload.now s.number in
-            OnOk result (self.new ≡ record s { owed = all; number = number }) }
-    {
-        match kind {
-            Kind::Greets(_) => {
-                let response = login_response(alloc, login, payload)?;
-                self.number = self.owed.push_payload(response.as_slice(), next)?;
-            }
-            _ => self.number = next,
-        }
-        Ok(())
-    }
-
     /// The payload that was found is read.
     pub(super) fn hear(
         &mut self,
         alloc: Global,
         login: &Login,
         kind: Kind,
-        found: &FramedPayload,
+        found: &FoundPayload,
     ) -> Result<(), NoMemory>
-        requires next { found.now.span.next ≡ number_after_payload found.now.payload self.old.number }
-        requires fits { found.now.span.len ≤ length self.old.unread }
+        requires next { let s = self.old in
+            found.now.span.next ≡ number_after_payload (payload_in s.unread found.now) s.number }
+        requires placed { IsPlaced self.old.unread found.now }
         ensures { let s = self.old in
             let rest = drop found.now.span.len s.unread in
-            OnOk result (self.new ≡ heard login.now kind found.now.payload rest s) }
+            OnOk result (self.new ≡ heard login.now kind (payload_in s.unread found.now) rest s) }
     {
-        let payload = found.payload.as_slice();
-        self.say(alloc, login, kind, payload, found.span.next)?;
+        let payload = found.in_bytes(self.unread.as_slice());
+        let number = say(alloc, login, kind, payload, found.span.next, &mut self.owed)?;
         self.facts.learn(alloc, kind, payload)?;
+        self.number = number;
         self.context = self.context.after(kind);
         self.end_left = false;
         self.taken = self.taken && is_rows(self.context.spot);
@@ -142,31 +145,23 @@ impl Stand {
         }
     }
 
-    // What the part does after a payload of this kind, which is this row.
-    fn after_kind(&mut self, part: Part, kind: Kind, row: Row) -> Step
-        ensures { IsTurn (after_kind part kind row self.old) result self.new }
+    // What the part does after a payload of this kind, unless it is a row that is returned.
+    fn after_kind(&mut self, part: Part, kind: Kind) -> Step
+        ensures { (row : RowParts) → is_item_row part kind ≡ false
+            → IsTurn (after_kind part kind row self.old) result self.new }
     {
         match (part, kind) {
-            (Part::Item, Kind::Row) => answered(Answer::Row(row)),
             (Part::Head, Kind::Good(_)) => {
-                drop(row);
                 self.end_left = true;
                 Step::Passes
             }
-            (Part::Item, Kind::Good(_) | Kind::End(_)) => {
-                drop(row);
-                answered(Answer::SetEnd)
-            }
+            (Part::Item, Kind::Good(_) | Kind::End(_)) => answered(Answer::SetEnd),
             (Part::Set, Kind::Good(_)) => {
-                drop(row);
                 self.end_left = true;
                 self.taken = true;
                 answered(Answer::Ready)
             }
-            _ => {
-                drop(row);
-                Step::Stays
-            }
+            _ => Step::Stays,
         }
     }
 
@@ -176,17 +171,23 @@ impl Stand {
         alloc: Global,
         login: &Login,
         kind: Kind,
-        found: &FramedPayload,
+        found: &FoundPayload,
     ) -> Result<Step, NoMemory>
-        requires next { found.now.span.next ≡ number_after_payload found.now.payload self.old.number }
-        requires fits { found.now.span.len ≤ length self.old.unread }
+        requires next { let s = self.old in
+            found.now.span.next ≡ number_after_payload (payload_in s.unread found.now) s.number }
+        requires placed { IsPlaced self.old.unread found.now }
         ensures { let s = self.old in
-            let len = length (response login.now found.now.payload) in
-            let new = heard login.now kind found.now.payload (drop found.now.span.len s.unread) s in
+            let payload = payload_in s.unread found.now in
+            let len = length (response login.now payload) in
+            let new = heard login.now kind payload (drop found.now.span.len s.unread) s in
             IfOk result (λ step. IsTurn (after_greeting len s new) step self.new) }
     {
         let limit = self.context.terms.limit;
-        let length = login_response(alloc, login, found.payload.as_slice())?.len() as u64;
+        let length = login_response(
+            alloc,
+            login,
+            found.in_bytes(self.unread.as_slice()),
+        )?.len() as u64;
         if length > limit {
             return Ok(codec_failure(CodecFault::TooLarge { length, limit }));
         }
@@ -210,19 +211,47 @@ impl Stand {
         alloc: Global,
         login: &Login,
         kind: Kind,
-        found: &FramedPayload,
+        found: &FoundPayload,
     ) -> Result<Step, NoMemory>
-        requires next { found.now.span.next ≡ number_after_payload found.now.payload self.old.number }
-        requires fits { found.now.span.len ≤ length self.old.unread }
+        requires next { let s = self.old in
+            found.now.span.next ≡ number_after_payload (payload_in s.unread found.now) s.number }
+        requires placed { IsPlaced self.old.unread found.now }
         ensures { let s = self.old in
-            let new = heard login.now kind found.now.payload (drop found.now.span.len s.unread) s in
-            IfOk result (λ step. IsTurn (after_prepared (prepare_ok_at found.now.payload) s new) step self.new) }
+            let payload = payload_in s.unread found.now in
+            let new = heard login.now kind payload (drop found.now.span.len s.unread) s in
+            IfOk result (λ step. IsTurn (after_prepared (prepare_ok_at payload) s new) step self.new) }
     {
-        if self.is_cached_in(found.payload.as_slice()) {
+        if self.is_cached_in(found.in_bytes(self.unread.as_slice())) {
             return Ok(self.unfit());
         }
         self.hear(alloc, login, kind, found)?;
         Ok(Step::Stays)
+    }
+
+    // A row is read, and returned.
+    fn give_row(
+        &mut self,
+        alloc: Global,
+        login: &Login,
+        found: &FoundPayload,
+    ) -> Result<Step, NoMemory>
+        requires next { let s = self.old in
+            found.now.span.next ≡ number_after_payload (payload_in s.unread found.now) s.number }
+        requires placed { IsPlaced self.old.unread found.now }
+        ensures { let s = self.old in
+            let payload = payload_in s.unread found.now in
+            let row = row_of s.context.rows s.facts.columns payload in
+            let new = heard login.now Kind.Row payload (drop found.now.span.len s.unread) s in
+            IfOk result (λ step. IsTurn (after_kind Part.Item Kind.Row row new) step self.new) }
+    {
+        let row = self.row(alloc, found.in_bytes(self.unread.as_slice()))?;
+        match self.hear(alloc, login, Kind::Row, found) {
+            Ok(()) => Ok(answered(Answer::Row(row))),
+            Err(NoMemory) => {
+                drop(row);
+                Err(NoMemory)
+            }
+        }
     }
 
     // A payload of another kind is read.
@@ -232,21 +261,22 @@ impl Stand {
         login: &Login,
         part: Part,
         kind: Kind,
-        found: &FramedPayload,
+        found: &FoundPayload,
     ) -> Result<Step, NoMemory>
-        requires next { found.now.span.next ≡ number_after_payload found.now.payload self.old.number }
-        requires fits { found.now.span.len ≤ length self.old.unread }
+        requires next { let s = self.old in
+            found.now.span.next ≡ number_after_payload (payload_in s.unread found.now) s.number }
+        requires placed { IsPlaced self.old.unread found.now }
         ensures { let s = self.old in
-            let row = row_of s.context.rows s.facts.columns found.now.payload in
-            let new = heard login.now kind found.now.payload (drop found.now.span.len s.unread) s in
+            let payload = payload_in s.unread found.now in
+            let row = row_of s.context.rows s.facts.columns payload in
+            let new = heard login.now kind payload (drop found.now.span.len s.unread) s in
             IfOk result (λ step. IsTurn (after_kind part kind row new) step self.new) }
     {
-        let row = self.row(alloc, found.payload.as_slice())?;
-        match self.hear(alloc, login, kind, found) {
-            Ok(()) => Ok(self.after_kind(part, kind, row)),
-            Err(NoMemory) => {
-                drop(row);
-                Err(NoMemory)
+        match (part, kind) {
+            (Part::Item, Kind::Row) => self.give_row(alloc, login, found),
+            _ => {
+                self.hear(alloc, login, kind, found)?;
+                Ok(self.after_kind(part, kind))
             }
         }
     }
@@ -264,15 +294,17 @@ impl Stand {
         alloc: Global,
         login: &Login,
         part: Part,
-        found: &FramedPayload,
+        found: &FoundPayload,
     ) -> Result<Step, NoMemory>
-        requires next { found.now.span.next ≡ number_after_payload found.now.payload self.old.number }
-        requires fits { found.now.span.len ≤ length self.old.unread }
+        requires next { let s = self.old in
+            found.now.span.next ≡ number_after_payload (payload_in s.unread found.now) s.number }
+        requires placed { IsPlaced self.old.unread found.now }
         ensures { let s = self.old in
+            let payload = payload_in s.unread found.now in
             let rest = drop found.now.span.len s.unread in
-            IfOk result (λ step. IsTurn (read_payload login.now part found.now.payload rest s) step self.new) }
+            IfOk result (λ step. IsTurn (read_payload login.now part payload rest s) step self.new) }
     {
-        let kind = self.kind_here(found.payload.as_slice());
+        let kind = self.kind_here(found.in_bytes(self.unread.as_slice()));
         match kind {
             Kind::Bad => Ok(self.unfit()),
             Kind::Failed => self.fail(alloc, login, part, found),
@@ -292,7 +324,7 @@ impl Stand {
         ensures { IfOk result (λ step. IsTurn (reads login.now part self.old) step self.new) }
     {
         let limit = self.context.terms.limit;
-        match payload_in_front(alloc, self.unread.as_slice(), self.number, limit) {
+        match find_payload(alloc, self.unread.as_slice(), self.number, limit) {
             Ok(None) => Ok(Step::Stops(Stop::Awaits)),
             Ok(Some(found)) => {
                 let step = self.read_payload(alloc, login, part, &found);

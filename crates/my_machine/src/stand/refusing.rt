@@ -1,17 +1,19 @@
 //! An ERR of the server is read.
 
-ghost use Rattle.std.specs.Prelude.{◌≡◌, ◌≤◌, IfOk, drop, length};
+ghost use Rattle.std.specs.Prelude.{◌≡◌, IfOk, drop};
 ghost use Rattle.my_frame.specs.Chunks.{number_after_payload};
 ghost use Rattle.my_reply.specs.ErrPacket.{err_at};
 ghost use Rattle.my_reading.specs.Course.{is_greeting};
 ghost use Rattle.my_reading.specs.Errors.{server_error};
+ghost use Rattle.my_machine.specs.Found.{IsPlaced, payload_in};
 ghost use Rattle.my_machine.specs.Stands.{IsTurn, after_err, dropped_at, failed_at, heard};
 
 use super::Stand;
+use super::payload::FoundPayload;
 use super::reading::is_greeting;
 use crate::part::Part;
 use crate::step::Step;
-use my_frame::{FramedPayload, NoMemory, ReadError, Text};
+use my_frame::{NoMemory, ReadError, Text};
 use my_grammar::{Kind, Login};
 use my_reading::ServerError;
 use my_reply::{ErrPacket, read_err};
@@ -41,16 +43,18 @@ impl Stand {
         &mut self,
         alloc: Global,
         login: &Login,
-        found: &FramedPayload,
+        found: &FoundPayload,
     ) -> Result<Step, NoMemory>
-        requires next { found.now.span.next ≡ number_after_payload found.now.payload self.old.number }
-        requires fits { found.now.span.len ≤ length self.old.unread }
+        requires next { let s = self.old in
+            found.now.span.next ≡ number_after_payload (payload_in s.unread found.now) s.number }
+        requires placed { IsPlaced self.old.unread found.now }
         ensures { let s = self.old in
-            let packet = err_at (is_greeting s.context.spot) found.now.payload in
-            let new = heard login.now Kind.Failed found.now.payload (drop found.now.span.len s.unread) s in
+            let payload = payload_in s.unread found.now in
+            let packet = err_at (is_greeting s.context.spot) payload in
+            let new = heard login.now Kind.Failed payload (drop found.now.span.len s.unread) s in
             IfOk result (λ step. IsTurn (after_err packet s new) step self.new) }
     {
-        let payload = found.payload.as_slice();
+        let payload = found.in_bytes(self.unread.as_slice());
         match read_err(alloc, payload, is_greeting(self.context.spot)) {
             Ok(packet) => {
                 let error = server_error(alloc, packet)?;
@@ -72,18 +76,20 @@ impl Stand {
         &mut self,
         alloc: Global,
         login: &Login,
-        found: &FramedPayload,
+        found: &FoundPayload,
     ) -> Result<Step, NoMemory>
-        requires next { found.now.span.next ≡ number_after_payload found.now.payload self.old.number }
-        requires fits { found.now.span.len ≤ length self.old.unread }
+        requires next { let s = self.old in
+            found.now.span.next ≡ number_after_payload (payload_in s.unread found.now) s.number }
+        requires placed { IsPlaced self.old.unread found.now }
         ensures { let s = self.old in
-            let packet = err_at (is_greeting s.context.spot) found.now.payload in
-            let new = heard login.now Kind.Failed found.now.payload (drop found.now.span.len s.unread) s in
+            let payload = payload_in s.unread found.now in
+            let packet = err_at (is_greeting s.context.spot) payload in
+            let new = heard login.now Kind.Failed payload (drop found.now.span.len s.unread) s in
             IfOk result (λ step. IsTurn (dropped_at packet s new) step self.new) }
     {
         match read_err(
             alloc,
-            found.payload.as_slice(),
+            found.in_bytes(self.unread.as_slice()),
             is_greeting(self.context.spot),
         ) {
             Ok(packet) => {
@@ -102,13 +108,15 @@ impl Stand {
         alloc: Global,
         login: &Login,
         part: Part,
-        found: &FramedPayload,
+        found: &FoundPayload,
     ) -> Result<Step, NoMemory>
-        requires next { found.now.span.next ≡ number_after_payload found.now.payload self.old.number }
-        requires fits { found.now.span.len ≤ length self.old.unread }
+        requires next { let s = self.old in
+            found.now.span.next ≡ number_after_payload (payload_in s.unread found.now) s.number }
+        requires placed { IsPlaced self.old.unread found.now }
         ensures { let s = self.old in
-            let packet = err_at (is_greeting s.context.spot) found.now.payload in
-            let new = heard login.now Kind.Failed found.now.payload (drop found.now.span.len s.unread) s in
+            let payload = payload_in s.unread found.now in
+            let packet = err_at (is_greeting s.context.spot) payload in
+            let new = heard login.now Kind.Failed payload (drop found.now.span.len s.unread) s in
             IfOk result (λ step. IsTurn (failed_at part packet s new) step self.new) }
     {
         match part {
