@@ -26,9 +26,8 @@ use Rattle.history_laws.specs.Settled.{is_known}
 use Rattle.history_laws.specs.Table.{Follow, Opens, Opening}
 use Rattle.history_laws.proofs.Asking.{AreAccepted, AreConnects, all_connect, connect_known, ends_well}
 use Rattle.history_laws.proofs.Blaming.{is_failed}
-use Rattle.history_laws.proofs.Having.{begun_has, either}
-use Rattle.history_laws.proofs.Hearing.{Comes, payloads_have}
-use Rattle.history_laws.proofs.Moving.{queried_new}
+use Rattle.history_laws.proofs.Having.{Comes, begun_has, either, errors_have}
+use Rattle.history_laws.proofs.Opening.{queried_new}
 use Rattle.history_laws.proofs.Shaping.{connects, connects_on}
 use Rattle.history_laws.proofs.Stepping.{both}
 
@@ -114,7 +113,7 @@ module _ (login : Login) (p : Place) (w : JoinsAt login p) (paid : owed p ≡ []
   all_fine parts e count = either Fine p.end_left _ _
       (λ _. (false, record { table = w.table; own = w.own; owns = w.owns; fits = w.fits; connects_is = w.connects_is; off = w.off }, e, λ x. absurd (cc), count, done, accepted))
       (λ _. either Fine (is_over p.talk) _ _ (λ over. (true, w, e, λ _. over, count, done, accepted))
-      (λ _. payloads_have (IsFine login) login All parts p w (λ x. (w, inr (_, refl, refl))) (goes_on parts e count) (goes_on parts e count) (λ q rest come x is. errs q rest come x)))
+      (λ _. errors_have (IsFine login) p (λ x. (w, inr (_, refl, refl))) login All parts w (goes_on parts e count) (goes_on parts e count) (λ q rest come x is. errs q rest come x)))
 
   counted : connects_in (exchanges p) ≡ suc n
   counted = all_connect (exchanges p) (w.own, w.owns)

@@ -17,7 +17,7 @@ use Rattle.my_grammar.specs.Talk.{Talk, Queried, context_of, packets_of, describ
 use Rattle.my_reply.specs.declared.err.ErrPacket.{ErrPacket}
 use Rattle.my_reading.proofs.Described.{at_rows}
 use Rattle.my_reading.specs.declared.call.Call.{Call}
-use Rattle.my_reading.specs.declared.call.Call.TheVariants.{Connect, Query, Prepare, Execute, Batch, CloseStmt, NextRow, DropResult, TakeSet, SkipTaken, Ping, Reset, ChangeUser, Begin, Commit, Rollback, ForgetTransaction, CleanForPool, ResetForPool, Quit}
+use Rattle.my_reading.specs.declared.call.Call.TheVariants.{Query, Execute, NextRow, DropResult, TakeSet, SkipTaken}
 use Rattle.my_reading.specs.Calls.{id_in, kind_of}
 use Rattle.my_reading.specs.Statements.{Statements, with_columns}
 use Rattle.my_reading.specs.Course.{Part, All, Head, Item, Set, Rest, Learn, Goes, Returns, after_kind, is_rows, refused_at, step_of}
@@ -28,6 +28,7 @@ use Rattle.my_reading.specs.Told.{Told, ToldReady, ToldEnd, ToldNone, closes}
 use Rattle.history_laws.specs.Given.{IsGiven, IsItem, passes_over, givens, onto}
 use Rattle.history_laws.specs.Given.{NonePassed, MorePassed}
 use Rattle.history_laws.specs.Groups.{Group, Made, given, given_after, groups, with_item, with_stop}
+use Rattle.history_laws.proofs.Calls.{over_same}
 use Rattle.history_laws.proofs.Growing.{InRows, end_in_rows, failed_over, is_quiet, quiet_groups, row_in_rows}
 use Rattle.history_laws.proofs.Having.{Comes, either, reads_have, row_at}
 use Rattle.history_laws.proofs.Phases.{Answering, Gave, GaveAt, Heading as HeadingAt, IsFine, IsFresh, IsHalted, IsPassing, Drops, Skips, KeptAt, Left, Over, Passing, Reading, Stopped, Taking, is_lone, is_query, is_tail, known_part, reads_sets, returned_so, shifted}
@@ -334,26 +335,9 @@ fresh_kept : (p : Place) → IsFresh p.talk p.end_left → KeptAt p (Some [])
 fresh_kept p f = inr (record { terms = f.terms; command = f.command; sets = f.sets; talk_is = f.talk_is; share_is = ap Some (sym f.none); lone = f.lone })
 
 answered_fine : (login : Login) (c : Call) (ms : List Made) → is_query c ≡ true → (p : Place) → IsFresh p.talk p.end_left → GaveAt false ms p None → IsFine c ms (step_of login c [] p)
-answered_fine login Connect ms query p f w = absurd (cc)
 answered_fine login (Query text) ms query p f w = record { share = Some []; gave = fresh_gave (returned_so (Query text) ToldReady ms) ms p refl f w; kept = λ _. fresh_kept p f }
-answered_fine login (Prepare text) ms query p f w = absurd (cc)
 answered_fine login (Execute statement params) ms query p f w = record { share = Some []; gave = fresh_gave (returned_so (Execute statement params) ToldReady ms) ms p refl f w; kept = λ _. fresh_kept p f }
-answered_fine login (Batch statement lists) ms query p f w = absurd (cc)
-answered_fine login (CloseStmt id) ms query p f w = absurd (cc)
-answered_fine login NextRow ms query p f w = absurd (cc)
-answered_fine login DropResult ms query p f w = absurd (cc)
-answered_fine login TakeSet ms query p f w = absurd (cc)
-answered_fine login SkipTaken ms query p f w = absurd (cc)
-answered_fine login Ping ms query p f w = absurd (cc)
-answered_fine login Reset ms query p f w = absurd (cc)
-answered_fine login (ChangeUser change) ms query p f w = absurd (cc)
-answered_fine login (Begin opts) ms query p f w = absurd (cc)
-answered_fine login Commit ms query p f w = absurd (cc)
-answered_fine login Rollback ms query p f w = absurd (cc)
-answered_fine login ForgetTransaction ms query p f w = absurd (cc)
-answered_fine login CleanForPool ms query p f w = absurd (cc)
-answered_fine login ResetForPool ms query p f w = absurd (cc)
-answered_fine login Quit ms query p f w = absurd (cc)
+answered_fine login c ms query p f w = absurd (cc)
 
 -- the columns of the rows of an execution are learned before it is answered
 learned_fresh : (c : Call) (ms : List Made) → is_query c ≡ true → (p : Place) (b : Bool) (st : Statements) → IsFresh p.talk p.end_left → GaveAt false ms p None → IsFine c ms (Goes [] (cond b (with_statements st p) p))
@@ -368,28 +352,6 @@ answer_fine login c ms query parts tail p f w = absurd (cc)
 pub pass_fine : (login : Login) (c : Call) (ms : List Made) (part : Part) (p : Place) (o : Option (List Group)) → IsPassing c part → GaveAt false ms p o → KeptAt p o → IsFine c ms (step_of login c (part ∷ []) p)
 pass_fine login c ms part p o Drops w k = drop_fine login ms p o w k
 pass_fine login c ms part p o Skips w k = skip_fine login ms p o w k
-
-over_same : (c : Call) → passes_over c ≡ true → (gs : List (List Group)) → given_after ToldReady (kind_of c) gs ≡ gs
-over_same Connect passes gs = absurd (cc)
-over_same (Query text) passes gs = absurd (cc)
-over_same (Prepare text) passes gs = absurd (cc)
-over_same (Execute statement params) passes gs = absurd (cc)
-over_same (Batch statement lists) passes gs = absurd (cc)
-over_same (CloseStmt id) passes gs = absurd (cc)
-over_same NextRow passes gs = absurd (cc)
-over_same DropResult passes gs = refl
-over_same TakeSet passes gs = absurd (cc)
-over_same SkipTaken passes gs = refl
-over_same Ping passes gs = absurd (cc)
-over_same Reset passes gs = absurd (cc)
-over_same (ChangeUser change) passes gs = absurd (cc)
-over_same (Begin opts) passes gs = absurd (cc)
-over_same Commit passes gs = absurd (cc)
-over_same Rollback passes gs = absurd (cc)
-over_same ForgetTransaction passes gs = absurd (cc)
-over_same CleanForPool passes gs = absurd (cc)
-over_same ResetForPool passes gs = absurd (cc)
-over_same Quit passes gs = absurd (cc)
 
 pub over_fine : (login : Login) (c : Call) (ms : List Made) → passes_over c ≡ true → (p : Place) (o : Option (List Group)) → GaveAt false ms p o → KeptAt p o → IsFine c ms (step_of login c [] p)
 over_fine login c ms passes p o w k = record {

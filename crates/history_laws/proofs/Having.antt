@@ -17,12 +17,13 @@ use Rattle.my_grammar.specs.Talk.{Talk, commands_in, context_of, limit_of, numbe
 use Rattle.my_reading.specs.declared.call.Call.{Call}
 use Rattle.my_reading.specs.declared.error.Error.TheVariants.{Io}
 use Rattle.my_reading.specs.declared.error.IoError.{IoError}
-use Rattle.my_reading.specs.Course.{Part, Drain, Awaits, Step, Goes, Stops, failure, with_front, reads, after_payload, after_kind, after_err, dropped_at, failed_at, is_drain, refused_at, unless_cached, unless_long, with_command, first_above, is_greeting}
+use Rattle.my_reading.specs.Course.{Part, Drain, Awaits, Step, Goes, Stops, failure, with_front, reads, after_payload, after_kind, after_err, dropped_at, failed_at, is_drain, refused_at, unfit, unless_cached, unless_long, with_command, first_above, is_greeting}
 use Rattle.my_reading.specs.Errors.{server_error}
 use Rattle.my_reading.specs.Place.{Place, facts_at, with_exchange, with_talk}
 use Rattle.my_reading.specs.Rows.{row_of}
 use Rattle.my_reading.specs.Statements.{is_cached}
 use Rattle.my_reading.specs.Told.{Told, ToldRow}
+use Rattle.history_laws.proofs.Blaming.{is_failed}
 use Rattle.history_laws.proofs.Growing.{is_quiet}
 
 -- a payload of this kind comes in its place
@@ -61,28 +62,22 @@ module _ (R : Step → Type 0) (p : Place) (faults : (e : IoError) → R (failur
   dropped_has login parts new (Some e) again = again
 
   module _ (login : Login) (part : Part) (parts : List Part) (waits : R (Stops p Awaits))
-      (again : (k : Kind) → is_quiet k ≡ true → (q rest : List ℕ) → Comes p k q → R (Goes (part ∷ parts) (with_talk p (grow k p.talk q) rest)))
-      (other : (k : Kind) (q rest : List ℕ) → Comes p k q → R (after_kind part parts k (with_talk p (grow k p.talk q) rest) (row_at login p q)))
-      (failed : (q rest : List ℕ) → Comes p kinds.Failed q → (o : Option ErrPacket) → R (failed_at login part parts p (with_talk p (grow kinds.Failed p.talk q) rest) o)) where
+      (again : (k : Kind) → is_quiet k ≡ true → is_failed k ≡ false → (q rest : List ℕ) → Comes p k q → R (Goes (part ∷ parts) (with_talk p (grow k p.talk q) rest)))
+      (other : (k : Kind) → is_failed k ≡ false → (q rest : List ℕ) → Comes p k q → R (after_kind part parts k (with_talk p (grow k p.talk q) rest) (row_at login p q)))
+      (failed : (q rest : List ℕ) → Comes p kinds.Failed q → (o : Option ErrPacket) → err_at (is_greeting (context_of p.talk).spot) q ≡ o
+      → R (failed_at login part parts p (with_talk p (grow kinds.Failed p.talk q) rest) o)) where
     head_has : (q rest : List ℕ) (params columns : ℕ) → Comes p (kinds.Prepared params columns) q → (o : Option PrepareOk)
         → R (unless_cached login p o (Goes (part ∷ parts) (with_talk p (grow (kinds.Prepared params columns) p.talk q) rest)))
-    head_has q rest params columns c None = again (kinds.Prepared params columns) refl q rest c
-    head_has q rest params columns c (Some ok) = either R (is_cached p.statements ok.id) _ _ (λ _. faults _) (λ _. again (kinds.Prepared params columns) refl q rest c)
+    head_has q rest params columns c None = again (kinds.Prepared params columns) refl refl q rest c
+    head_has q rest params columns c (Some ok) = either R (is_cached p.statements ok.id) _ _ (λ _. faults _) (λ _. again (kinds.Prepared params columns) refl refl q rest c)
 
     payload_has : (q rest : List ℕ) (k : Kind) → kind_of p.talk q ≡ k → length q ≤ limit_of p.talk → R (after_payload login part parts p (with_talk p (grow k p.talk q) rest) q k)
     payload_has q rest kinds.Bad e l = faults _
-    payload_has q rest kinds.Failed e l = failed q rest (record { kind_is = e; good = refl; short = l }) (err_at (is_greeting (context_of p.talk).spot) q)
+    payload_has q rest kinds.Failed e l = failed q rest (record { kind_is = e; good = refl; short = l }) (err_at (is_greeting (context_of p.talk).spot) q) refl
     payload_has q rest (kinds.Greets n) e l = either R (nat_lt (limit_of p.talk) (length (response login q))) _ _ (λ _. faults _)
-        (λ _. again (kinds.Greets n) refl q rest (record { kind_is = e; good = refl; short = l }))
+        (λ _. again (kinds.Greets n) refl refl q rest (record { kind_is = e; good = refl; short = l }))
     payload_has q rest (kinds.Prepared params columns) e l = head_has q rest params columns (record { kind_is = e; good = refl; short = l }) (prepare_ok_at q)
-    payload_has q rest (kinds.Good status) e l = other (kinds.Good status) q rest (record { kind_is = e; good = refl; short = l })
-    payload_has q rest (kinds.Count n) e l = other (kinds.Count n) q rest (record { kind_is = e; good = refl; short = l })
-    payload_has q rest kinds.Column e l = other kinds.Column q rest (record { kind_is = e; good = refl; short = l })
-    payload_has q rest kinds.ColumnsDone e l = other kinds.ColumnsDone q rest (record { kind_is = e; good = refl; short = l })
-    payload_has q rest kinds.Row e l = other kinds.Row q rest (record { kind_is = e; good = refl; short = l })
-    payload_has q rest (kinds.End status) e l = other (kinds.End status) q rest (record { kind_is = e; good = refl; short = l })
-    payload_has q rest kinds.Parameter e l = other kinds.Parameter q rest (record { kind_is = e; good = refl; short = l })
-    payload_has q rest kinds.Field e l = other kinds.Field q rest (record { kind_is = e; good = refl; short = l })
+    payload_has q rest k e l = other k refl q rest (record { kind_is = e; good = refl; short = l })
 
     front_has : (x : Front) → front_of p.talk p.unread ≡ x → R (with_front login part parts p x)
     front_has Waiting e = waits
@@ -100,12 +95,30 @@ module _ (R : Step → Type 0) (p : Place) (faults : (e : IoError) → R (failur
       → ((k : Kind) (q rest : List ℕ) → Comes p k q → R (after_kind part parts k (with_talk p (grow k p.talk q) rest) (row_at login p q)))
       → ((q rest : List ℕ) → Comes p kinds.Failed q → (e : ErrPacket) → R (refused_at p.trial (with_talk p (grow kinds.Failed p.talk q) rest) (server_error e)))
       → R (reads login part parts p)
-  reads_have login part parts tells waits again other refused = payloads_have login part parts waits again other
-      (λ q rest c o.
+  reads_have login part parts tells waits again other refused = payloads_have login part parts waits (λ k quiet calm q rest c. again k quiet q rest c) (λ k calm q rest c. other k q rest c)
+      (λ q rest c o is.
       let new = with_talk p (grow kinds.Failed p.talk q) rest in
       subst (λ b. R (cond b (dropped_at login parts p new o) (after_err login p new o))) (sym tells) (err_has login new o (λ e. refused q rest c e)))
 
   pub drains_have : (login : Login) (parts : List Part) → R (Stops p Awaits) → ((k : Kind) (q rest : List ℕ) → Comes p k q → R (Goes (Drain ∷ parts) (with_talk p (grow k p.talk q) rest)))
       → R (reads login Drain parts p)
-  drains_have login parts waits again = payloads_have login Drain parts waits (λ k quiet q rest c. again k q rest c) (λ k q rest c. again k q rest c)
-      (λ q rest c o. dropped_has login parts (with_talk p (grow kinds.Failed p.talk q) rest) o (again kinds.Failed q rest c))
+  drains_have login parts waits again = payloads_have login Drain parts waits (λ k quiet calm q rest c. again k q rest c) (λ k calm q rest c. again k q rest c)
+      (λ q rest c o is. dropped_has login parts (with_talk p (grow kinds.Failed p.talk q) rest) o (again kinds.Failed q rest c))
+
+  -- where an ERR is looked at
+  pub errors_have : (login : Login) (part : Part) (parts : List Part) → R (Stops p Awaits)
+      → ((k : Kind) → is_failed k ≡ false → (q rest : List ℕ) → Comes p k q → R (Goes (part ∷ parts) (with_talk p (grow k p.talk q) rest)))
+      → ((k : Kind) → is_failed k ≡ false → (q rest : List ℕ) → Comes p k q → R (after_kind part parts k (with_talk p (grow k p.talk q) rest) (row_at login p q)))
+      → ((q rest : List ℕ) → Comes p kinds.Failed q → (e : ErrPacket) → err_at (is_greeting (context_of p.talk).spot) q ≡ Some e
+      → R (cond (is_drain part) (Goes (Drain ∷ parts) (with_talk p (grow kinds.Failed p.talk q) rest)) (refused_at p.trial (with_talk p (grow kinds.Failed p.talk q) rest) (server_error e))))
+      → R (reads login part parts p)
+  errors_have login part parts waits again other failed = payloads_have login part parts waits (λ k quiet calm q rest c. again k calm q rest c) other by_error
+    where
+      by_error : (q rest : List ℕ) → Comes p kinds.Failed q → (o : Option ErrPacket) → err_at (is_greeting (context_of p.talk).spot) q ≡ o
+          → R (failed_at login part parts p (with_talk p (grow kinds.Failed p.talk q) rest) o)
+      by_error q rest c None is = by_drain (is_drain part)
+        where
+          by_drain : (b : Bool) → R (cond b (unfit login p) (unfit login p))
+          by_drain true = faults _
+          by_drain false = faults _
+      by_error q rest c (Some e) is = failed q rest c e is

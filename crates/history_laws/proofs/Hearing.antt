@@ -1,29 +1,17 @@
 -- Each step of a call has callers hear the ERRs of its exchanges.
-use Rattle.std.proofs.Common.{◌≡◌, ℕ, ◌≤◌, length, nat_lt, List, [], ◌∷◌, ◌++◌, Bool, true, false, cond, not, ◌&&◌, ◌||◌, Option, Some, None, is_some, refl, sym, ap, ◌∙◌, subst, arith}
-use Rattle.my_frame.specs.Front.{Front, Waiting, Broken, Whole}
+use Rattle.std.proofs.Common.{◌≡◌, ℕ, List, [], ◌∷◌, Bool, true, false, cond, not, ◌&&◌, ◌||◌, Option, Some, None, is_some, refl, sym, ap, ◌∙◌, subst}
 use Rattle.my_reply.specs.declared.err.ErrPacket.{ErrPacket}
 use Rattle.my_reply.specs.ErrPacket.{err_at}
-use Rattle.my_reply.specs.declared.replies.PrepareOk.{PrepareOk}
-use Rattle.my_reply.specs.Replies.{prepare_ok_at}
-use Rattle.my_grammar.proofs.Cutting.Fronts.{takes_whole}
-use Rattle.my_grammar.proofs.Growth.{grows}
 use Rattle.my_grammar.specs.declared.login.Login.{Login}
 use Rattle.my_grammar.specs.declared.spot.Kind.{Kind}
 use Rattle.my_grammar.specs.declared.spot.Kind.TheVariants as kinds
-use Rattle.my_grammar.specs.declared.spot.Spot.{Spot}
-use Rattle.my_grammar.specs.declared.spot.Spot.TheVariants as spots
-use Rattle.my_grammar.specs.declared.spot.RowFormat.{RowFormat}
 use Rattle.my_grammar.specs.declared.spot.Terms.{Terms}
-use Rattle.my_reply.specs.declared.column.Column.{Column as ColumnPacket}
-use Rattle.my_grammar.specs.Contexts.{is_bad}
-use Rattle.my_grammar.specs.Cut.{front_of, is_idle, is_over, kind_of as payload_kind}
+use Rattle.my_grammar.specs.Cut.{is_over}
 use Rattle.my_grammar.specs.Growth.{grow}
-use Rattle.my_grammar.specs.Kinds.{kind_by}
-use Rattle.my_grammar.specs.Response.{response}
-use Rattle.my_grammar.specs.Talk.{Talk, Start, Unwelcome, Greeted, Settled, Asked, Replied, Queried, Preparing, Silent, Fits, commands_in, context_of, limit_of, number_of, origin, turns}
+use Rattle.my_grammar.specs.Talk.{Talk, commands_in, context_of, limit_of}
 use Rattle.my_handshake.specs.Version.{version_of}
 use Rattle.my_reading.specs.declared.call.Call.{Call}
-use Rattle.my_reading.specs.declared.call.Call.TheVariants.{Connect, Query, Prepare, Execute, Batch, CloseStmt, NextRow, DropResult, TakeSet, SkipTaken, Ping, Reset, ChangeUser, Begin, Commit, Rollback, ForgetTransaction, CleanForPool, ResetForPool, Quit}
+use Rattle.my_reading.specs.declared.call.Call.TheVariants.{Prepare, Commit}
 use Rattle.my_reading.specs.declared.error.DriverError.{DriverError}
 use Rattle.my_reading.specs.declared.error.Error.TheVariants.{Driver, Io, Server}
 use Rattle.my_reading.specs.declared.error.IoError.{IoError}
@@ -32,269 +20,29 @@ use Rattle.my_reading.specs.declared.transaction.Trial.{Trial}
 use Rattle.my_reading.specs.declared.transaction.Trial.TheVariants.{Off, On, Refused}
 use Rattle.my_reading.specs.declared.transaction.TxStatus.TheVariants.{RequiresRollback}
 use Rattle.my_reading.specs.Accounts.{changed}
-use Rattle.my_reading.specs.Calls.{id_in, kind_of, statement_in, text_in}
+use Rattle.my_reading.specs.Calls.{id_in, statement_in, text_in}
 use Rattle.my_reading.specs.Commands.{queried}
-use Rattle.my_reading.specs.Course.{Part, All, Head, Item, Set, Rest, Command, Find, Check, Run, Reply, Keep, Give, Learn, Forget, Offered, Clear, Text, Flag, Adopt, Renew, Drain, Undo, Undone, Refuse, Settle, GiveUp, Try, Back, Step, Goes, Stops, Stop, Owes, Awaits, Returns, after_kind, after_payload, checked, closing_of, executed, failed_at, failure, first_above, found, is_drain, is_greeting, is_rows, offered, reads, refused_at, renewing, returned, step, step_of, undone, unfit, unless_cached, unless_long, unless_owed, unless_refused, with_command, with_front}
+use Rattle.my_reading.specs.Course.{Part, All, Head, Item, Set, Rest, Command, Find, Check, Run, Reply, Keep, Give, Learn, Forget, Offered, Clear, Text, Flag, Adopt, Renew, Drain, Undo, Undone, Refuse, Settle, GiveUp, Try, Back, Goes, Returns, after_kind, checked, closing_of, executed, failure, first_above, found, is_drain, is_greeting, is_rows, offered, reads, refused_at, renewing, returned, step, step_of, undone, unless_long, unless_owed, unless_refused, with_command}
 use Rattle.my_reading.specs.Errors.{mixed_params, server_error}
 use Rattle.my_reading.specs.Executions.{Values, Fitting, Unfitting, values_for}
 use Rattle.my_reading.specs.Facts.{prepared_by}
-use Rattle.my_reading.specs.Place.{Place, Exchange, connects_in, exchanges, facts_at, next_exchange, owed, terms_of, with_account, with_end, with_exchange, with_statements, with_status, with_talk, with_taken, with_trial, without_end}
+use Rattle.my_reading.specs.Place.{Place, connects_in, exchanges, facts_at, next_exchange, owed, terms_of, with_account, with_end, with_exchange, with_statements, with_status, with_talk, with_taken, with_trial, without_end}
 use Rattle.my_reading.specs.Rows.{row_of}
-use Rattle.my_reading.specs.Statements.{Statements, cleared, held_in, is_cached, is_mixed_text, leaving, names_of, query_of, statement_with, with_columns, with_fetched, with_prepared, without_statement}
-use Rattle.my_reading.specs.Told.{Told, ToldReady, ToldRow, ToldEnd, ToldNone, ToldStatement, ToldFlag, ToldError, ToldPassed, closes}
+use Rattle.my_reading.specs.Statements.{Statements, cleared, held_in, is_mixed_text, leaving, names_of, query_of, statement_with, with_columns, with_fetched, with_prepared, without_statement}
+use Rattle.my_reading.specs.Told.{Told, ToldReady, ToldRow, ToldEnd, ToldNone, ToldStatement, ToldFlag, ToldError, ToldPassed}
 use Rattle.my_reading.specs.Transactions.{begin_refusal, given_up, is_given_up, rollback_text, rolled_back}
 use Rattle.my_reading.specs.Versions.{can_reset}
 use Rattle.my_statements.specs.Cache.{Held}
-use Rattle.history_laws.specs.Errors.{AreHushed, EndedBy, error_onto, PassedErrors, NoErrors, MoreErrors, errors_in, errors_of, errors_told, passes_errors, unless_hushed, with_told, with_unheard}
+use Rattle.history_laws.specs.Errors.{EndedBy, error_onto, NoErrors, MoreErrors, errors_in, passes_errors, with_told}
 use Rattle.history_laws.specs.Groups.{Made}
-use Rattle.history_laws.proofs.Blaming.{calm_blames, failed_blames, is_failed}
+use Rattle.history_laws.proofs.Calls.{commit_closes, commits, is_commits, is_tried}
+use Rattle.history_laws.proofs.Blaming.{failed_blames, is_failed}
 use Rattle.history_laws.proofs.Growing.{failed_over}
-use Rattle.history_laws.proofs.Moving.{IsNew, closing_new, executed_new, opened_new, queried_new, some_new}
+use Rattle.history_laws.proofs.Having.{Comes, either, errors_have}
+use Rattle.history_laws.proofs.Opening.{IsNew, closing_new, executed_new, opened_new, queried_new, some_new}
 use Rattle.history_laws.proofs.Phases.{reads_sets, returned_so}
 use Rattle.history_laws.proofs.Stepping.{both, not_true}
-
--- a payload of this kind comes in its place
-pub record Comes (p : Place) (k : Kind) (q : List ℕ) : Type 0 where
-  pub kind_is : payload_kind p.talk q ≡ k
-  pub good : is_bad k ≡ false
-  pub short : length q ≤ limit_of p.talk
-
--- nothing is read of an exchange that is over
-pub idle_bad : (s : Spot) (rows : RowFormat) (d : Bool) (n : ℕ) (columns : List ColumnPacket) (q : List ℕ) (k : Kind) → kind_by s rows d n columns q ≡ k → is_bad k ≡ false → is_idle s ≡ false
-idle_bad spots.Idle rows d n columns q k e good = let bad : is_bad k ≡ true = ap is_bad (sym e) in cc
-idle_bad spots.Greeting rows d n columns q k e good = refl
-idle_bad spots.Authentication rows d n columns q k e good = refl
-idle_bad spots.Single rows d n columns q k e good = refl
-idle_bad spots.Head rows d n columns q k e good = refl
-idle_bad spots.Further rows d n columns q k e good = refl
-idle_bad (spots.Columns left) rows d n columns q k e good = refl
-idle_bad spots.ColumnsEnd rows d n columns q k e good = refl
-idle_bad spots.Rows rows d n columns q k e good = refl
-idle_bad spots.Prepare rows d n columns q k e good = refl
-idle_bad (spots.Parameters left more) rows d n columns q k e good = refl
-idle_bad (spots.ParametersEnd more) rows d n columns q k e good = refl
-idle_bad (spots.Fields left) rows d n columns q k e good = refl
-idle_bad spots.FieldsEnd rows d n columns q k e good = refl
-
-unread : (p : Place) (k : Kind) (q : List ℕ) → Comes p k q → is_over p.talk ≡ false
-unread p k q c = idle_bad (context_of p.talk).spot _ _ _ _ q k c.kind_is c.good
-
-abbrev is_commits : Call → Bool
-is_commits Commit = true
-is_commits c = false
-
-commits : (c : Call) → is_commits c ≡ true → c ≡ Commit
-commits Connect e = cc
-commits (Query text) e = cc
-commits (Prepare text) e = cc
-commits (Execute statement params) e = cc
-commits (Batch statement lists) e = cc
-commits (CloseStmt id) e = cc
-commits NextRow e = cc
-commits DropResult e = cc
-commits TakeSet e = cc
-commits SkipTaken e = cc
-commits Ping e = cc
-commits Reset e = cc
-commits (ChangeUser change) e = cc
-commits (Begin opts) e = cc
-commits Commit e = refl
-commits Rollback e = cc
-commits ForgetTransaction e = cc
-commits CleanForPool e = cc
-commits ResetForPool e = cc
-commits Quit e = cc
-
--- a call with these parts returns only where nothing is being committed
-abbrev pub is_tried : Call → Bool → List Part → Bool
-is_tried c trying [] = not trying
-is_tried c trying (All ∷ parts) = is_tried c trying parts
-is_tried c trying (Head ∷ parts) = is_tried c trying parts
-is_tried c trying (Item ∷ parts) = not trying && is_tried c trying parts
-is_tried c trying (Set ∷ parts) = not trying && is_tried c trying parts
-is_tried c trying (Rest ∷ parts) = is_tried c trying parts
-is_tried c trying (Command ∷ parts) = is_tried c trying parts
-is_tried c trying (Find ∷ parts) = not trying && is_tried c trying parts
-is_tried c trying (Check params ∷ parts) = not trying && is_tried c trying parts
-is_tried c trying (Run params ∷ parts) = is_tried c trying parts
-is_tried c trying (Reply ∷ parts) = is_tried c trying parts
-is_tried c trying (Keep ∷ parts) = is_tried c trying parts
-is_tried c trying (Give ∷ parts) = not trying && is_tried c trying parts
-is_tried c trying (Learn ∷ parts) = is_tried c trying parts
-is_tried c trying (Forget ∷ parts) = is_tried c trying parts
-is_tried c trying (Offered ∷ parts) = not trying && is_tried c trying parts
-is_tried c trying (Clear ∷ parts) = is_tried c trying parts
-is_tried c trying (Text text ∷ parts) = is_tried c trying parts
-is_tried c trying (Flag flag ∷ parts) = not trying && is_tried c trying parts
-is_tried c trying (Adopt change ∷ parts) = is_tried c trying parts
-is_tried c trying (Renew ∷ parts) = is_tried c trying parts
-is_tried c trying (Drain ∷ parts) = passes_errors c && is_tried c trying parts
-is_tried c trying (Undo ∷ parts) = is_tried c trying parts
-is_tried c trying (Undone ∷ parts) = is_tried c trying parts
-is_tried c trying (Refuse opts ∷ parts) = not trying && is_tried c trying parts
-is_tried c trying (Settle status ∷ parts) = is_tried c false parts
-is_tried c trying (GiveUp ∷ parts) = is_tried c trying parts
-is_tried c trying (Try ∷ parts) = is_commits c && is_tried c true parts
-is_tried c trying (Back ∷ parts) = false
-
--- the ERRs of the exchanges were heard, but perhaps one; the newest exchange is hushed or isn't
-pub record Heard (hushed : Bool) (ms : List Made) (talk : Talk) (es : List Exchange) (unheard : Option ServerError) : Type 0 where
-  pub olds : List Bool
-  pub are : AreHushed (hushed ∷ olds) es
-  pub errors : errors_of (hushed ∷ olds) es ≡ with_unheard unheard (errors_told ms)
-  pub fits : Fits talk
-
-abbrev pub HeardAt : Bool → List Made → Place → Option ServerError → Type 0
-HeardAt hushed ms p o = Heard hushed ms p.talk (exchanges p) o
-
--- where a call is
-pub data Phase (c : Call) (ms : List Made) : List Part → Place → Type 0 where
-  Hearing : (trying hushed : Bool) (parts : List Part) (p : Place) → is_tried c trying parts ≡ true → (trying ≡ true → c ≡ Commit) → (trying ≡ false → p.trial ≡ Off) → (hushed ≡ true → is_over p.talk ≡ true)
-      → HeardAt hushed ms p None → ((first : ServerError) → p.trial ≡ Refused first → ⊥) → Phase c ms parts p
-  Undoing : (first : ServerError) (p : Place) → c ≡ Commit → p.trial ≡ Refused first → is_over p.talk ≡ true → EndedBy first (exchanges p) → HeardAt false ms p (Some first) → Phase c ms (Undo ∷ Back ∷ []) p
-  Backing : (first : ServerError) (hushed : Bool) (p : Place) → c ≡ Commit → p.trial ≡ Refused first → (hushed ≡ false → is_over p.talk ≡ true) → HeardAt hushed ms p (Some first) → Phase c ms (Back ∷ []) p
-
--- after a call, on a session that is closed or not
-pub record Rests (closed : Bool) (ms : List Made) (p : Place) : Type 0 where
-  pub hushed : Bool
-  pub unheard : Option ServerError
-  pub heard : HeardAt hushed ms p unheard
-  pub clear : closed ≡ false → unheard ≡ None
-  pub over : closed ≡ false → hushed ≡ true → is_over p.talk ≡ true
-  pub off : closed ≡ false → p.trial ≡ Off
-  pub spent : hushed ≡ false → is_some unheard ≡ true → is_over p.talk ≡ true
-
-abbrev pub IsHalted : Call → List Made → Place → Type 0
-IsHalted c ms p = Rests (not (reads_sets c)) ms p
-
-abbrev pub Stopped : Call → List Made → Place → Stop → Type 0
-Stopped c ms p Owes = IsHalted c ms p
-Stopped c ms p Awaits = IsHalted c ms p
-Stopped c ms p (Returns t) = Rests (closes t (kind_of c)) (returned_so c t ms) p
-
-abbrev pub IsFine : Call → List Made → Step → Type 0
-IsFine c ms (Goes parts q) = (more : List Made) × PassedErrors c ms more × Phase c more parts q
-IsFine c ms (Stops q s) = Stopped c ms q s
-
-either : (R : Step → Type 0) (b : Bool) (x y : Step) → (b ≡ true → R x) → (b ≡ false → R y) → R (cond b x y)
-either R true x y v w = v refl
-either R false x y v w = w refl
-
--- a call that commits isn't one that may be cancelled and leave the session open
-commit_closes : (c : Call) → c ≡ Commit → not (reads_sets c) ≡ false → ⊥
-commit_closes c e n = let no : not (reads_sets c) ≡ true = ap (λ d. not (reads_sets d)) e in cc
-
--- payloads, with what an ERR says
-module _ (R : Step → Type 0) (login : Login) (part : Part) (parts : List Part) (p : Place) (waits : R (Stops p Awaits)) (faults : (e : IoError) → R (failure p (Io e)))
-    (again : (k : Kind) → is_failed k ≡ false → (q rest : List ℕ) → Comes p k q → R (Goes (part ∷ parts) (with_talk p (grow k p.talk q) rest)))
-    (other : (k : Kind) → is_failed k ≡ false → (q rest : List ℕ) → Comes p k q → R (after_kind part parts k (with_talk p (grow k p.talk q) rest) (ToldRow (row_of (context_of p.talk).rows (facts_at login p).columns q))))
-    (failed : (q rest : List ℕ) → Comes p kinds.Failed q → (e : ErrPacket) → err_at (is_greeting (context_of p.talk).spot) q ≡ Some e
-    → R (cond (is_drain part) (Goes (Drain ∷ parts) (with_talk p (grow kinds.Failed p.talk q) rest)) (refused_at p.trial (with_talk p (grow kinds.Failed p.talk q) rest) (server_error e)))) where
-  err_has : (q rest : List ℕ) → Comes p kinds.Failed q → (o : Option ErrPacket) → err_at (is_greeting (context_of p.talk).spot) q ≡ o → R (failed_at login part parts p (with_talk p (grow kinds.Failed p.talk q) rest) o)
-  err_has q rest c None is = by_drain (is_drain part)
-    where
-      by_drain : (b : Bool) → R (cond b (unfit login p) (unfit login p))
-      by_drain true = faults _
-      by_drain false = faults _
-  err_has q rest c (Some e) is = failed q rest c e is
-
-  head_has : (q rest : List ℕ) (params columns : ℕ) → Comes p (kinds.Prepared params columns) q → (o : Option PrepareOk)
-      → R (unless_cached login p o (Goes (part ∷ parts) (with_talk p (grow (kinds.Prepared params columns) p.talk q) rest)))
-  head_has q rest params columns c None = again (kinds.Prepared params columns) refl q rest c
-  head_has q rest params columns c (Some ok) = either R (is_cached p.statements ok.id) _ _ (λ _. faults _) (λ _. again (kinds.Prepared params columns) refl q rest c)
-
-  payload_has : (q rest : List ℕ) (k : Kind) → payload_kind p.talk q ≡ k → length q ≤ limit_of p.talk → R (after_payload login part parts p (with_talk p (grow k p.talk q) rest) q k)
-  payload_has q rest kinds.Bad e l = faults _
-  payload_has q rest kinds.Failed e l = err_has q rest (record { kind_is = e; good = refl; short = l }) (err_at (is_greeting (context_of p.talk).spot) q) refl
-  payload_has q rest (kinds.Greets n) e l = either R (nat_lt (limit_of p.talk) (length (response login q))) _ _ (λ _. faults _)
-      (λ _. again (kinds.Greets n) refl q rest (record { kind_is = e; good = refl; short = l }))
-  payload_has q rest (kinds.Prepared params columns) e l = head_has q rest params columns (record { kind_is = e; good = refl; short = l }) (prepare_ok_at q)
-  payload_has q rest (kinds.Good s) e l = other (kinds.Good s) refl q rest (record { kind_is = e; good = refl; short = l })
-  payload_has q rest (kinds.Count n) e l = other (kinds.Count n) refl q rest (record { kind_is = e; good = refl; short = l })
-  payload_has q rest kinds.Column e l = other kinds.Column refl q rest (record { kind_is = e; good = refl; short = l })
-  payload_has q rest kinds.ColumnsDone e l = other kinds.ColumnsDone refl q rest (record { kind_is = e; good = refl; short = l })
-  payload_has q rest kinds.Row e l = other kinds.Row refl q rest (record { kind_is = e; good = refl; short = l })
-  payload_has q rest (kinds.End s) e l = other (kinds.End s) refl q rest (record { kind_is = e; good = refl; short = l })
-  payload_has q rest kinds.Parameter e l = other kinds.Parameter refl q rest (record { kind_is = e; good = refl; short = l })
-  payload_has q rest kinds.Field e l = other kinds.Field refl q rest (record { kind_is = e; good = refl; short = l })
-
-  front_has : (x : Front) → front_of p.talk p.unread ≡ x → R (with_front login part parts p x)
-  front_has Waiting e = waits
-  front_has (Broken fault) e = faults _
-  front_has (Whole q rest next) e =
-      let taken = takes_whole (number_of (turns p.talk)) (limit_of p.talk) p.unread q rest next e in
-      payload_has q rest (payload_kind p.talk q) refl (omega (arith, taken.within))
-
-  pub payloads_have : R (reads login part parts p)
-  payloads_have = front_has (front_of p.talk p.unread) refl
-
--- what a payload more does
-grown_calm : (hushed : Bool) (ms : List Made) (p : Place) (o : Option ServerError) (k : Kind) (q rest : List ℕ) → Comes p k q → is_failed k ≡ false → (hushed ≡ true → is_over p.talk ≡ true) → HeardAt hushed ms p o
-    → HeardAt hushed ms (with_talk p (grow k p.talk q) rest) o
-grown_calm hushed ms p o k q rest c calm over w = record {
-  olds = w.olds;
-  are = (λ h. absurd (let yes = over h in let no = unread p k q c in cc), w.are.1);
-  errors = ap (λ es. unless_hushed hushed es ++ errors_of w.olds p.older) (calm_blames k p.talk q calm) ∙ w.errors;
-  fits = (grows p.talk k q c.kind_is c.good c.short w.fits).fits;
-}
-
--- an ERR of an exchange that isn't hushed
-grown_error : (hushed : Bool) (ms made : List Made) (p : Place) (o : Option ServerError) (q rest : List ℕ) (e : ErrPacket) → Comes p kinds.Failed q → err_at (is_greeting (context_of p.talk).spot) q ≡ Some e → (hushed ≡ true → is_over p.talk ≡ true)
-    → with_unheard o (errors_told made) ≡ server_error e ∷ errors_told ms → HeardAt hushed ms p None → HeardAt false made (with_talk p (grow kinds.Failed p.talk q) rest) o
-grown_error true ms made p o q rest e c is over says w = absurd (let yes = over refl in let no = unread p kinds.Failed q c in cc)
-grown_error false ms made p o q rest e c is over says w =
-    let more : errors_in (grow kinds.Failed p.talk q) ≡ server_error e ∷ errors_in p.talk
-    = failed_blames p.talk q c.kind_is ∙ ap (λ x. error_onto x (errors_in p.talk)) is in
-    record {
-      olds = w.olds;
-      are = (λ h. absurd (cc), w.are.1);
-      errors = ap (λ es. es ++ errors_of w.olds p.older) more ∙ ap (λ es. server_error e ∷ es) w.errors ∙ sym says;
-      fits = (grows p.talk kinds.Failed q c.kind_is c.good c.short w.fits).fits;
-    }
-
--- the newest exchange of a commit that is rolled back: whatever is read of it is hushed
-hushed_grown : (ms made : List Made) (p : Place) (o x : Option ServerError) (k : Kind) (q rest : List ℕ) → Comes p k q → with_unheard x (errors_told made) ≡ with_unheard o (errors_told ms) → HeardAt true ms p o
-    → HeardAt true made (with_talk p (grow k p.talk q) rest) x
-hushed_grown ms made p o x k q rest c says w =
-    let gr = grows p.talk k q c.kind_is c.good c.short w.fits in
-    record {
-      olds = w.olds;
-      are = (λ h. let x = w.are.0 h in (x.0, record { commits = x.1.commits; rolls_back = gr.origin_is ∙ x.1.rolls_back; first = x.1.first; after = x.1.after }), w.are.1);
-      errors = w.errors ∙ sym says;
-      fits = gr.fits;
-    }
-
--- exchanges begin without an ERR
-origin_calm : (t : Talk) → errors_in (origin t) ≡ []
-origin_calm (Start login) = refl
-origin_calm (Unwelcome login p) = refl
-origin_calm (Greeted login p c) = refl
-origin_calm (Settled login p c last kind) = refl
-origin_calm (Asked terms c) = refl
-origin_calm (Replied terms c last kind) = refl
-origin_calm (Queried terms c sets) = refl
-origin_calm (Preparing terms c reply) = refl
-origin_calm (Silent terms c) = refl
-
-new_calm : (t : Talk) → IsNew t → errors_in t ≡ []
-new_calm t n = ap errors_in (sym n.origin_is) ∙ origin_calm t
-
-begun_heard : (hushed : Bool) (ms : List Made) (p : Place) (o : Option ServerError) (call : Call) (t : Talk) → IsNew t → HeardAt hushed ms p o → HeardAt false ms (with_exchange p call t) o
-begun_heard hushed ms p o call t n w = record {
-  olds = hushed ∷ w.olds;
-  are = (λ h. absurd (cc), w.are);
-  errors = ap (λ es. es ++ errors_of (hushed ∷ w.olds) (exchanges p)) (new_calm t n) ∙ w.errors;
-  fits = n.fits;
-}
-
--- what is told besides a server's error
-told_heard : (hushed : Bool) (c : Call) (ms : List Made) (p : Place) (o : Option ServerError) (t : Told) → ((es : List ServerError) → with_told t es ≡ es) → HeardAt hushed ms p o → HeardAt hushed (returned_so c t ms) p o
-told_heard hushed c ms p o t calm w = record { olds = w.olds; are = w.are; errors = w.errors ∙ ap (with_unheard o) (sym (calm (errors_told ms))); fits = w.fits }
-
--- nothing is read of an exchange that is hushed, but while it is rolled back
-opened : (hushed : Bool) (p : Place) (k : Kind) (q : List ℕ) → (hushed ≡ true → is_over p.talk ≡ true) → Comes p k q → hushed ≡ false
-opened true p k q over come = absurd (let yes = over refl in let no = unread p k q come in cc)
-opened false p k q over come = refl
+use Rattle.history_laws.proofs.Heard.{HeardAt, Phase, Hearing, Undoing, Backing, IsHalted, Stopped, IsFine, grown_calm, grown_error, hushed_grown, begun_heard, told_heard, opened}
 
 module _ (login : Login) (c : Call) (ms : List Made) where
   -- a call stops where nothing of a commit is open
@@ -346,67 +94,12 @@ module _ (login : Login) (c : Call) (ms : List Made) where
 
       after : (part : Part) (parts : List Part) → is_tried c trying (part ∷ parts) ≡ true → (k : Kind) → is_failed k ≡ false → (q rest : List ℕ) → Comes p k q
           → IsFine c ms (after_kind part parts k (with_talk p (grow k p.talk q) rest) (ToldRow (row_of (context_of p.talk).rows (facts_at login p).columns q)))
-      after Head parts e (kinds.Greets n) calm q rest come = again Head parts e (kinds.Greets n) calm q rest come
       after Head parts e (kinds.Good s) calm q rest come = goes false parts (with_end (with_talk p (grow (kinds.Good s) p.talk q) rest)) e off (λ x. absurd (cc)) (calm_here (kinds.Good s) calm q rest come) unrefused
-      after Head parts e kinds.Failed calm q rest come = again Head parts e kinds.Failed calm q rest come
-      after Head parts e (kinds.Count n) calm q rest come = again Head parts e (kinds.Count n) calm q rest come
-      after Head parts e kinds.Column calm q rest come = again Head parts e kinds.Column calm q rest come
-      after Head parts e kinds.ColumnsDone calm q rest come = again Head parts e kinds.ColumnsDone calm q rest come
-      after Head parts e kinds.Row calm q rest come = again Head parts e kinds.Row calm q rest come
-      after Head parts e (kinds.End s) calm q rest come = again Head parts e (kinds.End s) calm q rest come
-      after Head parts e (kinds.Prepared m n) calm q rest come = again Head parts e (kinds.Prepared m n) calm q rest come
-      after Head parts e kinds.Parameter calm q rest come = again Head parts e kinds.Parameter calm q rest come
-      after Head parts e kinds.Field calm q rest come = again Head parts e kinds.Field calm q rest come
-      after Head parts e kinds.Bad calm q rest come = again Head parts e kinds.Bad calm q rest come
-      after Item parts e (kinds.Greets n) calm q rest come = again Item parts e (kinds.Greets n) calm q rest come
       after Item parts e (kinds.Good s) calm q rest come = stops ToldEnd (λ es. refl) (not_true trying (both (not trying) _ e).0) (kinds.Good s) calm q rest come (with_talk p (grow (kinds.Good s) p.talk q) rest) refl (calm_here (kinds.Good s) calm q rest come) refl
-      after Item parts e kinds.Failed calm q rest come = again Item parts e kinds.Failed calm q rest come
-      after Item parts e (kinds.Count n) calm q rest come = again Item parts e (kinds.Count n) calm q rest come
-      after Item parts e kinds.Column calm q rest come = again Item parts e kinds.Column calm q rest come
-      after Item parts e kinds.ColumnsDone calm q rest come = again Item parts e kinds.ColumnsDone calm q rest come
       after Item parts e kinds.Row calm q rest come = stops (ToldRow (row_of (context_of p.talk).rows (facts_at login p).columns q)) (λ es. refl) (not_true trying (both (not trying) _ e).0) kinds.Row calm q rest come (with_talk p (grow kinds.Row p.talk q) rest) refl (calm_here kinds.Row calm q rest come) refl
       after Item parts e (kinds.End s) calm q rest come = stops ToldEnd (λ es. refl) (not_true trying (both (not trying) _ e).0) (kinds.End s) calm q rest come (with_talk p (grow (kinds.End s) p.talk q) rest) refl (calm_here (kinds.End s) calm q rest come) refl
-      after Item parts e (kinds.Prepared m n) calm q rest come = again Item parts e (kinds.Prepared m n) calm q rest come
-      after Item parts e kinds.Parameter calm q rest come = again Item parts e kinds.Parameter calm q rest come
-      after Item parts e kinds.Field calm q rest come = again Item parts e kinds.Field calm q rest come
-      after Item parts e kinds.Bad calm q rest come = again Item parts e kinds.Bad calm q rest come
-      after Set parts e (kinds.Greets n) calm q rest come = again Set parts e (kinds.Greets n) calm q rest come
       after Set parts e (kinds.Good s) calm q rest come = stops ToldReady (λ es. refl) (not_true trying (both (not trying) _ e).0) (kinds.Good s) calm q rest come (with_taken (with_end (with_talk p (grow (kinds.Good s) p.talk q) rest))) refl (calm_here (kinds.Good s) calm q rest come) refl
-      after Set parts e kinds.Failed calm q rest come = again Set parts e kinds.Failed calm q rest come
-      after Set parts e (kinds.Count n) calm q rest come = again Set parts e (kinds.Count n) calm q rest come
-      after Set parts e kinds.Column calm q rest come = again Set parts e kinds.Column calm q rest come
-      after Set parts e kinds.ColumnsDone calm q rest come = again Set parts e kinds.ColumnsDone calm q rest come
-      after Set parts e kinds.Row calm q rest come = again Set parts e kinds.Row calm q rest come
-      after Set parts e (kinds.End s) calm q rest come = again Set parts e (kinds.End s) calm q rest come
-      after Set parts e (kinds.Prepared m n) calm q rest come = again Set parts e (kinds.Prepared m n) calm q rest come
-      after Set parts e kinds.Parameter calm q rest come = again Set parts e kinds.Parameter calm q rest come
-      after Set parts e kinds.Field calm q rest come = again Set parts e kinds.Field calm q rest come
-      after Set parts e kinds.Bad calm q rest come = again Set parts e kinds.Bad calm q rest come
-      after All parts e k calm q rest come = again All parts e k calm q rest come
-      after Rest parts e k calm q rest come = again Rest parts e k calm q rest come
-      after Command parts e k calm q rest come = again Command parts e k calm q rest come
-      after Find parts e k calm q rest come = again Find parts e k calm q rest come
-      after (Check params) parts e k calm q rest come = again (Check params) parts e k calm q rest come
-      after (Run params) parts e k calm q rest come = again (Run params) parts e k calm q rest come
-      after Reply parts e k calm q rest come = again Reply parts e k calm q rest come
-      after Keep parts e k calm q rest come = again Keep parts e k calm q rest come
-      after Give parts e k calm q rest come = again Give parts e k calm q rest come
-      after Learn parts e k calm q rest come = again Learn parts e k calm q rest come
-      after Forget parts e k calm q rest come = again Forget parts e k calm q rest come
-      after Offered parts e k calm q rest come = again Offered parts e k calm q rest come
-      after Clear parts e k calm q rest come = again Clear parts e k calm q rest come
-      after (Text text) parts e k calm q rest come = again (Text text) parts e k calm q rest come
-      after (Flag flag) parts e k calm q rest come = again (Flag flag) parts e k calm q rest come
-      after (Adopt change) parts e k calm q rest come = again (Adopt change) parts e k calm q rest come
-      after Renew parts e k calm q rest come = again Renew parts e k calm q rest come
-      after Drain parts e k calm q rest come = again Drain parts e k calm q rest come
-      after Undo parts e k calm q rest come = again Undo parts e k calm q rest come
-      after Undone parts e k calm q rest come = again Undone parts e k calm q rest come
-      after (Refuse opts) parts e k calm q rest come = again (Refuse opts) parts e k calm q rest come
-      after (Settle status) parts e k calm q rest come = again (Settle status) parts e k calm q rest come
-      after GiveUp parts e k calm q rest come = again GiveUp parts e k calm q rest come
-      after Try parts e k calm q rest come = again Try parts e k calm q rest come
-      after Back parts e k calm q rest come = again Back parts e k calm q rest come
+      after part parts e k calm q rest come = again part parts e k calm q rest come
 
       -- an ERR
       refused : (x : Trial) → x ≡ p.trial → (q rest : List ℕ) → Comes p kinds.Failed q → (e : ErrPacket) → err_at (is_greeting (context_of p.talk).spot) q ≡ Some e → IsFine c ms (refused_at x (with_talk p (grow kinds.Failed p.talk q) rest) (server_error e))
@@ -440,36 +133,10 @@ module _ (login : Login) (c : Call) (ms : List Made) where
             MoreErrors ms (server_error x) (both (passes_errors c) _ e).0 NoErrors,
             Hearing trying false (Drain ∷ parts) (with_talk p (grow kinds.Failed p.talk q) rest) e tries off (λ y. absurd (cc)) (grown_error hushed ms made p None q rest x come is over refl w) unrefused,
           )
-      dropping All parts e q rest come x is = refused p.trial refl q rest come x is
-      dropping Head parts e q rest come x is = refused p.trial refl q rest come x is
-      dropping Item parts e q rest come x is = refused p.trial refl q rest come x is
-      dropping Set parts e q rest come x is = refused p.trial refl q rest come x is
-      dropping Rest parts e q rest come x is = refused p.trial refl q rest come x is
-      dropping Command parts e q rest come x is = refused p.trial refl q rest come x is
-      dropping Find parts e q rest come x is = refused p.trial refl q rest come x is
-      dropping (Check params) parts e q rest come x is = refused p.trial refl q rest come x is
-      dropping (Run params) parts e q rest come x is = refused p.trial refl q rest come x is
-      dropping Reply parts e q rest come x is = refused p.trial refl q rest come x is
-      dropping Keep parts e q rest come x is = refused p.trial refl q rest come x is
-      dropping Give parts e q rest come x is = refused p.trial refl q rest come x is
-      dropping Learn parts e q rest come x is = refused p.trial refl q rest come x is
-      dropping Forget parts e q rest come x is = refused p.trial refl q rest come x is
-      dropping Offered parts e q rest come x is = refused p.trial refl q rest come x is
-      dropping Clear parts e q rest come x is = refused p.trial refl q rest come x is
-      dropping (Text text) parts e q rest come x is = refused p.trial refl q rest come x is
-      dropping (Flag flag) parts e q rest come x is = refused p.trial refl q rest come x is
-      dropping (Adopt change) parts e q rest come x is = refused p.trial refl q rest come x is
-      dropping Renew parts e q rest come x is = refused p.trial refl q rest come x is
-      dropping Undo parts e q rest come x is = refused p.trial refl q rest come x is
-      dropping Undone parts e q rest come x is = refused p.trial refl q rest come x is
-      dropping (Refuse opts) parts e q rest come x is = refused p.trial refl q rest come x is
-      dropping (Settle status) parts e q rest come x is = refused p.trial refl q rest come x is
-      dropping GiveUp parts e q rest come x is = refused p.trial refl q rest come x is
-      dropping Try parts e q rest come x is = refused p.trial refl q rest come x is
-      dropping Back parts e q rest come x is = refused p.trial refl q rest come x is
+      dropping part parts e q rest come x is = refused p.trial refl q rest come x is
 
       reading : (part : Part) (parts : List Part) → is_tried c trying (part ∷ parts) ≡ true → IsFine c ms (reads login part parts p)
-      reading part parts e = payloads_have (IsFine c ms) login part parts p (halted trying hushed p tries off over w) (faulted hushed None p w (λ x y. absurd (cc))) (again part parts e) (after part parts e) (dropping part parts e)
+      reading part parts e = errors_have (IsFine c ms) p (faulted hushed None p w (λ x y. absurd (cc))) login part parts (halted trying hushed p tries off over w) (again part parts e) (after part parts e) (dropping part parts e)
 
       -- an exchange begins
       command : (call : Call) (parts : List Part) (x : Option Talk) → ((t : Talk) → x ≡ Some t → IsNew t) → is_tried c trying parts ≡ true → IsFine c ms (with_command call parts p x)
@@ -634,7 +301,7 @@ module _ (login : Login) (c : Call) (ms : List Made) where
         })
 
     back_reads : IsFine c ms (reads login Back [] p)
-    back_reads = payloads_have (IsFine c ms) login Back [] p (late true first p is (λ x. absurd (cc)) w) (faulted true (Some first) p w (λ x y. absurd (cc))) back_again back_again back_error
+    back_reads = errors_have (IsFine c ms) p (faulted true (Some first) p w (λ x y. absurd (cc))) login Back [] (late true first p is (λ x. absurd (cc)) w) back_again back_again back_error
 
   back_part : (hushed : Bool) (first : ServerError) (p : Place) → c ≡ Commit → p.trial ≡ Refused first → (hushed ≡ false → is_over p.talk ≡ true) → HeardAt hushed ms p (Some first) → IsFine c ms (step_of login c (Back ∷ []) p)
   back_part true first p is i over w = either (IsFine c ms) (is_over p.talk) _ _ (λ done. first_told true first p p.trial i done w) (λ _. back_reads first p is i w)

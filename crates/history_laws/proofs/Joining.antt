@@ -20,6 +20,7 @@ use Rattle.history_laws.specs.Given.{have_ended, with_ending}
 use Rattle.history_laws.specs.Owners.{AreOf, EachIsOwned, IsArranged, IsOwnedOf, IsTied, OwnsFirst, begun_in, calls_in, may_lack}
 use Rattle.history_laws.specs.Settled.{Knows}
 use Rattle.history_laws.specs.Table.{Follow, Opening}
+use Rattle.history_laws.proofs.Calls.{connect_is}
 use Rattle.history_laws.proofs.Asking.{AreConnects}
 use Rattle.history_laws.proofs.Connecting.{IsJoined, JoinsAt, JoinsSo, connect_stops}
 use Rattle.history_laws.proofs.Connecting.{Stopped as Joined}
@@ -28,29 +29,6 @@ use Rattle.history_laws.proofs.Shaping.{IsShook, over_answered}
 use Rattle.history_laws.proofs.Stepping.{both}
 use Rattle.history_laws.proofs.Telling.{first_rests, rests_on}
 use Rattle.history_laws.proofs.Tying.{Between, all_begun, calls_owned, ended_owned}
-
--- the call that connects
-connect_is : (c : Call) → is_connect (kind_of c) ≡ true → calls.Connect ≡ c
-connect_is calls.Connect e = refl
-connect_is (calls.Query text) e = cc
-connect_is (calls.Prepare text) e = cc
-connect_is (calls.Execute statement params) e = cc
-connect_is (calls.Batch statement lists) e = cc
-connect_is (calls.CloseStmt id) e = cc
-connect_is calls.NextRow e = cc
-connect_is calls.DropResult e = cc
-connect_is calls.TakeSet e = cc
-connect_is calls.SkipTaken e = cc
-connect_is calls.Ping e = cc
-connect_is calls.Reset e = cc
-connect_is (calls.ChangeUser change) e = cc
-connect_is (calls.Begin opts) e = cc
-connect_is calls.Commit e = cc
-connect_is calls.Rollback e = cc
-connect_is calls.ForgetTransaction e = cc
-connect_is calls.CleanForPool e = cc
-connect_is calls.ResetForPool e = cc
-connect_is calls.Quit e = cc
 
 idle_shook : (s : Spot) → is_idle s ≡ true → is_greeting s ≡ false
 idle_shook spots.Idle e = refl

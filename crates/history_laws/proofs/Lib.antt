@@ -1,6 +1,8 @@
 pub mod Growing
 pub mod Having
 pub mod Phases
+pub mod Calls
+pub mod Opening
 pub mod Stepping
 pub mod Giving
 pub mod Running
@@ -11,6 +13,7 @@ pub mod Spelling
 pub mod Sending
 pub mod Finding
 pub mod Blaming
+pub mod Heard
 pub mod Hearing
 pub mod Telling
 pub mod Shaping

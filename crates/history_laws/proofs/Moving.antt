@@ -1,12 +1,11 @@
 -- What a step of a call does to the exchanges and to the bytes: nothing, it reads a payload, or it begins an exchange.
-use Rattle.std.proofs.Common.{◌≡◌, ℕ, suc, zero, length, nat_lt, List, [], ◌∷◌, Bool, true, false, cond, ◌||◌, Option, Some, None, slice_get, refl, subst}
+use Rattle.std.proofs.Common.{◌≡◌, ℕ, length, nat_lt, List, [], ◌∷◌, Bool, true, false, cond, ◌||◌, Option, Some, None, refl}
 use Rattle.my_flags.specs.declared.flags.CapabilityFlags.{CapabilityFlags}
 use Rattle.my_frame.specs.Front.{Front, Waiting, Broken, Whole}
 use Rattle.my_reply.specs.declared.err.ErrPacket.{ErrPacket}
 use Rattle.my_reply.specs.ErrPacket.{err_at}
 use Rattle.my_reply.specs.declared.replies.PrepareOk.{PrepareOk}
 use Rattle.my_reply.specs.Replies.{prepare_ok_at}
-use Rattle.my_grammar.proofs.Commands.{commands_silent}
 use Rattle.my_grammar.specs.declared.login.Login.{Login}
 use Rattle.my_grammar.specs.declared.spot.Kind.{Kind}
 use Rattle.my_grammar.specs.declared.spot.Kind.TheVariants as kinds
@@ -15,30 +14,28 @@ use Rattle.my_grammar.specs.Contexts.{is_bad}
 use Rattle.my_grammar.specs.Cut.{front_of, is_over, kind_of as payload_kind}
 use Rattle.my_grammar.specs.Growth.{grow}
 use Rattle.my_grammar.specs.Response.{response}
-use Rattle.my_grammar.specs.Sets.{Asking, ByStatement, NoSets}
-use Rattle.my_grammar.specs.Talk.{Talk, Queried, Fits, commands_in, context_of, limit_of, origin, server_bytes, turns}
+use Rattle.my_grammar.specs.Talk.{Talk, commands_in, context_of, limit_of}
 use Rattle.my_handshake.specs.Version.{version_of}
-use Rattle.my_params.specs.LongData.{ahead_of}
-use Rattle.my_params.specs.Parameters.{body_of}
 use Rattle.my_reading.specs.declared.call.Call.{Call}
-use Rattle.my_reading.specs.declared.call.Call.TheVariants.{Connect, Query, Prepare, Execute, Batch, CloseStmt, NextRow, DropResult, TakeSet, SkipTaken, Ping, Reset, ChangeUser, Begin, Commit, Rollback, ForgetTransaction, CleanForPool, ResetForPool, Quit}
+use Rattle.my_reading.specs.declared.call.Call.TheVariants.{Prepare}
 use Rattle.my_reading.specs.declared.error.DriverError.{DriverError}
 use Rattle.my_reading.specs.declared.error.Error.{Error}
 use Rattle.my_reading.specs.declared.error.ServerError.{ServerError}
 use Rattle.my_reading.specs.declared.transaction.Trial.{Trial}
 use Rattle.my_reading.specs.declared.transaction.Trial.TheVariants as trials
 use Rattle.my_reading.specs.Calls.{id_in, statement_in, text_in}
-use Rattle.my_reading.specs.Commands.{arranging, arranging_texts, closing, execution, opening, queried}
+use Rattle.my_reading.specs.Commands.{queried}
 use Rattle.my_reading.specs.Course.{Part, All, Head, Item, Set, Rest, Command, Find, Check, Run, Reply, Keep, Give, Learn, Forget, Offered, Clear, Text, Flag, Adopt, Renew, Drain, Undo, Undone, Refuse, Settle, GiveUp, Try, Back, Step, Goes, Stops, after_err, after_kind, after_payload, checked, closing_of, dropped_at, executed, failure, first_above, found, is_drain, is_greeting, is_rows, offered, reads, refused_at, renewing, returned, step, step_of, undone, unfit, unless_cached, unless_long, unless_owed, unless_refused, with_command, with_front}
 use Rattle.my_reading.specs.Errors.{server_error}
 use Rattle.my_reading.specs.Executions.{Values, Fitting, Unfitting, values_for}
 use Rattle.my_reading.specs.Facts.{prepared_by}
 use Rattle.my_reading.specs.Place.{Place, connects_in, exchanges, facts_at, next_exchange, owed, terms_of, with_exchange, with_statements, with_talk, without_end}
-use Rattle.my_reading.specs.Statements.{Statements, held_in, is_cached, is_mixed_text, known_in, leaving, query_of, with_columns, with_prepared}
+use Rattle.my_reading.specs.Statements.{Statements, held_in, is_cached, is_mixed_text, leaving, query_of, with_columns, with_prepared}
 use Rattle.my_reading.specs.Told.{Told}
 use Rattle.my_reading.specs.Transactions.{begin_refusal, is_given_up, rollback_text}
 use Rattle.my_reading.specs.Versions.{can_reset}
 use Rattle.my_statements.specs.Cache.{Held}
+use Rattle.history_laws.proofs.Opening.{IsNew, closing_new, executed_new, opened_new, queried_new, some_new}
 
 -- another place with the same exchanges and bytes
 pub record IsAlike (p q : Place) : Type 0 where
@@ -47,12 +44,6 @@ pub record IsAlike (p q : Place) : Type 0 where
   pub unread : q.unread ≡ p.unread
   pub sent : q.sent ≡ p.sent
   pub call : q.call ≡ p.call
-
--- an exchange that begins: nothing was received of it
-pub record IsNew (t : Talk) : Type 0 where
-  pub fits : Fits t
-  pub silent : server_bytes (turns t) ≡ []
-  pub origin_is : origin t ≡ t
 
 -- While bytes are owed nothing is read and nothing begins.
 pub data Moved (p : Place) : Place → Type 0 where
@@ -64,50 +55,6 @@ pub data Moved (p : Place) : Place → Type 0 where
 abbrev pub place_of : Step → Place
 place_of (Goes parts q) = q
 place_of (Stops q s) = q
-
--- the exchanges that begin
-pub queried_new : (terms : Terms) (text : List ℕ) → IsNew (queried terms text)
-queried_new terms text = record { fits = record { kinds = tt; within = tt }; silent = refl; origin_is = refl }
-
-pub some_new : (u t : Talk) → IsNew u → Some u ≡ Some t → IsNew t
-some_new u t n e = let same : u ≡ t = cc in subst IsNew same n
-
-arranged_new : (terms : Terms) (o : Option (List ℕ)) (t : Talk) → arranging terms o ≡ Some t → IsNew t
-arranged_new terms None t e = cc
-arranged_new terms (Some text) t e = some_new (queried terms text) t (queried_new terms text) e
-
-pub executed_new : (terms : Terms) (st : Statements) (id : ℕ) (v : Values) (t : Talk) → execution terms st id v ≡ Some t → IsNew t
-executed_new terms st id (Fitting values) t e =
-    let asking : Asking = ByStatement (ahead_of id values) (known_in st id) in
-    some_new (Queried terms (body_of id values) (NoSets asking)) t (record { fits = record { kinds = tt; within = tt }; silent = commands_silent (body_of id values) asking; origin_is = refl }) e
-executed_new terms st id (Unfitting x) t e = cc
-
-pub closing_new : (terms : Terms) (x : Option ℕ) (t : Talk) → closing_of terms x ≡ Some t → IsNew t
-closing_new terms None t e = cc
-closing_new terms (Some id) t e = some_new (closing terms id) t (record { fits = record { kinds = tt; within = tt }; silent = refl; origin_is = refl }) e
-
-pub opened_new : (login : Login) (terms : Terms) (st : Statements) (c : Call) (n : ℕ) (t : Talk) → opening login terms st c n ≡ Some t → IsNew t
-opened_new login terms st Connect zero t e = some_new _ t (record { fits = record { kinds = tt; within = tt }; silent = refl; origin_is = refl }) e
-opened_new login terms st Connect (suc n) t e = arranged_new terms (slice_get (arranging_texts login) n) t e
-opened_new login terms st (Execute statement params) n t e = executed_new terms st statement.inner.id (values_for statement params) t e
-opened_new login terms st (Query text) n t e = some_new _ t (record { fits = record { kinds = tt; within = tt }; silent = refl; origin_is = refl }) e
-opened_new login terms st (Prepare text) n t e = some_new _ t (record { fits = record { kinds = tt; within = tt }; silent = refl; origin_is = refl }) e
-opened_new login terms st (Batch statement lists) n t e = cc
-opened_new login terms st (CloseStmt id) n t e = some_new _ t (record { fits = record { kinds = tt; within = tt }; silent = refl; origin_is = refl }) e
-opened_new login terms st NextRow n t e = cc
-opened_new login terms st DropResult n t e = cc
-opened_new login terms st TakeSet n t e = cc
-opened_new login terms st SkipTaken n t e = cc
-opened_new login terms st Ping n t e = some_new _ t (record { fits = record { kinds = tt; within = tt }; silent = refl; origin_is = refl }) e
-opened_new login terms st Reset n t e = some_new _ t (record { fits = record { kinds = tt; within = tt }; silent = refl; origin_is = refl }) e
-opened_new login terms st (ChangeUser change) n t e = cc
-opened_new login terms st (Begin opts) n t e = cc
-opened_new login terms st Commit n t e = cc
-opened_new login terms st Rollback n t e = cc
-opened_new login terms st ForgetTransaction n t e = cc
-opened_new login terms st CleanForPool n t e = cc
-opened_new login terms st ResetForPool n t e = cc
-opened_new login terms st Quit n t e = some_new _ t (record { fits = record { kinds = tt; within = tt }; silent = refl; origin_is = refl }) e
 
 module _ (p : Place) (paid : owed p ≡ []) where
   stays : Moved p p

@@ -1,5 +1,5 @@
 -- Each step of a call leaves its exchanges in order.
-use Rattle.std.proofs.Common.{◌≡◌, ℕ, suc, zero, List, [], ◌∷◌, Bool, true, false, cond, ◌&&◌, ◌||◌, Option, Some, None, refl, sym, ap, ◌∙◌, subst}
+use Rattle.std.proofs.Common.{◌≡◌, ℕ, suc, zero, List, [], ◌∷◌, Bool, true, false, cond, ◌||◌, Option, Some, None, refl, sym, ap, ◌∙◌, subst}
 use Rattle.my_grammar.proofs.Growth.{grows}
 use Rattle.my_grammar.specs.declared.login.Login.{Login}
 use Rattle.my_grammar.specs.declared.spot.Kind.{Kind}
@@ -10,72 +10,34 @@ use Rattle.my_grammar.specs.Growth.{grow}
 use Rattle.my_grammar.specs.Talk.{Talk, Fits, context_of}
 use Rattle.my_handshake.specs.Version.{version_of}
 use Rattle.my_reading.specs.declared.call.Call.{Call}
-use Rattle.my_reading.specs.declared.call.Call.TheVariants.{Connect, Query, Prepare, Execute, Batch, CloseStmt, NextRow, DropResult, TakeSet, SkipTaken, Ping, Reset, ChangeUser, Begin, Commit, Rollback, ForgetTransaction, CleanForPool, ResetForPool, Quit}
+use Rattle.my_reading.specs.declared.call.Call.TheVariants.{Prepare}
 use Rattle.my_reading.specs.declared.error.DriverError.{DriverError}
 use Rattle.my_reading.specs.declared.error.ServerError.{ServerError}
 use Rattle.my_reading.specs.declared.transaction.Trial.{Trial}
 use Rattle.my_reading.specs.declared.transaction.Trial.TheVariants as trials
 use Rattle.my_reply.specs.declared.err.ErrPacket.{ErrPacket}
-use Rattle.my_params.specs.declared.params.Params.{Params}
 use Rattle.my_reading.specs.Accounts.{changed}
 use Rattle.my_reading.specs.Calls.{id_in, statement_in}
-use Rattle.my_reading.specs.Commands.{arranging_texts, closing, queried}
-use Rattle.my_reading.specs.Course.{Part, All, Head, Item, Set, Rest, Command, Find, Check, Run, Reply, Keep, Give, Learn, Forget, Offered, Clear, Text, Flag, Adopt, Renew, Drain, Undo, Undone, Refuse, Settle, GiveUp, Try, Back, Step, Goes, Stops, after_kind, is_drain, checked, executed, is_rows, offered, reads, refused_at, renewing, step, step_of, undone, parts_of, parts_of_batch, parts_of_lists, parts_of_queries, parts_of_texts, closing_of, enough, found, returned, run, unless_owed, unless_refused, with_command}
+use Rattle.my_reading.specs.Commands.{closing, queried}
+use Rattle.my_reading.specs.Course.{Part, All, Head, Item, Set, Rest, Command, Find, Check, Run, Reply, Keep, Give, Learn, Forget, Offered, Clear, Text, Flag, Adopt, Renew, Drain, Undo, Undone, Refuse, Settle, GiveUp, Try, Back, Step, Goes, Stops, after_kind, is_drain, checked, executed, is_rows, offered, reads, refused_at, renewing, step, step_of, undone, parts_of, closing_of, enough, found, returned, run, unless_owed, unless_refused, with_command}
 use Rattle.my_reading.specs.Errors.{server_error}
 use Rattle.my_reading.specs.Executions.{Values, Fitting, Unfitting, values_for}
 use Rattle.my_reading.specs.Place.{Place, connects_in, exchanges, first_place, with_bytes, facts_at, next_exchange, owed, terms_of, with_account, with_end, with_exchange, with_statements, with_status, with_talk, with_trial, without_end}
 use Rattle.my_reading.specs.Statements.{Statements, cleared, with_columns, without_statement}
 use Rattle.my_reading.specs.Transactions.{begin_refusal, given_up, is_given_up, rollback_text, rolled_back}
 use Rattle.my_reading.specs.Versions.{can_reset}
+use Rattle.history_laws.proofs.Calls.{is_orderly, parts_orderly}
 use Rattle.history_laws.proofs.Growing.{failed_over}
 use Rattle.history_laws.proofs.Having.{Comes, begun_has, command_has, drains_have, either, reads_have, row_at}
 use Rattle.history_laws.specs.Order.{AreDone, IsOrderly, EachIsOrderly}
-use Rattle.history_laws.proofs.Stepping.{opened_fits, executed_fits}
+use Rattle.history_laws.proofs.Opening.{opened_fits, executed_fits}
+use Rattle.history_laws.proofs.Stepping.{both}
 use Rattle.my_reading.specs.Reading.{halt_of, is_closing, read_calls, reading}
 use Rattle.my_reading.specs.Tape.{Span, spans}
-use Rattle.my_reading.specs.Commands.{setup_texts}
-use Rattle.my_reading.specs.Transactions.{begin_texts}
 use Rattle.my_reading.specs.Facts.{prepared_by}
 use Rattle.my_reading.specs.Calls.{text_in}
 use Rattle.my_reading.specs.Statements.{held_in, is_mixed_text, leaving, query_of, with_prepared}
 use Rattle.my_statements.specs.Cache.{Held}
-use Rattle.my_reading.specs.declared.transaction.TxStatus.TheVariants.{InTransaction}
-
--- the parts that begin an exchange come only where the one before is over
-abbrev is_orderly : Bool → List Part → Bool
-is_orderly over [] = true
-is_orderly over (All ∷ parts) = is_orderly true parts
-is_orderly over (Reply ∷ parts) = is_orderly true parts
-is_orderly over (Drain ∷ parts) = is_orderly true parts
-is_orderly over (Back ∷ parts) = true
-is_orderly over (Head ∷ parts) = is_orderly false parts
-is_orderly over (Item ∷ parts) = is_orderly false parts
-is_orderly over (Set ∷ parts) = is_orderly false parts
-is_orderly over (Rest ∷ parts) = is_orderly false parts
-is_orderly over (Command ∷ parts) = over && is_orderly false parts
-is_orderly over (Run params ∷ parts) = over && is_orderly false parts
-is_orderly over (Text text ∷ parts) = over && is_orderly false parts
-is_orderly over (Renew ∷ parts) = over && is_orderly false parts
-is_orderly over (Keep ∷ parts) = over && is_orderly false parts
-is_orderly over (Undo ∷ parts) = over && is_orderly false parts
-is_orderly over (Find ∷ parts) = is_orderly over parts
-is_orderly over (Check params ∷ parts) = is_orderly over parts
-is_orderly over (Give ∷ parts) = is_orderly over parts
-is_orderly over (Learn ∷ parts) = is_orderly over parts
-is_orderly over (Forget ∷ parts) = is_orderly over parts
-is_orderly over (Offered ∷ parts) = is_orderly over parts
-is_orderly over (Clear ∷ parts) = is_orderly over parts
-is_orderly over (Flag flag ∷ parts) = is_orderly over parts
-is_orderly over (Adopt change ∷ parts) = is_orderly over parts
-is_orderly over (Undone ∷ parts) = is_orderly over parts
-is_orderly over (Refuse opts ∷ parts) = is_orderly over parts
-is_orderly over (Settle status ∷ parts) = is_orderly over parts
-is_orderly over (GiveUp ∷ parts) = is_orderly over parts
-is_orderly over (Try ∷ parts) = is_orderly over parts
-
-both : (a b : Bool) → (a && b) ≡ true → (a ≡ true) × (b ≡ true)
-both true b e = (refl, e)
-both false b e = cc
 
 abbrev Ordered : List Part → Place → Type 0
 Ordered parts p = (over : Bool) × (is_orderly over parts ≡ true) × (over ≡ true → is_over p.talk ≡ true) × IsOrderly p
@@ -256,44 +218,6 @@ run_fine zero login c (Stops p s) w = w
 run_fine (suc n) login c (Stops p s) w = w
 run_fine zero login c (Goes parts p) w = w.3
 run_fine (suc n) login c (Goes parts p) w = run_fine n login c (step login c parts p) (step_fine login c parts p w)
-
-texts_orderly : (over : Bool) (texts : List (List ℕ)) → is_orderly true (parts_of_texts texts) ≡ true
-texts_orderly over [] = refl
-texts_orderly over (text ∷ texts) = texts_orderly over texts
-
-lists_orderly : (lists : List Params) → is_orderly true (parts_of_lists lists) ≡ true
-lists_orderly [] = refl
-lists_orderly (params ∷ lists) = lists_orderly lists
-
-batch_orderly : (lists : List Params) → is_orderly false (parts_of_batch lists) ≡ true
-batch_orderly [] = refl
-batch_orderly (params ∷ lists) = lists_orderly lists
-
-queries_orderly : (over : Bool) (texts : List (List ℕ)) (parts : List Part) → is_orderly true parts ≡ true → is_orderly over (parts_of_queries texts parts) ≡ true
-queries_orderly over [] parts e = e
-queries_orderly over (text ∷ texts) parts e = queries_orderly false texts parts e
-
-parts_orderly : (login : Login) (c : Call) → is_orderly false (parts_of login c) ≡ true
-parts_orderly login Connect = texts_orderly false (arranging_texts login)
-parts_orderly login (Batch statement lists) = batch_orderly lists
-parts_orderly login Reset = queries_orderly true (setup_texts login) (Flag true ∷ []) refl
-parts_orderly login (ChangeUser change) = queries_orderly true (setup_texts login) [] refl
-parts_orderly login (Begin opts) = queries_orderly true (begin_texts opts) (Settle InTransaction ∷ []) refl
-parts_orderly login ResetForPool = queries_orderly true (setup_texts login) [] refl
-parts_orderly login (Query text) = refl
-parts_orderly login (Prepare text) = refl
-parts_orderly login (Execute statement params) = refl
-parts_orderly login (CloseStmt id) = refl
-parts_orderly login NextRow = refl
-parts_orderly login DropResult = refl
-parts_orderly login TakeSet = refl
-parts_orderly login SkipTaken = refl
-parts_orderly login Ping = refl
-parts_orderly login Commit = refl
-parts_orderly login Rollback = refl
-parts_orderly login ForgetTransaction = refl
-parts_orderly login CleanForPool = refl
-parts_orderly login Quit = refl
 
 halt_orderly : (login : Login) (closed : Bool) (s : Span) (p : Place) → IsOrderly p → IsOrderly (halt_of login closed s p).place
 halt_orderly login true s p w = same p _ refl refl w

@@ -8,7 +8,6 @@ use Rattle.my_grammar.specs.declared.spot.Terms.{Terms}
 use Rattle.my_grammar.specs.Cut.{is_over}
 use Rattle.my_grammar.specs.Growth.{grow}
 use Rattle.my_grammar.specs.Talk.{Talk, Fits, context_of, packets_of}
-use Rattle.my_handshake.specs.declared.version.ServerVersion.{ServerVersion}
 use Rattle.my_handshake.specs.Version.{version_of}
 use Rattle.my_params.specs.declared.params.Params.{Params}
 use Rattle.my_reply.specs.declared.err.ErrPacket.{ErrPacket}
@@ -39,9 +38,10 @@ use Rattle.history_laws.specs.Owners.{IsTied, OwnsFirst, calls_in, may_lack, nee
 use Rattle.history_laws.specs.Sent.{is_answered}
 use Rattle.history_laws.specs.Settled.{Knows, is_known}
 use Rattle.history_laws.specs.Table.{Follow, Opens, Opening, Closing, Running, Asking, Renewing, Undoing, queries_of, renews}
+use Rattle.history_laws.proofs.Calls.{pooled}
 use Rattle.history_laws.proofs.Having.{Comes, begun_has, drains_have, either, reads_have, row_at}
-use Rattle.history_laws.proofs.Hearing.{idle_bad}
-use Rattle.history_laws.proofs.Moving.{IsNew, closing_new, executed_new, opened_new, queried_new}
+use Rattle.history_laws.proofs.Heard.{idle_bad}
+use Rattle.history_laws.proofs.Opening.{IsNew, closing_new, executed_new, opened_new, queried_new}
 use Rattle.history_laws.proofs.Sending.{fresh, grown_paid}
 use Rattle.history_laws.proofs.Setting.{known_on}
 use Rattle.history_laws.proofs.Shaping.{IsShook, executed_shook, opened_shook, shook_on}
@@ -122,29 +122,6 @@ or_true false = refl
 
 asks_own : (c : Call) → asks (kind_of c) ≡ true → owns_more (kind_of c) ≡ true
 asks_own c e = ap (λ b. b || is_connect (kind_of c)) e
-
--- a pool's cleaning alone renews by a reset
-pooled : (c : Call) (v : ServerVersion) → renews_by_reset (kind_of c) v ≡ true → c ≡ calls.ResetForPool
-pooled calls.Connect v e = cc
-pooled (calls.Query text) v e = cc
-pooled (calls.Prepare text) v e = cc
-pooled (calls.Execute statement params) v e = cc
-pooled (calls.Batch statement lists) v e = cc
-pooled (calls.CloseStmt id) v e = cc
-pooled calls.NextRow v e = cc
-pooled calls.DropResult v e = cc
-pooled calls.TakeSet v e = cc
-pooled calls.SkipTaken v e = cc
-pooled calls.Ping v e = cc
-pooled calls.Reset v e = cc
-pooled (calls.ChangeUser change) v e = cc
-pooled (calls.Begin opts) v e = cc
-pooled calls.Commit v e = cc
-pooled calls.Rollback v e = cc
-pooled calls.ForgetTransaction v e = cc
-pooled calls.CleanForPool v e = cc
-pooled calls.ResetForPool v e = refl
-pooled calls.Quit v e = cc
 
 module _ (login : Login) (c : Call) (ms : List Made) (other : is_connect (kind_of c) ≡ false) where
   -- a payload more

@@ -8,7 +8,7 @@ use Rattle.my_params.specs.declared.params.Params.{Params}
 use Rattle.my_statements.specs.Prepared.{StatementView}
 use Rattle.my_value.specs.declared.value.Value.{Value}
 use Rattle.my_reading.specs.declared.call.Call.{Call}
-use Rattle.my_reading.specs.declared.call.Call.TheVariants.{Connect, Query, Prepare, Execute, Batch, CloseStmt, NextRow, DropResult, TakeSet, SkipTaken, Ping, Reset, ChangeUser, Begin, Commit, Rollback, ForgetTransaction, CleanForPool, ResetForPool, Quit}
+use Rattle.my_reading.specs.declared.call.Call.TheVariants.{Connect, Prepare, Execute, Batch, NextRow, DropResult, TakeSet, SkipTaken, Reset, ChangeUser, Begin, Commit, Rollback, ForgetTransaction, CleanForPool, ResetForPool}
 use Rattle.my_reading.specs.declared.transaction.TxStatus.{TxStatus}
 use Rattle.my_reading.specs.declared.transaction.TxStatus.TheVariants.{InTransaction}
 use Rattle.my_reading.specs.Calls.{asks, is_connect, kind_of}
@@ -67,16 +67,13 @@ executed_some terms st id (Unfitting x) values e = absurd (cc)
 
 pub parts_lead : (login : Login) (c : Call) (st : TxStatus) → is_connect (kind_of c) ≡ false → Leads login c false st (parts_of login c)
 parts_lead login Connect st other = absurd (cc)
-parts_lead login (Query text) st other = (refl, (refl, λ terms known n. refl, refl))
 parts_lead login (Prepare text) st other = (refl, (refl, λ terms known n. refl, (refl, refl)))
 parts_lead login (Execute statement params) st other = λ values e. (refl, (refl, λ terms known n. executed_some terms known statement.inner.id (values_for statement params) values e, refl))
 parts_lead login (Batch statement lists) st other = batch_lead login statement lists st
-parts_lead login (CloseStmt id) st other = (refl, (refl, λ terms known n. refl, refl))
 parts_lead login NextRow st other = refl
 parts_lead login DropResult st other = refl
 parts_lead login TakeSet st other = (refl, refl)
 parts_lead login SkipTaken st other = refl
-parts_lead login Ping st other = (refl, (refl, λ terms known n. refl, refl))
 parts_lead login Reset st other = (refl, (refl, λ terms known n. refl, queries_lead login Reset _ (setup_texts login) (Flag true ∷ []) refl (are_listed (setup_texts login)) (refl, refl)))
 parts_lead login (ChangeUser change) st other = (refl, (refl, refl, queries_lead login (ChangeUser change) _ (setup_texts login) [] refl (are_listed (setup_texts login)) refl))
 parts_lead login (Begin opts) st other = (refl, begin_lead login opts _ _)
@@ -85,4 +82,5 @@ parts_lead login Rollback st other = (refl, refl)
 parts_lead login ForgetTransaction st other = refl
 parts_lead login CleanForPool st other = (refl, or_true _)
 parts_lead login ResetForPool st other = (refl, (refl, refl, queries_lead login ResetForPool _ (setup_texts login) [] refl (are_listed (setup_texts login)) refl))
-parts_lead login Quit st other = (refl, (refl, λ terms known n. refl, refl))
+-- a call of one command
+parts_lead login c st other = (refl, (refl, λ terms known n. refl, refl))

@@ -1,56 +1,30 @@
 -- Calls one after another give callers what is in the sets.
-use Rattle.std.proofs.Common.{◌≡◌, ◌⊎◌, inl, inr, ℕ, suc, zero, nat_le, List, [], ◌∷◌, Bool, true, false, not, ◌&&◌, ◌||◌, Option, Some, None, is_some, refl, sym, ap, subst}
+use Rattle.std.proofs.Common.{◌≡◌, ◌⊎◌, inl, inr, ℕ, suc, zero, nat_le, List, [], ◌∷◌, Bool, true, false, not, ◌&&◌, Option, Some, None, is_some, refl, sym, ap, subst}
 use Rattle.my_grammar.specs.declared.login.Login.{Login}
 use Rattle.my_reading.specs.declared.call.Call.{Call}
-use Rattle.my_reading.specs.declared.call.Call.TheVariants.{Connect, Query, Prepare, Execute, Batch, CloseStmt, NextRow, DropResult, TakeSet, SkipTaken, Ping, Reset, ChangeUser, Begin, Commit, Rollback, ForgetTransaction, CleanForPool, ResetForPool, Quit}
-use Rattle.my_params.specs.declared.params.Params.{Params}
-use Rattle.my_reading.specs.declared.transaction.TxStatus.TheVariants.{InTransaction}
+use Rattle.my_reading.specs.declared.call.Call.TheVariants.{Connect, NextRow, DropResult, TakeSet, SkipTaken}
 use Rattle.my_reading.specs.declared.error.Error.{Error}
-use Rattle.my_reading.specs.Calls.{kind_of, is_connect, statement_in}
-use Rattle.my_reading.specs.Executions.{values_for}
-use Rattle.my_reading.specs.Commands.{arranging_texts, setup_texts}
-use Rattle.my_reading.specs.Course.{Part, All, Item, Set, Rest, Flag, Settle, Step, Goes, Stops, Stop, Owes, Awaits, Returns, Halt, course, enough, parts_of, parts_of_batch, parts_of_lists, parts_of_queries, parts_of_texts, run, step, step_of, unless_owed}
+use Rattle.my_reading.specs.Calls.{kind_of, is_connect}
+use Rattle.my_reading.specs.Course.{Part, All, Item, Set, Rest, Step, Goes, Stops, Stop, Owes, Awaits, Returns, Halt, course, enough, parts_of, run, step, step_of, unless_owed}
 use Rattle.my_reading.specs.Endings.{AreCalls, Ends, IsCut, IsOpen, IsCancelled, IsLinkFailure, IsLinkEnd, closes_cancelled, connects_first}
 use Rattle.my_reading.specs.Place.{Place, first_place, owed as owed_at, with_bytes}
 use Rattle.my_reading.specs.Reading.{ReadCall, closed_answer, is_closing, read_calls, reading}
 use Rattle.my_reading.specs.Order.{are_in_order, is_within, leads_to}
 use Rattle.my_reading.specs.Tape.{Span, Tape, TapeCall, spans, spans_from}
 use Rattle.my_reading.specs.Told.{Told, ToldError, Dropped, closes}
-use Rattle.my_reading.specs.Transactions.{begin_texts}
 use Rattle.history_laws.specs.Given.{AreMade, connects, Passed, EachTapeGives, PrefixesAreGiven, have_ended, with_ending}
 use Rattle.history_laws.specs.Given.{NonePassed, MorePassed}
 use Rattle.history_laws.specs.Given.{NoCalls, OneCall}
-use Rattle.history_laws.specs.Groups.{Group, Made, given, given_after}
-use Rattle.history_laws.proofs.Phases.{Answering, Backing, GaveAt, Heading, Replying, IsFine, IsHalted, KeptAt, Over, Passing, Drops, Skips, Phase, Reading, Rests, Safely, Stopped, Taking, is_fitting, is_query, is_safe, reads_sets, returned_so, shifted}
+use Rattle.history_laws.specs.Groups.{Group, Made, given}
+use Rattle.history_laws.proofs.Calls.{cancelled_reads, closed_same, parts_safe, query_plain}
+use Rattle.history_laws.proofs.Phases.{Answering, Backing, GaveAt, Heading, Replying, IsFine, IsHalted, KeptAt, Over, Passing, Drops, Skips, Phase, Reading, Rests, Safely, Stopped, Taking, reads_sets, returned_so, shifted}
 use Rattle.history_laws.proofs.Giving.{answer_fine, heading_fine, item_fine, over_fine, pass_fine, set_fine}
-use Rattle.history_laws.proofs.Stepping.{back_fine, both, or_right, reply_fine, safe_fine, told_gave}
+use Rattle.history_laws.proofs.Stepping.{back_fine, both, reply_fine, safe_fine, told_gave}
 
 -- what was passed over, and then more
 then_passed : (c : Call) (ms mid more : List Made) → Passed c ms mid → Passed c mid more → Passed c ms more
 then_passed c ms mid more a NonePassed = a
 then_passed c ms mid more a (MorePassed older t passes item b) = MorePassed older t passes item (then_passed c ms mid older a b)
-
-query_plain : (c : Call) → is_query c ≡ true → reads_sets c ≡ false
-query_plain Connect e = refl
-query_plain (Query text) e = refl
-query_plain (Prepare text) e = refl
-query_plain (Execute statement params) e = refl
-query_plain (Batch statement lists) e = refl
-query_plain (CloseStmt id) e = refl
-query_plain NextRow e = absurd (cc)
-query_plain DropResult e = absurd (cc)
-query_plain TakeSet e = absurd (cc)
-query_plain SkipTaken e = absurd (cc)
-query_plain Ping e = refl
-query_plain Reset e = refl
-query_plain (ChangeUser change) e = refl
-query_plain (Begin opts) e = refl
-query_plain Commit e = refl
-query_plain Rollback e = refl
-query_plain ForgetTransaction e = refl
-query_plain CleanForPool e = refl
-query_plain ResetForPool e = refl
-query_plain Quit e = refl
 
 step_part : (login : Login) (c : Call) (ms : List Made) (parts : List Part) (p : Place) → Phase c ms parts p → IsFine c ms (step_of login c parts p)
 step_part login c ms parts p (Safely kept trying ps q o plain e w k) = safe_fine login ms c plain kept trying ps q o e w k
@@ -104,95 +78,13 @@ run_fine (suc n) login c ms mid a (Stops p s) w = (mid, a, w)
 run_fine zero login c ms mid a (Goes parts p) w = (w.0, then_passed c ms mid w.0 a w.1, phase_halted c w.0 parts p w.2)
 run_fine (suc n) login c ms mid a (Goes parts p) w = run_fine n login c ms w.0 (then_passed c ms mid w.0 a w.1) (step login c parts p) (step_fine login c w.0 parts p w.2)
 
--- the parts of calls are safe
-texts_safe : (texts : List (List ℕ)) → is_safe Connect true false (parts_of_texts texts) ≡ true
-texts_safe [] = refl
-texts_safe (text ∷ texts) = texts_safe texts
-
-lists_safe : (c : Call) → is_query c ≡ false → (lists : List Params) → is_safe c true false (parts_of_lists lists) ≡ true
-lists_safe c other [] = ap not other
-lists_safe c other (params ∷ lists) = or_right (not (is_fitting (values_for (statement_in c) params))) _ (lists_safe c other lists)
-
-batch_safe : (c : Call) → is_query c ≡ false → (lists : List Params) → is_safe c true false (parts_of_batch lists) ≡ true
-batch_safe c other [] = ap not other
-batch_safe c other (params ∷ lists) = or_right (not (is_fitting (values_for (statement_in c) params))) _ (lists_safe c other lists)
-
-queries_safe : (c : Call) (kept : Bool) (texts : List (List ℕ)) (parts : List Part) → is_safe c true false parts ≡ true → is_safe c kept false (parts_of_queries texts parts) ≡ true
-queries_safe c kept [] parts e = e
-queries_safe c kept (text ∷ texts) parts e = queries_safe c false texts parts e
-
--- an execution goes on only where its values fit
-fits_or_not : (b : Bool) → (not b || (b && true)) ≡ true
-fits_or_not true = refl
-fits_or_not false = refl
-
 begins_fine : (login : Login) (c : Call) (ms : List Made) (p : Place) (o : Option (List Group)) → GaveAt false ms p o → (is_connect (kind_of c) ≡ false → KeptAt p o) → Phase c ms (parts_of login c) p
-begins_fine login Connect ms p o w k = Safely false false (parts_of login Connect) p o refl (texts_safe (arranging_texts login)) w (λ e. absurd (cc))
-begins_fine login (Execute statement params) ms p o w k = Safely true false (parts_of login (Execute statement params)) p o refl (fits_or_not (is_fitting (values_for statement params))) w (λ _. k refl)
-begins_fine login (Batch statement lists) ms p o w k = Safely true false (parts_of_batch lists) p o refl (batch_safe (Batch statement lists) refl lists) w (λ _. k refl)
-begins_fine login Reset ms p o w k = Safely true false (parts_of login Reset) p o refl (queries_safe Reset true (setup_texts login) (Flag true ∷ []) refl) w (λ _. k refl)
-begins_fine login (ChangeUser change) ms p o w k = Safely true false (parts_of login (ChangeUser change)) p o refl (queries_safe (ChangeUser change) true (setup_texts login) [] refl) w (λ _. k refl)
-begins_fine login ResetForPool ms p o w k = Safely true false (parts_of login ResetForPool) p o refl (queries_safe ResetForPool true (setup_texts login) [] refl) w (λ _. k refl)
-begins_fine login (Begin opts) ms p o w k = Safely true false (parts_of login (Begin opts)) p o refl (queries_safe (Begin opts) true (begin_texts opts) (Settle InTransaction ∷ []) refl) w (λ _. k refl)
+begins_fine login Connect ms p o w k = Safely false false (parts_of login Connect) p o refl (parts_safe login Connect refl) w (λ e. absurd (cc))
 begins_fine login NextRow ms p o w k = Reading p o refl w (k refl)
 begins_fine login TakeSet ms p o w k = Taking p o refl w (k refl)
 begins_fine login DropResult ms p o w k = Passing All p o Drops w (k refl)
 begins_fine login SkipTaken ms p o w k = Passing Rest p o Skips w (k refl)
-begins_fine login (Query text) ms p o w k = Safely true false (parts_of login (Query text)) p o refl refl w (λ _. k refl)
-begins_fine login (Prepare text) ms p o w k = Safely true false (parts_of login (Prepare text)) p o refl refl w (λ _. k refl)
-begins_fine login (CloseStmt id) ms p o w k = Safely true false (parts_of login (CloseStmt id)) p o refl refl w (λ _. k refl)
-begins_fine login Ping ms p o w k = Safely true false (parts_of login Ping) p o refl refl w (λ _. k refl)
-begins_fine login Commit ms p o w k = Safely true false (parts_of login Commit) p o refl refl w (λ _. k refl)
-begins_fine login Rollback ms p o w k = Safely true false (parts_of login Rollback) p o refl refl w (λ _. k refl)
-begins_fine login ForgetTransaction ms p o w k = Safely true false (parts_of login ForgetTransaction) p o refl refl w (λ _. k refl)
-begins_fine login CleanForPool ms p o w k = Safely true false (parts_of login CleanForPool) p o refl refl w (λ _. k refl)
-begins_fine login Quit ms p o w k = Safely true false (parts_of login Quit) p o refl refl w (λ _. k refl)
-
--- what a call on a closed session returns gives nothing
-closed_same : (c : Call) (gs : List (List Group)) → given_after (closed_answer c) (kind_of c) gs ≡ gs
-closed_same Connect gs = refl
-closed_same (Query text) gs = refl
-closed_same (Prepare text) gs = refl
-closed_same (Execute statement params) gs = refl
-closed_same (Batch statement lists) gs = refl
-closed_same (CloseStmt id) gs = refl
-closed_same NextRow gs = refl
-closed_same DropResult gs = refl
-closed_same TakeSet gs = refl
-closed_same SkipTaken gs = refl
-closed_same Ping gs = refl
-closed_same Reset gs = refl
-closed_same (ChangeUser change) gs = refl
-closed_same (Begin opts) gs = refl
-closed_same Commit gs = refl
-closed_same Rollback gs = refl
-closed_same ForgetTransaction gs = refl
-closed_same CleanForPool gs = refl
-closed_same ResetForPool gs = refl
-closed_same Quit gs = refl
-
--- a call that may be cancelled without closing the session keeps what is left
-pub cancelled_reads : (c : Call) (p : Place) → closes_cancelled (kind_of c) p ≡ false → not (reads_sets c) ≡ false
-cancelled_reads Connect p e = absurd (cc)
-cancelled_reads (Query text) p e = absurd (cc)
-cancelled_reads (Prepare text) p e = absurd (cc)
-cancelled_reads (Execute statement params) p e = absurd (cc)
-cancelled_reads (Batch statement lists) p e = absurd (cc)
-cancelled_reads (CloseStmt id) p e = absurd (cc)
-cancelled_reads NextRow p e = refl
-cancelled_reads DropResult p e = refl
-cancelled_reads TakeSet p e = refl
-cancelled_reads SkipTaken p e = refl
-cancelled_reads Ping p e = absurd (cc)
-cancelled_reads Reset p e = absurd (cc)
-cancelled_reads (ChangeUser change) p e = absurd (cc)
-cancelled_reads (Begin opts) p e = absurd (cc)
-cancelled_reads Commit p e = absurd (cc)
-cancelled_reads Rollback p e = absurd (cc)
-cancelled_reads ForgetTransaction p e = absurd (cc)
-cancelled_reads CleanForPool p e = absurd (cc)
-cancelled_reads ResetForPool p e = absurd (cc)
-cancelled_reads Quit p e = absurd (cc)
+begins_fine login c ms p o w k = Safely true false (parts_of login c) p o refl (parts_safe login c refl) w (λ _. k refl)
 
 module _ (login : Login) (s : Span) (h : Halt) (mid : List Made) where
   abbrev call : ReadCall

@@ -1,5 +1,5 @@
 -- Which exchanges await a greeting, and which are over only once they were answered.
-use Rattle.std.proofs.Common.{◌≡◌, ℕ, List, Bool, true, false, cond, Some, refl, subst}
+use Rattle.std.proofs.Common.{◌≡◌, ℕ, List, Bool, true, false, cond, Some, refl}
 use Rattle.my_flags.specs.declared.flags.StatusFlags.{StatusFlags}
 use Rattle.my_flags.specs.Sets.{deprecates_eof, has_more_results}
 use Rattle.my_grammar.proofs.Growth.Known.{is_single_kind, is_then, known_single}
@@ -16,12 +16,12 @@ use Rattle.my_grammar.specs.Prepares.{Reply, Unanswered, Refused, InParameters, 
 use Rattle.my_grammar.specs.Sets.{Sets, NoSets, Lone, Failed, Heading, Headed, Begun, Ended, Broken, grow_sets, packets_in, spot_in}
 use Rattle.my_grammar.specs.Talk.{Talk, Start, Unwelcome, Greeted, Settled, Asked, Replied, Queried, Preparing, Silent, Fits, context_of}
 use Rattle.my_reading.specs.declared.call.Call.{Call}
-use Rattle.my_reading.specs.declared.call.Call.TheVariants.{Connect, Query, Prepare, Execute, Batch, CloseStmt, NextRow, DropResult, TakeSet, SkipTaken, Ping, Reset, ChangeUser, Begin, Commit, Rollback, ForgetTransaction, CleanForPool, ResetForPool, Quit}
 use Rattle.my_reading.specs.Calls.{is_connect, kind_of}
 use Rattle.my_reading.specs.Commands.{execution, opening}
 use Rattle.my_reading.specs.Course.{is_greeting}
-use Rattle.my_reading.specs.Executions.{Values, Fitting, Unfitting, values_for}
+use Rattle.my_reading.specs.Executions.{Values}
 use Rattle.my_reading.specs.Statements.{Statements}
+use Rattle.history_laws.proofs.Opening.{Opened, Starts, Queries, Prepares, Asks, Tells, Runs, executed, opened}
 use Rattle.history_laws.specs.Sent.{ends_answered, is_answered}
 
 -- an exchange that doesn't await the greeting
@@ -66,34 +66,19 @@ shook_on (Preparing terms c r) k q e = reply_shook (grow_reply (deprecates_eof t
 shook_on (Silent terms c) k q e = refl
 
 -- what any call but the one that connects begins
-pub some_shook : (u t : Talk) → IsShook u → Some u ≡ Some t → IsShook t
-some_shook u t n e = let same : u ≡ t = cc in subst (λ (x : Talk). is_greeting (context_of x).spot ≡ false) same n
+begun_shook : (connects : Bool) (terms : Terms) (t : Talk) → connects ≡ false → Opened connects terms t → IsShook t
+begun_shook connects terms t other (Starts login e) = absurd (cc)
+begun_shook connects terms t other (Queries text) = refl
+begun_shook connects terms t other (Prepares command) = refl
+begun_shook connects terms t other (Asks command) = refl
+begun_shook connects terms t other (Tells command) = refl
+begun_shook connects terms t other (Runs command asking) = refl
 
 pub executed_shook : (terms : Terms) (st : Statements) (id : ℕ) (v : Values) (t : Talk) → execution terms st id v ≡ Some t → IsShook t
-executed_shook terms st id (Fitting values) t e = some_shook _ t refl e
-executed_shook terms st id (Unfitting x) t e = cc
+executed_shook terms st id v t e = begun_shook false terms t refl (executed false terms st id v t e)
 
 pub opened_shook : (login : Login) (terms : Terms) (st : Statements) (c : Call) (n : ℕ) (t : Talk) → is_connect (kind_of c) ≡ false → opening login terms st c n ≡ Some t → IsShook t
-opened_shook login terms st Connect n t other e = absurd (cc)
-opened_shook login terms st (Execute statement params) n t other e = executed_shook terms st statement.inner.id (values_for statement params) t e
-opened_shook login terms st (Query text) n t other e = some_shook _ t refl e
-opened_shook login terms st (Prepare text) n t other e = some_shook _ t refl e
-opened_shook login terms st (Batch statement lists) n t other e = cc
-opened_shook login terms st (CloseStmt id) n t other e = some_shook _ t refl e
-opened_shook login terms st NextRow n t other e = cc
-opened_shook login terms st DropResult n t other e = cc
-opened_shook login terms st TakeSet n t other e = cc
-opened_shook login terms st SkipTaken n t other e = cc
-opened_shook login terms st Ping n t other e = some_shook _ t refl e
-opened_shook login terms st Reset n t other e = some_shook _ t refl e
-opened_shook login terms st (ChangeUser change) n t other e = cc
-opened_shook login terms st (Begin opts) n t other e = cc
-opened_shook login terms st Commit n t other e = cc
-opened_shook login terms st Rollback n t other e = cc
-opened_shook login terms st ForgetTransaction n t other e = cc
-opened_shook login terms st CleanForPool n t other e = cc
-opened_shook login terms st ResetForPool n t other e = cc
-opened_shook login terms st Quit n t other e = some_shook _ t refl e
+opened_shook login terms st c n t other e = begun_shook (is_connect (kind_of c)) terms t other (opened login terms st c n t e)
 
 -- the exchanges of connecting
 abbrev pub connects : Talk → Bool

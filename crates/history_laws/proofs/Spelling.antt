@@ -19,7 +19,8 @@ use Rattle.my_reading.specs.Reading.{reading}
 use Rattle.my_reading.specs.Tape.{spans}
 use Rattle.history_laws.specs.Taken.{EachIsSpelled, taken_by}
 use Rattle.history_laws.proofs.Keeping.{all_taken, calls_keep}
-use Rattle.history_laws.proofs.Moving.{Moved, Alters, Takes, Begins, IsAlike, IsNew}
+use Rattle.history_laws.proofs.Moving.{Moved, Alters, Takes, Begins, IsAlike}
+use Rattle.history_laws.proofs.Opening.{IsNew}
 
 bytes_after : (a b bytes : List ℕ) → bytes ≡ a ++ b → AreBytes bytes → AreBytes b
 bytes_after a b bytes e w = record {

@@ -1,5 +1,5 @@
 -- Each step of a call gives callers what is in the sets, by the parts that are left.
-use Rattle.std.proofs.Common.{◌≡◌, inl, ℕ, suc, zero, List, [], ◌∷◌, Bool, true, false, cond, not, ◌&&◌, ◌||◌, Option, Some, None, slice_get, refl, sym, ap, ◌∙◌, subst}
+use Rattle.std.proofs.Common.{◌≡◌, inl, ℕ, List, [], ◌∷◌, Bool, true, false, cond, not, ◌&&◌, ◌||◌, Option, Some, None, refl, sym, ap, ◌∙◌, subst}
 use Rattle.my_command.specs.declared.client.ClientPacket.TheVariants as packets
 use Rattle.my_command.specs.Client.Packet.{client_bytes as packet_bytes}
 use Rattle.my_grammar.proofs.Growth.{grows}
@@ -14,7 +14,7 @@ use Rattle.my_grammar.specs.Prepares.{Unanswered}
 use Rattle.my_grammar.specs.Talk.{Talk, Preparing, Queried, Silent, Fits, context_of}
 use Rattle.my_handshake.specs.Version.{version_of}
 use Rattle.my_reading.specs.declared.call.Call.{Call}
-use Rattle.my_reading.specs.declared.call.Call.TheVariants.{Connect, Query, Prepare, Execute, Batch, CloseStmt, NextRow, DropResult, TakeSet, SkipTaken, Ping, Reset, ChangeUser, Begin, Commit, Rollback, ForgetTransaction, CleanForPool, ResetForPool, Quit}
+use Rattle.my_reading.specs.declared.call.Call.TheVariants.{Query, Prepare, Execute, CloseStmt, Quit}
 use Rattle.my_reading.specs.declared.error.DriverError.{DriverError}
 use Rattle.my_reading.specs.declared.error.Error.{Error}
 use Rattle.my_reading.specs.declared.error.Error.TheVariants.{Driver, Io, Server}
@@ -28,7 +28,7 @@ use Rattle.my_params.specs.LongData.{ahead_of}
 use Rattle.my_params.specs.Parameters.{body_of}
 use Rattle.my_reading.specs.Accounts.{changed}
 use Rattle.my_reading.specs.Calls.{id_in, kind_of, statement_in, text_in}
-use Rattle.my_reading.specs.Commands.{arranging, arranging_texts, closing, execution, opening, queried}
+use Rattle.my_reading.specs.Commands.{closing, execution, queried}
 use Rattle.my_reading.specs.Course.{Part, All, Head, Item, Set, Rest, Command, Find, Check, Run, Reply, Keep, Give, Learn, Forget, Offered, Clear, Text, Flag, Adopt, Renew, Drain, Undo, Undone, Refuse, Settle, GiveUp, Try, Back, Goes, Returns, after_kind, checked, closing_of, executed, failure, found, is_rows, kept, looked_for, offered, refused_at, renewing, returned, step_of, undone, unless_refused, with_command}
 use Rattle.my_reading.specs.Errors.{mixed_params, server_error}
 use Rattle.my_reading.specs.Facts.{prepared_by}
@@ -40,7 +40,9 @@ use Rattle.my_reading.specs.Told.{Told, ToldReady, ToldStatement, ToldFlag, Told
 use Rattle.my_reading.specs.Transactions.{begin_refusal, given_up, is_given_up, rollback_text, rolled_back}
 use Rattle.my_reading.specs.Versions.{can_reset}
 use Rattle.history_laws.specs.Given.{NonePassed}
-use Rattle.history_laws.specs.Groups.{Group, Made, given, given_after, ready_given}
+use Rattle.history_laws.specs.Groups.{Group, Made, given, given_after}
+use Rattle.history_laws.proofs.Calls.{ready_same}
+use Rattle.history_laws.proofs.Opening.{executed_fits, opened_fits}
 use Rattle.history_laws.proofs.Growing.{failed_over, given_on}
 use Rattle.history_laws.proofs.Having.{Comes, begun_has, command_has, drains_have, either, reads_have, row_at}
 use Rattle.history_laws.proofs.Phases.{Gave, GaveAt, IsFine, IsHalted, KeptAt, Stopped, Safely, Heading, Replying, Backing, is_back, is_fitting, is_head, is_query, is_reply, is_safe, may_return, reads_sets, returned_so, settled, shifted}
@@ -48,67 +50,6 @@ use Rattle.history_laws.proofs.Phases.{Gave, GaveAt, IsFine, IsHalted, KeptAt, S
 pub both : (a b : Bool) → (a && b) ≡ true → (a ≡ true) × (b ≡ true)
 both true b e = (refl, e)
 both false b e = cc
-
--- what returns nothing of a set gives nothing
-ready_same : (c : Call) → is_query c ≡ false → (gs : List (List Group)) → ready_given (kind_of c) gs ≡ gs
-ready_same Connect other gs = refl
-ready_same (Query text) other gs = cc
-ready_same (Prepare text) other gs = refl
-ready_same (Execute statement params) other gs = cc
-ready_same (Batch statement lists) other gs = refl
-ready_same (CloseStmt id) other gs = refl
-ready_same NextRow other gs = refl
-ready_same DropResult other gs = refl
-ready_same TakeSet other gs = refl
-ready_same SkipTaken other gs = refl
-ready_same Ping other gs = refl
-ready_same Reset other gs = refl
-ready_same (ChangeUser change) other gs = refl
-ready_same (Begin opts) other gs = refl
-ready_same Commit other gs = refl
-ready_same Rollback other gs = refl
-ready_same ForgetTransaction other gs = refl
-ready_same CleanForPool other gs = refl
-ready_same ResetForPool other gs = refl
-ready_same Quit other gs = refl
-
--- exchanges that begin are ones that the protocol has
-some_same : (u t : Talk) → Some u ≡ Some t → u ≡ t
-some_same u t e = cc
-
-some_fits : (u t : Talk) → Fits u → Some u ≡ Some t → Fits t
-some_fits u t f e = subst Fits (some_same u t e) f
-
-arranged_fits : (terms : Terms) (o : Option (List ℕ)) (t : Talk) → arranging terms o ≡ Some t → Fits t
-arranged_fits terms None t e = cc
-arranged_fits terms (Some text) t e = some_fits (queried terms text) t (record { kinds = tt; within = tt }) e
-
-pub executed_fits : (terms : Terms) (st : Statements) (id : ℕ) (v : Values) (t : Talk) → execution terms st id v ≡ Some t → Fits t
-executed_fits terms st id (Fitting values) t e = some_fits _ t (record { kinds = tt; within = tt }) e
-executed_fits terms st id (Unfitting x) t e = cc
-
-pub opened_fits : (login : Login) (terms : Terms) (st : Statements) (c : Call) (n : ℕ) (t : Talk) → opening login terms st c n ≡ Some t → Fits t
-opened_fits login terms st Connect zero t e = some_fits _ t (record { kinds = tt; within = tt }) e
-opened_fits login terms st Connect (suc n) t e = arranged_fits terms (slice_get (arranging_texts login) n) t e
-opened_fits login terms st (Execute statement params) n t e = executed_fits terms st statement.inner.id (values_for statement params) t e
-opened_fits login terms st (Query text) n t e = some_fits _ t (record { kinds = tt; within = tt }) e
-opened_fits login terms st (Prepare text) n t e = some_fits _ t (record { kinds = tt; within = tt }) e
-opened_fits login terms st (Batch statement lists) n t e = cc
-opened_fits login terms st (CloseStmt id) n t e = some_fits _ t (record { kinds = tt; within = tt }) e
-opened_fits login terms st NextRow n t e = cc
-opened_fits login terms st DropResult n t e = cc
-opened_fits login terms st TakeSet n t e = cc
-opened_fits login terms st SkipTaken n t e = cc
-opened_fits login terms st Ping n t e = some_fits _ t (record { kinds = tt; within = tt }) e
-opened_fits login terms st Reset n t e = some_fits _ t (record { kinds = tt; within = tt }) e
-opened_fits login terms st (ChangeUser change) n t e = cc
-opened_fits login terms st (Begin opts) n t e = cc
-opened_fits login terms st Commit n t e = cc
-opened_fits login terms st Rollback n t e = cc
-opened_fits login terms st ForgetTransaction n t e = cc
-opened_fits login terms st CleanForPool n t e = cc
-opened_fits login terms st ResetForPool n t e = cc
-opened_fits login terms st Quit n t e = some_fits _ t (record { kinds = tt; within = tt }) e
 
 -- more is read of the newest exchange
 pub grown_gave : (trying : Bool) (ms : List Made) (p : Place) (o : Option (List Group)) (k : Kind) (q : List ℕ) → Comes p k q → GaveAt trying ms p o → Gave trying ms (grow k p.talk q) p.older p.trial o
@@ -163,10 +104,6 @@ module _ (c : Call) (ms : List Made) where
 pub not_true : (b : Bool) → not b ≡ true → b ≡ false
 not_true true e = cc
 not_true false e = refl
-
-pub or_right : (a b : Bool) → b ≡ true → (a || b) ≡ true
-or_right true b e = refl
-or_right false b e = e
 
 -- what may return rests, and nothing is being committed
 rests : (kept trying : Bool) → may_return kept trying ≡ true → (kept ≡ true) × (trying ≡ false)
@@ -371,21 +308,7 @@ module _ (login : Login) (ms : List Made) where
       prepares (Prepare text) plain parts p o (Preparing (terms_of login (exchanges p)) (packet_bytes (packets.Prepare (query_of text))) Unanswered) (record { kinds = tt; within = tt }) x.1 (of_trying login (Prepare text) ms plain trying p o (not_true trying x.0) w)
   commands_fine (CloseStmt id) plain kept trying parts p o e w = silent_fine login (CloseStmt id) ms plain trying (CloseStmt id) parts p o (closing (terms_of login (exchanges p)) id) (record { kinds = tt; within = tt }) refl e w
   commands_fine Quit plain kept trying parts p o e w = silent_fine login Quit ms plain trying Quit parts p o (Silent (terms_of login (exchanges p)) (packet_bytes packets.Quit)) (record { kinds = tt; within = tt }) refl e w
-  commands_fine Connect plain kept trying parts p o e w = some_fine login Connect ms plain trying parts p o (next_exchange login Connect p) (opened_fits login (terms_of login (exchanges p)) p.statements Connect (connects_in (exchanges p))) e w
-  commands_fine (Batch statement lists) plain kept trying parts p o e w = some_fine login (Batch statement lists) ms plain trying parts p o (next_exchange login (Batch statement lists) p) (opened_fits login (terms_of login (exchanges p)) p.statements (Batch statement lists) (connects_in (exchanges p))) e w
-  commands_fine Ping plain kept trying parts p o e w = some_fine login Ping ms plain trying parts p o (next_exchange login Ping p) (opened_fits login (terms_of login (exchanges p)) p.statements Ping (connects_in (exchanges p))) e w
-  commands_fine Reset plain kept trying parts p o e w = some_fine login Reset ms plain trying parts p o (next_exchange login Reset p) (opened_fits login (terms_of login (exchanges p)) p.statements Reset (connects_in (exchanges p))) e w
-  commands_fine (ChangeUser change) plain kept trying parts p o e w = some_fine login (ChangeUser change) ms plain trying parts p o (next_exchange login (ChangeUser change) p) (opened_fits login (terms_of login (exchanges p)) p.statements (ChangeUser change) (connects_in (exchanges p))) e w
-  commands_fine (Begin opts) plain kept trying parts p o e w = some_fine login (Begin opts) ms plain trying parts p o (next_exchange login (Begin opts) p) (opened_fits login (terms_of login (exchanges p)) p.statements (Begin opts) (connects_in (exchanges p))) e w
-  commands_fine Commit plain kept trying parts p o e w = some_fine login Commit ms plain trying parts p o (next_exchange login Commit p) (opened_fits login (terms_of login (exchanges p)) p.statements Commit (connects_in (exchanges p))) e w
-  commands_fine Rollback plain kept trying parts p o e w = some_fine login Rollback ms plain trying parts p o (next_exchange login Rollback p) (opened_fits login (terms_of login (exchanges p)) p.statements Rollback (connects_in (exchanges p))) e w
-  commands_fine ForgetTransaction plain kept trying parts p o e w = some_fine login ForgetTransaction ms plain trying parts p o (next_exchange login ForgetTransaction p) (opened_fits login (terms_of login (exchanges p)) p.statements ForgetTransaction (connects_in (exchanges p))) e w
-  commands_fine CleanForPool plain kept trying parts p o e w = some_fine login CleanForPool ms plain trying parts p o (next_exchange login CleanForPool p) (opened_fits login (terms_of login (exchanges p)) p.statements CleanForPool (connects_in (exchanges p))) e w
-  commands_fine ResetForPool plain kept trying parts p o e w = some_fine login ResetForPool ms plain trying parts p o (next_exchange login ResetForPool p) (opened_fits login (terms_of login (exchanges p)) p.statements ResetForPool (connects_in (exchanges p))) e w
-  commands_fine NextRow plain kept trying parts p o e w = absurd (cc)
-  commands_fine DropResult plain kept trying parts p o e w = absurd (cc)
-  commands_fine TakeSet plain kept trying parts p o e w = absurd (cc)
-  commands_fine SkipTaken plain kept trying parts p o e w = absurd (cc)
+  commands_fine c plain kept trying parts p o e w = some_fine login c ms plain trying parts p o (next_exchange login c p) (opened_fits login (terms_of login (exchanges p)) p.statements c (connects_in (exchanges p))) e w
 
   -- a step of a call that is safe
   pub safe_fine : (c : Call) (plain : reads_sets c ≡ false) (kept trying : Bool) (parts : List Part) (p : Place) (o : Option (List Group)) → is_safe c kept trying parts ≡ true → GaveAt trying ms p o → (kept ≡ true → KeptAt p o)

@@ -1,29 +1,26 @@
 -- Calls one after another have callers hear the ERRs of the exchanges.
 use Rattle.std.proofs.Common.{◌≡◌, ◌⊎◌, inl, inr, ℕ, suc, zero, List, [], ◌∷◌, Bool, true, false, not, Option, Some, None, is_some, refl, sym, ap, ◌∙◌, subst}
 use Rattle.my_grammar.specs.declared.login.Login.{Login}
-use Rattle.my_params.specs.declared.params.Params.{Params}
 use Rattle.my_reading.specs.declared.call.Call.{Call}
-use Rattle.my_reading.specs.declared.call.Call.TheVariants.{Connect, Query, Prepare, Execute, Batch, CloseStmt, NextRow, DropResult, TakeSet, SkipTaken, Ping, Reset, ChangeUser, Begin, Commit, Rollback, ForgetTransaction, CleanForPool, ResetForPool, Quit}
 use Rattle.my_reading.specs.declared.error.Error.{Error}
 use Rattle.my_reading.specs.declared.error.ServerError.{ServerError}
 use Rattle.my_reading.specs.declared.transaction.Trial.TheVariants.{Off}
-use Rattle.my_reading.specs.declared.transaction.TxStatus.TheVariants.{InTransaction}
 use Rattle.my_reading.specs.Calls.{kind_of}
-use Rattle.my_reading.specs.Commands.{arranging_texts, setup_texts}
-use Rattle.my_reading.specs.Course.{Part, Flag, Settle, Step, Goes, Stops, Stop, Owes, Awaits, Returns, Halt, course, enough, parts_of, parts_of_batch, parts_of_lists, parts_of_queries, parts_of_texts, run, step}
+use Rattle.my_reading.specs.Course.{Step, Goes, Stops, Stop, Owes, Awaits, Returns, Halt, course, enough, parts_of, run, step}
 use Rattle.my_reading.specs.Endings.{AreCalls, Ends, IsCut, IsOpen, IsCancelled, IsLinkFailure, IsLinkEnd, IsTape, closes_cancelled}
 use Rattle.my_grammar.specs.Cut.{is_over}
 use Rattle.my_reading.specs.Place.{Place, exchanges, first_place, with_bytes}
 use Rattle.my_reading.specs.Reading.{ReadCall, closed_answer, is_closing, read_calls, reading}
 use Rattle.my_reading.specs.Tape.{Span, Tape, spans}
 use Rattle.my_reading.specs.Told.{Told, ToldError, Dropped, closes}
-use Rattle.my_reading.specs.Transactions.{begin_texts}
 use Rattle.history_laws.specs.Errors.{AreHeard, AreHushed, EachIsHeard, PassedErrors, NoErrors, MoreErrors, NoneHeard, OneHeard, errors_of, errors_told, with_told, with_unheard}
 use Rattle.history_laws.specs.Given.{have_ended, with_ending}
 use Rattle.history_laws.specs.Groups.{Made}
-use Rattle.history_laws.proofs.Hearing.{Hearing, HeardAt, IsFine, IsHalted, Phase, Rests, Stopped, is_tried, phase_halted, step_fine}
+use Rattle.history_laws.proofs.Calls.{cancelled_reads, closed_calm, parts_tried}
+use Rattle.history_laws.proofs.Heard.{Hearing, HeardAt, IsFine, IsHalted, Phase, Rests, Stopped}
+use Rattle.history_laws.proofs.Hearing.{phase_halted, step_fine}
 use Rattle.history_laws.proofs.Phases.{reads_sets, returned_so}
-use Rattle.history_laws.proofs.Running.{cancelled_reads, ended_from, rest_ended}
+use Rattle.history_laws.proofs.Running.{ended_from, rest_ended}
 use Rattle.history_laws.proofs.Stepping.{both}
 
 -- what was passed over, and then more
@@ -42,72 +39,10 @@ run_fine (suc n) login c ms mid a (Stops p s) w = (mid, a, w)
 run_fine zero login c ms mid a (Goes parts p) w = (w.0, then_passed c ms mid w.0 a w.1, phase_halted login c w.0 parts p w.2)
 run_fine (suc n) login c ms mid a (Goes parts p) w = run_fine n login c ms w.0 (then_passed c ms mid w.0 a w.1) (step login c parts p) (step_fine login c w.0 parts p w.2)
 
--- the parts of calls
-texts_tried : (texts : List (List ℕ)) → is_tried Connect false (parts_of_texts texts) ≡ true
-texts_tried [] = refl
-texts_tried (text ∷ texts) = texts_tried texts
-
-lists_tried : (c : Call) (lists : List Params) → is_tried c false (parts_of_lists lists) ≡ true
-lists_tried c [] = refl
-lists_tried c (params ∷ lists) = lists_tried c lists
-
-batch_tried : (c : Call) (lists : List Params) → is_tried c false (parts_of_batch lists) ≡ true
-batch_tried c [] = refl
-batch_tried c (params ∷ lists) = lists_tried c lists
-
-queries_tried : (c : Call) (texts : List (List ℕ)) (parts : List Part) → is_tried c false parts ≡ true → is_tried c false (parts_of_queries texts parts) ≡ true
-queries_tried c [] parts e = e
-queries_tried c (text ∷ texts) parts e = queries_tried c texts parts e
-
-parts_tried : (login : Login) (c : Call) → is_tried c false (parts_of login c) ≡ true
-parts_tried login Connect = texts_tried (arranging_texts login)
-parts_tried login (Batch statement lists) = batch_tried (Batch statement lists) lists
-parts_tried login Reset = queries_tried Reset (setup_texts login) (Flag true ∷ []) refl
-parts_tried login (ChangeUser change) = queries_tried (ChangeUser change) (setup_texts login) [] refl
-parts_tried login (Begin opts) = queries_tried (Begin opts) (begin_texts opts) (Settle InTransaction ∷ []) refl
-parts_tried login ResetForPool = queries_tried ResetForPool (setup_texts login) [] refl
-parts_tried login (Query text) = refl
-parts_tried login (Prepare text) = refl
-parts_tried login (Execute statement params) = refl
-parts_tried login (CloseStmt id) = refl
-parts_tried login NextRow = refl
-parts_tried login DropResult = refl
-parts_tried login TakeSet = refl
-parts_tried login SkipTaken = refl
-parts_tried login Ping = refl
-parts_tried login Commit = refl
-parts_tried login Rollback = refl
-parts_tried login ForgetTransaction = refl
-parts_tried login CleanForPool = refl
-parts_tried login Quit = refl
-
 begins_fine : (login : Login) (c : Call) (ms : List Made) (p : Place) → Rests false ms p → Phase c ms (parts_of login c) p
 begins_fine login c ms p r =
     let off : p.trial ≡ Off = r.off refl in
     Hearing false r.hushed (parts_of login c) p (parts_tried login c) (λ x. absurd (cc)) (λ x. off) (r.over refl) (subst (λ (o : Option ServerError). HeardAt r.hushed ms p o) (r.clear refl) r.heard) (λ first i. absurd (cc))
-
--- what a call on a closed session returns is no error of the server
-closed_calm : (c : Call) (es : List ServerError) → with_told (closed_answer c) es ≡ es
-closed_calm Connect es = refl
-closed_calm (Query text) es = refl
-closed_calm (Prepare text) es = refl
-closed_calm (Execute statement params) es = refl
-closed_calm (Batch statement lists) es = refl
-closed_calm (CloseStmt id) es = refl
-closed_calm NextRow es = refl
-closed_calm DropResult es = refl
-closed_calm TakeSet es = refl
-closed_calm SkipTaken es = refl
-closed_calm Ping es = refl
-closed_calm Reset es = refl
-closed_calm (ChangeUser change) es = refl
-closed_calm (Begin opts) es = refl
-closed_calm Commit es = refl
-closed_calm Rollback es = refl
-closed_calm ForgetTransaction es = refl
-closed_calm CleanForPool es = refl
-closed_calm ResetForPool es = refl
-closed_calm Quit es = refl
 
 -- what was told besides a server's error
 told_rests : (closed : Bool) (c : Call) (ms : List Made) (p : Place) (t : Told) → ((es : List ServerError) → with_told t es ≡ es) → Rests closed ms p → Rests closed (returned_so c t ms) p

@@ -4,9 +4,7 @@ use Rattle.my_grammar.specs.declared.login.Login.{Login}
 use Rattle.my_grammar.specs.Cut.{is_over}
 use Rattle.my_grammar.specs.Talk.{Fits}
 use Rattle.my_reading.specs.declared.call.Call.{Call}
-use Rattle.my_reading.specs.declared.call.Call.TheVariants as calls
 use Rattle.my_reading.specs.declared.call.CallKind.{CallKind}
-use Rattle.my_reading.specs.declared.call.CallKind.TheVariants as callkinds
 use Rattle.my_reading.specs.Calls.{asks, is_connect, kind_of}
 use Rattle.my_reading.specs.Commands.{arranging_texts}
 use Rattle.my_reading.specs.Course.{Goes, Halt, Stop, Owes, Awaits, Returns, course, enough, parts_of}
@@ -22,7 +20,8 @@ use Rattle.history_laws.specs.Owners.{AreOf, IsArranged, IsOwnedOf, IsTied, begu
 use Rattle.history_laws.specs.Sent.{is_answered}
 use Rattle.history_laws.specs.Settled.{Knows}
 use Rattle.history_laws.specs.Table.{Follow}
-use Rattle.history_laws.proofs.Hearing.{Rests}
+use Rattle.history_laws.proofs.Calls.{cancelled_asks, closed_lacks}
+use Rattle.history_laws.proofs.Heard.{Rests}
 use Rattle.history_laws.proofs.Owning.{HeldAt, Owned, Stopped, Waits, is_off, run_fine}
 use Rattle.history_laws.proofs.Parts.{parts_lead}
 use Rattle.history_laws.proofs.Running.{rest_ended}
@@ -56,29 +55,6 @@ makes_none (Dropped closing) k e = refl
 same_made : (c : Call) (t : Told) (ms : List Made) → is_connect (kind_of c) ≡ false → was_made (record { call = c; what = t } ∷ ms) ≡ true → was_made ms ≡ true
 same_made c t ms other e = subst (λ b. (b || was_made ms) ≡ true) (makes_none t (kind_of c) other) e
 
--- what a call on a closed session returns needs no exchange
-closed_lacks : (c : Call) → may_lack (closed_answer c) c ≡ true
-closed_lacks calls.Connect = refl
-closed_lacks (calls.Query text) = refl
-closed_lacks (calls.Prepare text) = refl
-closed_lacks (calls.Execute statement params) = refl
-closed_lacks (calls.Batch statement lists) = refl
-closed_lacks (calls.CloseStmt id) = refl
-closed_lacks calls.NextRow = refl
-closed_lacks calls.DropResult = refl
-closed_lacks calls.TakeSet = refl
-closed_lacks calls.SkipTaken = refl
-closed_lacks calls.Ping = refl
-closed_lacks calls.Reset = refl
-closed_lacks (calls.ChangeUser change) = refl
-closed_lacks (calls.Begin opts) = refl
-closed_lacks calls.Commit = refl
-closed_lacks calls.Rollback = refl
-closed_lacks calls.ForgetTransaction = refl
-closed_lacks calls.CleanForPool = refl
-closed_lacks calls.ResetForPool = refl
-closed_lacks calls.Quit = refl
-
 closed_between : (login : Login) (s : Span) (ms : List Made) (p : Place) → is_connect (kind_of s.call) ≡ false → s.ending ≡ Some (closed_answer s.call) → Between login true ms p → Between login true (with_ending s.call s.ending ms) (with_bytes s.sent s.taken p)
 closed_between login s ms p other e b = subst (λ (x : Option Told). Between login true (with_ending s.call x ms) (with_bytes s.sent s.taken p)) (sym e)
     (record {
@@ -97,29 +73,6 @@ all_begun P p shook w = subst (λ b. P (cond b (calls_in p.older) (p.call ∷ ca
 
 from_begun : (P : List Call → Type 0) (p : Place) → IsShook p.talk → P (begun_in (exchanges p)) → P (p.call ∷ calls_in p.older)
 from_begun P p shook w = subst (λ b. P (cond b (calls_in p.older) (p.call ∷ calls_in p.older))) shook w
-
--- a call that may leave a session open when it is cancelled sends nothing
-cancelled_asks : (k : CallKind) (p : Place) → closes_cancelled k p ≡ false → asks k ≡ false
-cancelled_asks callkinds.Connect p e = absurd (cc)
-cancelled_asks callkinds.Query p e = absurd (cc)
-cancelled_asks callkinds.Prepare p e = absurd (cc)
-cancelled_asks callkinds.Execute p e = absurd (cc)
-cancelled_asks callkinds.Batch p e = absurd (cc)
-cancelled_asks callkinds.CloseStmt p e = absurd (cc)
-cancelled_asks callkinds.NextRow p e = refl
-cancelled_asks callkinds.DropResult p e = refl
-cancelled_asks callkinds.TakeSet p e = refl
-cancelled_asks callkinds.SkipTaken p e = refl
-cancelled_asks callkinds.Ping p e = absurd (cc)
-cancelled_asks callkinds.Reset p e = absurd (cc)
-cancelled_asks callkinds.ChangeUser p e = absurd (cc)
-cancelled_asks callkinds.Begin p e = absurd (cc)
-cancelled_asks callkinds.Commit p e = absurd (cc)
-cancelled_asks callkinds.Rollback p e = absurd (cc)
-cancelled_asks callkinds.ForgetTransaction p e = absurd (cc)
-cancelled_asks callkinds.CleanForPool p e = absurd (cc)
-cancelled_asks callkinds.ResetForPool p e = absurd (cc)
-cancelled_asks callkinds.Quit p e = absurd (cc)
 
 -- one call that doesn't connect, on an open session
 module _ (login : Login) (s : Span) (ms : List Made) (other : is_connect (kind_of s.call) ≡ false) where

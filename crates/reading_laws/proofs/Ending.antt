@@ -2,7 +2,7 @@
 use Rattle.std.proofs.Common.{◌≡◌, ℕ, Bool, true, false, not, ◌||◌, None, List, [], ◌∷◌, refl, sym, ap, subst}
 use Rattle.my_grammar.specs.declared.login.Login.{Login}
 use Rattle.my_reading.specs.declared.call.Call.{Call}
-use Rattle.my_reading.specs.declared.call.Call.TheVariants.{Connect, Query, Prepare, Execute, Batch, CloseStmt, NextRow, DropResult, TakeSet, SkipTaken, Ping, Reset, ChangeUser, Begin, Commit, Rollback, ForgetTransaction, CleanForPool, ResetForPool, Quit}
+use Rattle.my_reading.specs.declared.call.Call.TheVariants.{Prepare, CloseStmt}
 use Rattle.my_reading.specs.Calls.{kind_of}
 use Rattle.my_reading.specs.Course.{Stop, Owes, Awaits, Returns}
 use Rattle.my_reading.specs.Endings.{AreCalls, Ends, IsCut, IsOpen, IsCancelled, IsLinkFailure, IsLinkEnd, closes_cancelled}
@@ -41,24 +41,7 @@ module _ (login : Login) (c : ReadCall) where
       → is_settled call c.halt.stop ≡ true
   one_settles (Prepare text) whole e leaves ended = prepared_settles text c.halt.stop whole e leaves ended
   one_settles (CloseStmt id) whole e leaves ended = closed_settles id c.halt.stop whole e leaves ended
-  one_settles Connect whole e leaves ended = refl
-  one_settles (Query text) whole e leaves ended = refl
-  one_settles (Execute statement params) whole e leaves ended = refl
-  one_settles (Batch statement lists) whole e leaves ended = refl
-  one_settles NextRow whole e leaves ended = refl
-  one_settles DropResult whole e leaves ended = refl
-  one_settles TakeSet whole e leaves ended = refl
-  one_settles SkipTaken whole e leaves ended = refl
-  one_settles Ping whole e leaves ended = refl
-  one_settles Reset whole e leaves ended = refl
-  one_settles (ChangeUser change) whole e leaves ended = refl
-  one_settles (Begin opts) whole e leaves ended = refl
-  one_settles Commit whole e leaves ended = refl
-  one_settles Rollback whole e leaves ended = refl
-  one_settles ForgetTransaction whole e leaves ended = refl
-  one_settles CleanForPool whole e leaves ended = refl
-  one_settles ResetForPool whole e leaves ended = refl
-  one_settles Quit whole e leaves ended = refl
+  one_settles call whole e leaves ended = refl
 
 left_is_false : (a b : Bool) → (a || b) ≡ false → a ≡ false
 left_is_false true b e = absurd (cc)

@@ -1,5 +1,5 @@
 -- A connection is clean by its newest call: a connect call, a drop of a result, or a renewal of a clean one.
-use Rattle.std.proofs.Common.{◌≡◌, ◌++◌, ◌-◌, ◌≤◌, ◌<◌, ℕ, zero, suc, Bool, true, false, not, ◌||◌, ◌&&◌, List, [], ◌∷◌, Option, Some, length, take, drop, refl, ap, subst, sym, ◌∙◌, arith}
+use Rattle.std.proofs.Common.{◌≡◌, ◌++◌, ◌-◌, ◌≤◌, ℕ, zero, suc, Bool, true, false, not, ◌||◌, ◌&&◌, List, [], ◌∷◌, Option, Some, length, take, drop, refl, ap, subst, sym, ◌∙◌, arith}
 use Rattle.std.specs.Prelude.{nat_le, is_some}
 use Rattle.std.proofs.lemmas.Bool.Decides.{nat_tests}
 use Rattle.my_grammar.specs.declared.login.Login.{Login}
@@ -7,13 +7,13 @@ use Rattle.my_reading.specs.declared.call.Call.{Call}
 use Rattle.my_reading.specs.declared.call.Call.TheVariants.{Connect, DropResult, ResetForPool}
 use Rattle.my_reading.specs.declared.transaction.TxStatus.TheVariants as txs
 use Rattle.my_reading.specs.Calls.{kind_of, is_connect}
-use Rattle.my_reading.specs.Clean.{IsClean, have_ended, is_read_whole}
+use Rattle.my_reading.specs.Clean.{have_ended, is_read_whole}
 use Rattle.my_reading.specs.Course.{Returns}
 use Rattle.my_reading.specs.Endings.{AreCalls, IsCall, connects_first, connects_none}
 use Rattle.my_reading.specs.Order.{are_in_order, is_within, leads_to}
 use Rattle.my_reading.specs.Place.{Place, first_place, with_bytes}
-use Rattle.my_reading.specs.Reading.{ReadCall, Reading, halt_of, is_closing, read_calls, reading}
-use Rattle.my_reading.specs.Tape.{Span, Tape, TapeCall, between, sent_to, taken_to, spans, spans_from}
+use Rattle.my_reading.specs.Reading.{ReadCall, halt_of, is_closing, read_calls, reading}
+use Rattle.my_reading.specs.Tape.{Span, Tape, TapeCall, between, spans, spans_from}
 use Rattle.my_reading.specs.Told.{Told, ToldReady}
 use Rattle.reading_laws.specs.Cleaned.{IsCleanPlace, ConnectedIsClean, DroppedIsClean, RenewedIsClean, IsOneMore}
 use Rattle.reading_laws.proofs.Cleaned.{connecting_cleans, dropping_reads, renewal_refreshes, span_of, spans_end, read_call, joined, read_calls_end, last_is, ready_stop, cleaning, have_all_ended}

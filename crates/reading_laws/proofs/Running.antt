@@ -2,7 +2,7 @@
 use Rattle.std.proofs.Common.{◌≡◌, ℕ, suc, zero, Bool, true, false, ◌||◌, List, [], ◌∷◌, refl, arith}
 use Rattle.my_grammar.specs.declared.login.Login.{Login}
 use Rattle.my_reading.specs.declared.call.Call.{Call}
-use Rattle.my_reading.specs.declared.call.Call.TheVariants.{Connect, Query, Prepare, Execute, Batch, CloseStmt, NextRow, DropResult, TakeSet, SkipTaken, Ping, Reset, ChangeUser, Begin, Commit, Rollback, ForgetTransaction, CleanForPool, ResetForPool, Quit}
+use Rattle.my_reading.specs.declared.call.Call.TheVariants.{Prepare, CloseStmt}
 use Rattle.my_reading.specs.Course.{Stop, Awaits, Step, Goes, Stops, course, enough, parts_of, run, step}
 use Rattle.my_reading.specs.Place.{Place, exchanges, first_place, with_bytes}
 use Rattle.my_reading.specs.Reading.{ReadCall, halt_of, is_closing, read_calls, reading}
@@ -45,24 +45,7 @@ settled_are_kept login t h =
 answer_settles : (call : Call) (s : Stop) → is_answered s ≡ true → is_settled call s ≡ true
 answer_settles (Prepare text) s e = answer_leaves_open s e
 answer_settles (CloseStmt id) s e = e
-answer_settles Connect s e = refl
-answer_settles (Query text) s e = refl
-answer_settles (Execute statement params) s e = refl
-answer_settles (Batch statement lists) s e = refl
-answer_settles NextRow s e = refl
-answer_settles DropResult s e = refl
-answer_settles TakeSet s e = refl
-answer_settles SkipTaken s e = refl
-answer_settles Ping s e = refl
-answer_settles Reset s e = refl
-answer_settles (ChangeUser change) s e = refl
-answer_settles (Begin opts) s e = refl
-answer_settles Commit s e = refl
-answer_settles Rollback s e = refl
-answer_settles ForgetTransaction s e = refl
-answer_settles CleanForPool s e = refl
-answer_settles ResetForPool s e = refl
-answer_settles Quit s e = refl
+answer_settles call s e = refl
 
 pub or_settled : (closed b : Bool) → b ≡ true → (closed || b) ≡ true
 or_settled true b e = refl

@@ -12,7 +12,7 @@ use Rattle.my_grammar.specs.Prepares.{Unanswered}
 use Rattle.my_grammar.specs.Talk.{Talk, Preparing, context_of}
 use Rattle.my_statements.specs.Cache.{Held}
 use Rattle.my_reading.specs.declared.call.Call.{Call}
-use Rattle.my_reading.specs.declared.call.Call.TheVariants.{Connect, Query, Prepare, Execute, Batch, CloseStmt, NextRow, DropResult, TakeSet, SkipTaken, Ping, Reset, ChangeUser, Begin, Commit, Rollback, ForgetTransaction, CleanForPool, ResetForPool, Quit}
+use Rattle.my_reading.specs.declared.call.Call.TheVariants.{Connect, Query, Prepare, Execute, Batch, CloseStmt, Ping, Reset, ChangeUser, Begin, ResetForPool, Quit}
 use Rattle.my_params.specs.declared.params.Params.{Params}
 use Rattle.my_reading.specs.Accounts.{changed}
 use Rattle.my_reading.specs.Calls.{id_in, statement_in}
@@ -63,22 +63,12 @@ opening_plain login terms st Connect n e = connecting_plain login terms n
 opening_plain login terms st (Query text) n e = (refl, refl)
 opening_plain login terms st (Prepare text) n e = absurd (cc)
 opening_plain login terms st (Execute statement params) n e = execution_plain terms st statement.inner.id (values_for statement params)
-opening_plain login terms st (Batch statement lists) n e = tt
 opening_plain login terms st (CloseStmt id) n e = (refl, refl)
-opening_plain login terms st NextRow n e = tt
-opening_plain login terms st DropResult n e = tt
-opening_plain login terms st TakeSet n e = tt
-opening_plain login terms st SkipTaken n e = tt
 opening_plain login terms st Ping n e = (refl, refl)
 opening_plain login terms st Reset n e = (refl, refl)
-opening_plain login terms st (ChangeUser change) n e = tt
-opening_plain login terms st (Begin opts) n e = tt
-opening_plain login terms st Commit n e = tt
-opening_plain login terms st Rollback n e = tt
-opening_plain login terms st ForgetTransaction n e = tt
-opening_plain login terms st CleanForPool n e = tt
-opening_plain login terms st ResetForPool n e = tt
 opening_plain login terms st Quit n e = (refl, refl)
+-- a call that `opening` has no exchange for
+opening_plain login terms st call n e = tt
 
 -- a call that prepares nothing, at each of its parts
 module _ (login : Login) (call : Call) (other : prepares call ≡ false) where
@@ -320,22 +310,12 @@ queries_plain (text ∷ texts) parts e = queries_plain texts parts e
 
 pub begins_fine : (login : Login) (call : Call) (p : Place) → Holds p → Phase call (parts_of login call) p
 begins_fine login Connect p w = Steady Connect (parts_of login Connect) p (texts_plain (arranging_texts login)) refl w
-begins_fine login (Query text) p w = Steady (Query text) (parts_of login (Query text)) p refl refl w
 begins_fine login (Prepare text) p w = Finding text p w
-begins_fine login (Execute statement params) p w = Steady (Execute statement params) (parts_of login (Execute statement params)) p refl refl w
 begins_fine login (Batch statement lists) p w = Steady (Batch statement lists) (parts_of login (Batch statement lists)) p (batch_plain lists) refl w
 begins_fine login (CloseStmt id) p w = Forgetting id p w
-begins_fine login NextRow p w = Steady NextRow (parts_of login NextRow) p refl refl w
-begins_fine login DropResult p w = Steady DropResult (parts_of login DropResult) p refl refl w
-begins_fine login TakeSet p w = Steady TakeSet (parts_of login TakeSet) p refl refl w
-begins_fine login SkipTaken p w = Steady SkipTaken (parts_of login SkipTaken) p refl refl w
-begins_fine login Ping p w = Steady Ping (parts_of login Ping) p refl refl w
 begins_fine login Reset p w = Offering (parts_of_queries (setup_texts login) (Flag true ∷ [])) p (queries_plain (setup_texts login) (Flag true ∷ []) refl) w
 begins_fine login (ChangeUser change) p w = Adopting change (parts_of_queries (setup_texts login) []) p (queries_plain (setup_texts login) [] refl) w
 begins_fine login (Begin opts) p w = Steady (Begin opts) (parts_of login (Begin opts)) p (queries_plain (begin_texts opts) (Settle InTransaction ∷ []) refl) refl w
-begins_fine login Commit p w = Steady Commit (parts_of login Commit) p refl refl w
-begins_fine login Rollback p w = Steady Rollback (parts_of login Rollback) p refl refl w
-begins_fine login ForgetTransaction p w = Steady ForgetTransaction (parts_of login ForgetTransaction) p refl refl w
-begins_fine login CleanForPool p w = Steady CleanForPool (parts_of login CleanForPool) p refl refl w
 begins_fine login ResetForPool p w = Readying ResetForPool Renew (ByRenewal ResetForPool refl) (parts_of_queries (setup_texts login) []) (parts_of login ResetForPool) p Reads (queries_plain (setup_texts login) [] refl) w
-begins_fine login Quit p w = Steady Quit (parts_of login Quit) p refl refl w
+-- a call whose parts touch no statement that is cached
+begins_fine login call p w = Steady call (parts_of login call) p refl refl w
