@@ -1,0 +1,7 @@
+pub mod Stages
+pub mod Settles
+pub mod Makes
+pub mod Looks
+pub mod Polls
+pub mod Leases
+pub mod Laws

@@ -1,0 +1,14 @@
+//! The requests and leases of a pool on one thread.
+#![tactic(auto)]
+
+mod asking;
+pub mod laws;
+mod lease;
+mod looks;
+mod making;
+mod request;
+mod settling;
+
+pub use asking::{ask, cancel_ask, poll_ask};
+pub use lease::{detach, give};
+pub use request::{AskTurn, Asking, Held, HeldPlace, Moment};

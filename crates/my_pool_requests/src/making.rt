@@ -1,0 +1,146 @@
+//! How the connection of a request is made: its dial, and its connect call. No event of the pool is here.
+
+ghost use Rattle.std.specs.Prelude.{◌≡◌, IfOk};
+ghost use Rattle.my_pool.specs.Fit.{IsStill};
+ghost use Rattle.my_pool_requests.specs.Makes.{Begins, ConnectsOver, DialsOn, JudgedBy, MadeFits, MakesOn, TriesDial};
+ghost use Rattle.my_pool_requests.specs.Makes.{outside, undialed};
+
+use crate::request::Moment;
+use my_conn::{Conn, Connected, Connecting};
+use my_frame::NoMemory;
+use my_link::{Aid, DialStep, Dialer, Link};
+use my_opts::Opts;
+use my_reading::{DriverError, Error, IoError, IoFault, IoKind};
+use std::alloc::Global;
+
+/// What the making of a request's connection comes to.
+pub(crate) enum Made<L> {
+    /// The dial isn't ready.
+    Undialed,
+    /// The connection isn't made yet.
+    Pending(Connecting<L>),
+    /// It is made, and is fit.
+    Good(Conn<L>),
+    /// The dial or the connect call failed.
+    Failed(Error),
+}
+
+// The error of a dial that failed.
+fn undialed() -> Error
+    ensures { result ≡ undialed }
+{
+    Error::Io(IoError::Io(IoFault {
+        kind: IoKind::Dial,
+        place: 0,
+    }))
+}
+
+// A connection that was made is good where it is fit.
+fn judged<L: Drop>(conn: Conn<L>) -> Made<L>
+    requires still { IsStill conn }
+    ensures judged { JudgedBy conn result }
+{
+    if conn.is_disconnected() || conn.is_dirty() {
+        drop(conn);
+        return Made::Failed(Error::Driver(DriverError::ConnectionClosed));
+    }
+    Made::Good(conn)
+}
+
+/// A poll of a connection that is being made.
+pub(crate) fn make_on<L: Link + Drop, A: Aid>(
+    alloc: Global,
+    making: Connecting<L>,
+    aid: &mut A,
+    now: u64,
+) -> Made<L>
+    ensures makes { MakesOn L.looks (A.texts aid.old) now making result }
+    ensures fits { MadeFits result }
+    ensures texts { A.texts aid.new ≡ A.texts aid.old }
+{
+    match making.poll(alloc, aid, now) {
+        Connected::Pending(making) => Made::Pending(making),
+        Connected::Made(conn) => judged(conn),
+        Connected::Failed(error) => Made::Failed(error),
+    }
+}
+
+// The making of a connection over a link begins, by a copy of the options.
+fn begin<L: Link + Drop>(
+    alloc: Global,
+    opts: &Opts,
+    link: L,
+    moment: Moment,
+) -> Result<Connecting<L>, NoMemory>
+    ensures { IfOk result (λ c. Begins L.socket opts.now moment link c) }
+{
+    match opts.copy(alloc) {
+        Ok(opts) => Connecting::new(
+            alloc,
+            opts,
+            link,
+            moment.now,
+            moment.random,
+            moment.keep_tape,
+        ),
+        Err(error) => {
+            drop(link);
+            Err(error)
+        }
+    }
+}
+
+// A connection is made over a link: its making begins, and is polled.
+fn connect<L: Link + Drop, A: Aid>(
+    alloc: Global,
+    opts: &Opts,
+    link: L,
+    aid: &mut A,
+    moment: Moment,
+) -> Made<L>
+    ensures connects { ConnectsOver L.looks L.socket (A.texts aid.old) opts.now moment link result }
+    ensures fits { MadeFits result }
+    ensures texts { A.texts aid.new ≡ A.texts aid.old }
+{
+    match begin(alloc, opts, link, moment) {
+        Ok(making) => make_on(alloc, making, aid, moment.now),
+        Err(NoMemory) => Made::Failed(Error::NoMemory),
+    }
+}
+
+// Dials the link of a number, at the target of the options.
+fn dial<O: Dialer>(
+    alloc: Global,
+    opts: &Opts,
+    out: &mut O,
+    number: u64,
+) -> Result<DialStep<O::L>, NoMemory>
+    ensures { TriesDial O.L.looks number (O.seen out.old) (O.seen out.new) result }
+{
+    let target = opts.target(alloc)?;
+    let step = out.dial(number, &target);
+    drop(target);
+    Ok(step)
+}
+
+/// Dials the link of a number, and makes a connection over it.
+pub(crate) fn dial_on<O: Dialer + Aid>(
+    alloc: Global,
+    opts: &Opts,
+    number: u64,
+    out: &mut O,
+    moment: Moment,
+) -> Made<O::L>
+where
+    O::L: Drop,
+    ensures dials { DialsOn (outside O.L.looks O.L.socket O.seen O.texts) opts.now moment number out.old out.new
+        result }
+    ensures fits { MadeFits result }
+{
+    match dial(alloc, opts, out, number) {
+        Ok(DialStep::Link(link)) => connect(alloc, opts, link, out, moment),
+        Ok(DialStep::NotYet) => Made::Undialed,
+        Ok(DialStep::Failed) => Made::Failed(undialed()),
+        Err(NoMemory) => Made::Failed(Error::NoMemory),
+    }
+}
