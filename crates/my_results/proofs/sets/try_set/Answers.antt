@@ -1,0 +1,20 @@
+use Rattle.std.proofs.Common.{Ok, Err, refl}
+use Rattle.my_results.proofs.sets.try_set.Goals as goal
+
+pub returns-in-Ok-clause-set : goal.returns-in-Ok-clause-set
+returns-in-Ok-clause-set g c = (
+  record { alloc = c.args.alloc; items = c.new.result },
+  c.new.ensures.items,
+  Ok c.in-Ok.tried,
+  refl,
+  c.in-Ok.ensures.set,
+)
+
+pub returns-in-Err-clause-set : goal.returns-in-Err-clause-set
+returns-in-Err-clause-set g c = (
+  record { alloc = c.args.alloc; items = c.new.result },
+  c.new.ensures.items,
+  Err c.in-Err.error,
+  refl,
+  c.in-Err.ensures.set,
+)

@@ -1,0 +1,4 @@
+pub mod Gathers
+pub mod Sets
+pub mod Results
+pub mod Streams
