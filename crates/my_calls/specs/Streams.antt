@@ -12,7 +12,7 @@ use Rattle.my_reading.specs.declared.call.Call.TheVariants as calls
 use Rattle.my_reading.specs.declared.call.CallKind.{CallKind}
 use Rattle.my_reading.specs.declared.call.CallKind.TheVariants as kinds
 use Rattle.my_reading.specs.declared.error.Error.{Error}
-use Rattle.my_session.specs.Steps.{is_taken}
+use Rattle.my_session.specs.Sessions.{is_taken}
 use Rattle.my_client.specs.declared.poll.After.{After}
 use Rattle.my_client.specs.declared.poll.After.TheVariants.{Pending, Answered, Failed}
 use Rattle.my_conn.specs.Answers.{taken_of}

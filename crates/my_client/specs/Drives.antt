@@ -1,75 +1,47 @@
--- What a poll of the open call does, once what it came to is kept.
-use Rattle.std.specs.Prelude.{◌≡◌, ◌&&◌, List, Option, None, Some, Bool, not}
+-- What a poll of the open call does, once what it returned is kept, and what a cancelling leaves.
+use Rattle.std.specs.Prelude.{◌≡◌, ◌&&◌, List, Option, Bool, not}
 use Rattle.my_value.specs.RowParts.{RowParts}
 use Rattle.my_grammar.specs.declared.login.Login.{Login}
-use Rattle.my_session.specs.Seen.{Seen}
-use Rattle.my_client.specs.declared.poll.After.{After}
-use Rattle.my_client.specs.declared.poll.After.TheVariants.{Pending, Answered, Failed}
-use Rattle.my_client.specs.declared.conn.TapedConn.{TapedConn}
 use Rattle.my_link.specs.declared.met.Met.{Met}
-use Rattle.my_client.specs.declared.tape.Said.{Said}
-use Rattle.my_client.specs.declared.tape.Said.TheVariants as says
-use Rattle.my_reading.specs.Told.{Dropped}
-use Rattle.my_session.specs.History.{History, answered}
-use Rattle.my_session.specs.Stands.{Stands}
-use Rattle.my_session.specs.Tables.{closes_when_cancelled}
-use Rattle.my_client.specs.Causes.{IsPolled}
-use Rattle.my_client.specs.Kept.{Asked, Kept, ended_by}
 use Rattle.my_link.specs.Looks.{Looks}
+use Rattle.my_reading.specs.Calls.{kind_of}
+use Rattle.my_reading.specs.Endings.{closes_cancelled}
+use Rattle.my_session.specs.Sessions.{Seen}
+use Rattle.my_client.specs.declared.poll.After.{After}
+use Rattle.my_client.specs.declared.tape.Said.TheVariants as says
+use Rattle.my_client.specs.Ends.{RowsBy}
+use Rattle.my_client.specs.Kept.{Asked, Kept, ended_by}
+use Rattle.my_client.specs.Reads.{place_kept}
+use Rattle.my_client.specs.declared.conn.TapedConn.{TapedConn}
 use Rattle.my_client.specs.Conn.{kept_of}
-use Rattle.my_client.specs.Reads.{IsStepped}
-use Rattle.my_client.specs.Rests.{Rests, IsAsked}
+use Rattle.my_client.specs.Polls.{IsPolled}
+use Rattle.my_client.specs.Stands.{Stands, StandsAsked, Waits}
+use Rattle.my_client.specs.Turns.{WaitsBy}
 
--- what a poll came to is kept
-abbrev pub kept_after : Kept → Asked → After → Kept
-kept_after k a Pending = k
-kept_after k a (Answered answer) = ended_by k a (says.Answered answer)
-kept_after k a (Failed e) = ended_by k a (says.Failed e)
-
--- what the poll did and came to, and the session after it
-pub record Drives (login : Login) (a : Asked) (t : Seen) (x y : Looks) (k end : Kept) (m : Met) (after : After)
-    : Type 0 where
+-- The poll, and the session after it: it is where the reading of what is kept is, and where the call is still open it waits for
+-- its link.
+pub record Drives (login : Login) (a : Asked) (t : Seen) (x y : Looks) (k end : Kept) (m : Met) (after : After) : Type 0 where
   pub polled : IsPolled login a k x m after end y
-  pub rests : Rests login t end
-  pub stepped : IsStepped login t end
+  pub stands : Stands login t end
+  pub waits : WaitsBy login t end a after
 
 -- of each call that may be open
 abbrev pub EachDrives : {L : Type 0} → (L → Looks) → TapedConn L → TapedConn L → Met → After → Type 0
-EachDrives look c d m after = (login : Login) (a : Asked) → IsAsked login c.session.seen (kept_of c) a
+EachDrives look c d m after = (login : Login) (a : Asked) → StandsAsked login c.session.seen (kept_of c) a
     → Drives login a d.session.seen (look c.link) (look d.link) (kept_of c) (kept_of d) m after
-
--- the rows that the call gathered are returned where it ended, and none before
-abbrev pub RowsOf : Asked → After → Option (List RowParts) → Type 0
-RowsOf a Pending rows = rows ≡ None
-RowsOf a (Answered answer) rows = rows ≡ a.rows
-RowsOf a (Failed e) rows = rows ≡ a.rows
-
--- of each call that may be open
-abbrev pub RowsBy : Kept → After → Option (List RowParts) → Type 0
-RowsBy k after rows = (a : Asked) → k.pending ≡ Some a → RowsOf a after rows
 
 abbrev pub EachRows : {L : Type 0} → TapedConn L → After → Option (List RowParts) → Type 0
 EachRows c after rows = RowsBy (kept_of c) after rows
 
--- where a call was open, it is kept as ended so, or as the poll left it
-abbrev pub EndsBy : Kept → Kept → Said → Type 0
-EndsBy k end said = (a : Asked) → k.pending ≡ Some a → end ≡ ended_by k a said
-
-abbrev pub EachEnded : {L : Type 0} → TapedConn L → TapedConn L → Said → Type 0
-EachEnded c d said = EndsBy (kept_of c) (kept_of d) said
-
-abbrev pub KeepsBy : Kept → Kept → After → Type 0
-KeepsBy k end after = (a : Asked) → k.pending ≡ Some a → end ≡ kept_after k a after
-
--- the rows that it gathered are returned
-abbrev pub GathersBy : Kept → Option (List RowParts) → Type 0
-GathersBy k rows = (a : Asked) → k.pending ≡ Some a → rows ≡ a.rows
-
--- a session whose call was cancelled stands for each history that it stood for, with that call dropped
-abbrev pub CancelStands : Seen → Seen → Type 0
-CancelStands s t = (h : History) → Stands s h
-    → Stands t (answered h (Dropped (closes_when_cancelled s.task s.context.spot)))
-
 -- whether a cancelling closed the session
-abbrev pub closed_by : Seen → Seen → Bool
-closed_by s t = t.closed && not s.closed
+abbrev pub closes_by : Seen → Seen → Bool
+closes_by s t = t.closed && not s.closed
+
+-- what a cancelling leaves: it closes the session where the reading says so, and the session is where the reading is
+pub record CancelLeaves (login : Login) (s t : Seen) (k : Kept) (a : Asked) : Type 0 where
+  pub closes : closes_by s t ≡ closes_cancelled (kind_of a.call) (place_kept login k)
+  pub stands : Stands login t (ended_by k a (says.Cancelled (closes_by s t)))
+
+-- of each call that may wait for its link
+abbrev pub EachCancels : {L : Type 0} → TapedConn L → TapedConn L → Type 0
+EachCancels c d = (login : Login) (a : Asked) → Waits login c.session.seen (kept_of c) a → CancelLeaves login c.session.seen d.session.seen (kept_of c) a

@@ -1,19 +1,13 @@
 -- What a connection kept, by the one reading of its tape.
-use Rattle.std.specs.Prelude.{◌≡◌, ◌≢◌, ◌≤◌, ◌⊎◌, ℕ, List, [], ◌∷◌, length, drop, Option, Some, None, Bool, true, false}
+use Rattle.std.specs.Prelude.{◌≡◌, ◌≤◌, ◌⊎◌, ℕ, List, [], ◌∷◌, length, Option, Some, None, Bool, false}
 use Rattle.my_grammar.specs.declared.login.Login.{Login}
 use Rattle.my_reading.specs.declared.facts.Facts.{Facts}
-use Rattle.my_reading.specs.Calls.{kind_of, is_unrefused}
-use Rattle.my_reading.specs.Course.{Part, Stop, Owes, Awaits, Returns, Stops, step, parts_of}
+use Rattle.my_reading.specs.Course.{Stop, Owes, Awaits, Returns}
 use Rattle.my_reading.specs.Endings.{AreCalls}
-use Rattle.my_reading.specs.Leads.{Leads}
-use Rattle.my_reading.specs.Place.{Place, first_place, facts_at, with_bytes}
+use Rattle.my_reading.specs.Place.{Place, first_place, facts_at}
 use Rattle.my_reading.specs.Reading.{ReadCall, read_calls, reading}
 use Rattle.my_reading.specs.Tape.{Tape, TapeCall, Span, between}
 use Rattle.my_reading.specs.Told.{Told}
-use Rattle.my_session.specs.declared.task.Task.TheVariants.{Leaving}
-use Rattle.my_session.specs.Fits.{is_begun}
-use Rattle.my_session.specs.Mirror.{StandsAt, OpenAt}
-use Rattle.my_session.specs.Seen.{Seen}
 use Rattle.my_client.specs.declared.tape.DoneCall.{DoneCall}
 use Rattle.my_client.specs.Kept.{Asked, Kept, told_by}
 
@@ -47,7 +41,7 @@ newest_stop (c ∷ d ∷ cs) = newest_stop (d ∷ cs)
 abbrev pub stop_kept : Login → Kept → Option Stop
 stop_kept login k = newest_stop (reading login (tape_kept k)).calls
 
--- the newest call comes to this by its bytes
+-- the newest call returns this by its bytes
 abbrev pub ComesTo : Login → Kept → Told → Type 0
 ComesTo login k t = stop_kept login k ≡ Some (Returns t)
 
@@ -82,57 +76,3 @@ pub record EndedRead (login : Login) (k : Kept) (n m : ℕ) (closed : Bool) (pla
   pub calls : AreCalls login (read_calls login (spans_to k.sent k.taken k.calls n m) false (first_place login)).calls
   pub place_is : (read_calls login (spans_to k.sent k.taken k.calls n m) false (first_place login)).place ≡ place
   pub closed_is : (read_calls login (spans_to k.sent k.taken k.calls n m) false (first_place login)).closed ≡ closed
-
--- no call is open
-pub record RestRead (login : Login) (s : Seen) (k : Kept) : Type 0 where
-  pub place : Place
-  pub ended : EndedRead login k (length k.sent) (length k.taken) s.closed place
-  pub at : StandsAt s place
-
--- the open call: what it did so far
-pub record OpenRead (login : Login) (s : Seen) (k : Kept) (a : Asked) : Type 0 where
-  pub before : Place
-  pub ended : EndedRead login k a.sent_from a.taken_from false before
-  pub parts : List Part
-  pub place : Place
-  pub leads : Leads login a.call (parts_of login a.call)
-      (with_bytes (drop a.sent_from k.sent) (drop a.taken_from k.taken) before) parts place
-  pub at : OpenAt s a.call parts place
-
--- a call that a closed session doesn't refuse, on one, which sends nothing
-pub record UnrefusedRead (login : Login) (s : Seen) (k : Kept) (a : Asked) : Type 0 where
-  pub before : Place
-  pub ended : EndedRead login k a.sent_from a.taken_from true before
-  pub unrefused : is_unrefused (kind_of a.call) ≡ true
-  pub leaving : s.task ≡ Leaving (kind_of a.call)
-  pub closed_is : s.closed ≡ true
-  pub nothing_sent : a.sent_from ≡ length k.sent
-  pub nothing_taken : a.taken_from ≡ length k.taken
-  pub at : StandsAt s before
-
-abbrev pub ReadsAs : Login → Seen → Kept → Option Asked → Type 0
-ReadsAs login s k None = RestRead login s k
-ReadsAs login s k (Some a) = OpenRead login s k a ⊎ UnrefusedRead login s k a
-
--- what a session asks for where its open call stops so
-abbrev pub AsksAt : Seen → Stop → Type 0
-AsksAt s Owes = s.owed ≢ []
-AsksAt s Awaits = s.owed ≡ []
-AsksAt s (Returns t) = ⊥
-
--- the open call owes bytes, or awaits some
-pub record StoppedRead (login : Login) (s : Seen) (k : Kept) (a : Asked) : Type 0 where
-  pub so_far : OpenRead login s k a
-  pub stop : Stop
-  pub asks : AsksAt s stop
-  pub stops : step login a.call so_far.parts so_far.place ≡ Stops so_far.place stop
-
--- so it is where a call is open
-abbrev pub StopsRead : Login → Seen → Kept → Option Asked → Type 0
-StopsRead login s k None = Unit {0}
-StopsRead login s k (Some a) = StoppedRead login s k a
-
--- the open call, if there is one, was stepped, and owes bytes or awaits some
-pub record IsStepped (login : Login) (s : Seen) (k : Kept) : Type 0 where
-  pub begun : is_begun s.task ≡ false
-  pub stops : StopsRead login s k k.pending

@@ -1,9 +1,8 @@
-//! Polls a connection's open call, and keeps what it came to on the connection's tape.
-ghost use Rattle.std.specs.Prelude.{◌≡◌, option_map, true, IfOk};
-ghost use Rattle.my_session.specs.Tasks.{is_open};
+//! Polls a connection's open call, and keeps what it returned on the connection's tape.
+
+ghost use Rattle.std.specs.Prelude.{option_map, IfOk};
 ghost use Rattle.my_client.specs.Drives.{EachDrives, EachRows};
 ghost use Rattle.my_client.specs.Lives.{Lives};
-ghost use Rattle.my_client.specs.Ready.{RestsBy};
 
 use crate::conn::TapedConn;
 use crate::poll::{After, poll_session};
@@ -12,16 +11,14 @@ use my_link::{Link, Met};
 use my_value::Row;
 use std::alloc::Global;
 
-/// Polls the open call once, at the moment `now`, in milliseconds, and keeps what it came to.
+/// Polls the open call once, at the moment `now`, in milliseconds, and keeps what it returned.
 ///
-/// The result is what the poll came to, what it met, and the rows that the call gathered, where it ended.
+/// The result is what the poll returned, what it met, and the rows that the call gathered, where it ended.
 pub fn drive<L: Link>(
     alloc: Global,
     conn: &mut TapedConn<L>,
     now: u64,
 ) -> Result<(After, Met, Option<Vec<Row>>), NoMemory>
-    requires { is_open conn.old.session.seen.task ≡ true }
-    ensures rests { IfOk result (λ d. RestsBy d.0 conn.new.session.seen) }
     ensures rows { IfOk result (λ d. EachRows conn.old d.0 (option_map (λ v. v.items) d.2)) }
     ensures drives { IfOk result (λ d. EachDrives L.looks conn.old conn.new d.1 d.0) }
     ensures lives { IfOk result (λ d. Lives now d.1.taken conn.old.session conn.new.session) }

@@ -1,13 +1,12 @@
 //! Polls a session's open call over a link until it returns or the link isn't ready.
-ghost use Rattle.std.specs.Prelude.{◌≡◌, ◌≢◌, ◌+◌, ◌<◌, ◌≤◌, length, true, false, IfOk, OnOk};
-ghost use Rattle.my_session.specs.Tasks.{is_open};
-ghost use Rattle.my_session.specs.Ends.{Fails};
-ghost use Rattle.my_session.specs.Steps.{StepIs, with_end};
-ghost use Rattle.my_session.specs.declared.task.Task.TheVariants.{Nothing};
+
+ghost use Rattle.std.specs.Prelude.{ℕ, ◌≡◌, ◌≢◌, ◌≤◌, ◌<◌, length, IfOk};
+ghost use Rattle.my_link.specs.Met.{nothing_met};
+ghost use Rattle.my_link.specs.Moves.{ends_at, faults_at, holds_at};
+ghost use Rattle.my_reading.specs.Course.{Awaits, Owes};
 ghost use Rattle.my_client.specs.Lives.{Lives, made_in};
-ghost use Rattle.my_client.specs.Poll.{took_by, is_full, met_by, came_to};
-ghost use Rattle.my_client.specs.Rests.{FailLeaves, IsAsked, IsHeld};
-ghost use Rattle.my_client.specs.Turns.{EachPoll, EachTurn, IsAwaiting, StaysOn};
+ghost use Rattle.my_client.specs.Stands.{StandsAsked, Stopped};
+ghost use Rattle.my_client.specs.Turns.{EachPoll, EachTurn, FailsNow, stop_at, took_by};
 
 use crate::notes::Notes;
 use my_frame::NoMemory;
@@ -17,7 +16,7 @@ use my_reading::{Answer, Error};
 use my_session::{LinkFault, Session, SessionStep};
 use std::alloc::Global;
 
-/// What a poll came to.
+/// What a poll returned.
 #[derive(Drop)]
 pub enum After {
     Pending,
@@ -25,26 +24,29 @@ pub enum After {
     Failed(Error),
 }
 
+/// What stopped a poll at its link: nothing, a read or a write that wasn't ready or failed, or the end.
+#[derive(Clone, Copy)]
+pub(crate) enum Halt {
+    Ready,
+    ReadHeld,
+    WriteHeld,
+    ReadFailed,
+    WriteFailed,
+    Ended,
+}
+
 /// What one turn of a poll did.
 #[derive(Drop)]
 pub(crate) enum Turn {
-    /// Bytes went out.
+    /// Bytes were sent.
     Sent,
-    /// That many bytes came in.
+    /// This number of bytes was received.
     Took(u64),
-    /// The link ended, and the call failed.
-    Ended(Error),
-    /// The link failed, and so did the call.
-    Broke(Error),
-    /// The link isn't ready.
-    Held,
-    /// The poll took all that it may.
-    Full,
-    Answered(Answer),
-    Faulted(Error),
+    /// The poll is over, and returns this.
+    Over(Halt, After),
 }
 
-// A fault's error, unless it is out of memory.
+// A fault's error, unless memory ran out.
 fn fault(error: Error) -> Result<Error, NoMemory>
     ensures value { IfOk result (λ e. e ≡ error) }
     ensures kept { IfOk result (λ e. e ≢ Error.NoMemory) }
@@ -55,23 +57,24 @@ fn fault(error: Error) -> Result<Error, NoMemory>
     }
 }
 
-// The session was told that the link failed or ended: its next step returns the error.
+// The session was told that its link failed or ended, and its next step is the error. A session that stands at a place of the reading
+// does nothing else then.
 fn fail_now(alloc: Global, session: &mut Session, now: u64) -> Result<Error, NoMemory>
-    requires is_on { is_open session.old.seen.task ≡ true }
-    requires fails { Fails session.old.seen }
-    ensures task { OnOk result (session.new.seen.task ≡ Nothing) }
-    ensures found { IfOk result (λ e. e ≢ Error.NoMemory) }
-    ensures rests { IfOk result (λ e. FailLeaves session.old.seen session.new.seen e) }
-    ensures lives { OnOk result (Lives now 0 session.old session.new) }
+    ensures fails { IfOk result (λ e. FailsNow session.old.seen session.new.seen e) }
+    ensures lives { IfOk result (λ _. Lives now 0 session.old session.new) }
     ensures made { made_in session.new ≡ made_in session.old }
 {
     match session.step(alloc, now) {
         SessionStep::Fault(error) => fault(error),
-        SessionStep::Send | SessionStep::Need | SessionStep::Done(_) => unreachable!(),
+        SessionStep::Send | SessionStep::Need => Err(NoMemory),
+        SessionStep::Done(answer) => {
+            drop(answer);
+            Err(NoMemory)
+        }
     }
 }
 
-// Sends some of what is owed.
+// Sends some of what is owed. A session that stands at a place of the reading owes some where it asks to send.
 fn send<L: Link, T: Notes>(
     alloc: Global,
     session: &mut Session,
@@ -79,31 +82,32 @@ fn send<L: Link, T: Notes>(
     notes: &mut T,
     now: u64,
 ) -> Result<Turn, NoMemory>
-    requires { StepIs session.old.seen SessionStep.Send }
-    ensures turn { IfOk result (λ turn. EachTurn IsHeld T.keeps session.old.seen session.new.seen
-        (L.looks link.old) (L.looks link.new) notes.old notes.new turn) }
+    ensures turn { IfOk result (λ turn. (room : ℕ) → EachTurn (Stopped Owes) T.keeps session.old.seen session.new.seen
+        (L.looks link.old) (L.looks link.new) notes.old notes.new room turn) }
     ensures took { IfOk result (λ turn. took_by turn ≡ 0) }
-    ensures full { IfOk result (λ turn. is_full turn ≡ false) }
-    ensures on { IfOk result (λ turn. StaysOn turn session.new.seen) }
     ensures lives { IfOk result (λ turn. Lives now (took_by turn) session.old session.new) }
     ensures made { made_in session.new ≡ made_in session.old }
 {
+    if session.owed().is_empty() {
+        return Err(NoMemory);
+    }
     match link.write(session.owed()) {
         WriteStep::Took(n) => {
             notes.note_sent(&session.owed()[..n])?;
             session.sent(n);
             Ok(Turn::Sent)
         }
-        WriteStep::NotYet => Ok(Turn::Held),
+        WriteStep::NotYet => Ok(Turn::Over(Halt::WriteHeld, After::Pending)),
         WriteStep::Failed => {
             session.fail(LinkFault::Link);
-            Ok(Turn::Broke(fail_now(alloc, session, now)?))
+            let error = fail_now(alloc, session, now)?;
+            Ok(Turn::Over(Halt::WriteFailed, After::Failed(error)))
         }
         WriteStep::NoMemory => Err(NoMemory),
     }
 }
 
-// Takes some of what the link has, at most `room` bytes, by a buffer that isn't empty.
+// Receives some of what the link has, at most `room` bytes, by a buffer that isn't empty.
 fn receive_into<L: Link, T: Notes>(
     alloc: Global,
     session: &mut Session,
@@ -113,15 +117,11 @@ fn receive_into<L: Link, T: Notes>(
     room: u64,
     buffer: &mut [u8],
 ) -> Result<Turn, NoMemory>
-    requires step { StepIs session.old.seen SessionStep.Need }
     requires room { 0 < room }
     requires buffer { 0 < length buffer.old }
-    requires ends { Fails (with_end session.old.seen) }
-    ensures turn { IfOk result (λ turn. EachTurn IsAwaiting T.keeps session.old.seen session.new.seen
-        (L.looks link.old) (L.looks link.new) notes.old notes.new turn) }
-    ensures within { IfOk result (λ turn. took_by turn ≤ room) }
-    ensures full { IfOk result (λ turn. is_full turn ≡ false) }
-    ensures on { IfOk result (λ turn. StaysOn turn session.new.seen) }
+    ensures turn { IfOk result (λ turn. EachTurn (Stopped Awaits) T.keeps session.old.seen session.new.seen
+        (L.looks link.old) (L.looks link.new) notes.old notes.new room turn) }
+    ensures took { IfOk result (λ turn. took_by turn ≤ room) }
     ensures lives { IfOk result (λ turn. Lives now (took_by turn) session.old session.new) }
     ensures made { made_in session.new ≡ made_in session.old }
 {
@@ -132,19 +132,21 @@ fn receive_into<L: Link, T: Notes>(
             notes.note_taken(&buffer[..n])?;
             Ok(Turn::Took(n as u64))
         }
-        ReadStep::NotYet => Ok(Turn::Held),
+        ReadStep::NotYet => Ok(Turn::Over(Halt::ReadHeld, After::Pending)),
         ReadStep::End => {
             session.end();
-            Ok(Turn::Ended(fail_now(alloc, session, now)?))
+            let error = fail_now(alloc, session, now)?;
+            Ok(Turn::Over(Halt::Ended, After::Failed(error)))
         }
         ReadStep::Failed => {
             session.fail(LinkFault::Link);
-            Ok(Turn::Broke(fail_now(alloc, session, now)?))
+            let error = fail_now(alloc, session, now)?;
+            Ok(Turn::Over(Halt::ReadFailed, After::Failed(error)))
         }
     }
 }
 
-// Takes some of what the link has, at most `room` bytes.
+// Receives some of what the link has, at most `room` bytes.
 fn receive<L: Link, T: Notes>(
     alloc: Global,
     session: &mut Session,
@@ -153,14 +155,10 @@ fn receive<L: Link, T: Notes>(
     now: u64,
     room: u64,
 ) -> Result<Turn, NoMemory>
-    requires step { StepIs session.old.seen SessionStep.Need }
     requires room { 0 < room }
-    requires ends { Fails (with_end session.old.seen) }
-    ensures turn { IfOk result (λ turn. EachTurn IsAwaiting T.keeps session.old.seen session.new.seen
-        (L.looks link.old) (L.looks link.new) notes.old notes.new turn) }
-    ensures within { IfOk result (λ turn. took_by turn ≤ room) }
-    ensures full { IfOk result (λ turn. is_full turn ≡ false) }
-    ensures on { IfOk result (λ turn. StaysOn turn session.new.seen) }
+    ensures turn { IfOk result (λ turn. EachTurn (Stopped Awaits) T.keeps session.old.seen session.new.seen
+        (L.looks link.old) (L.looks link.new) notes.old notes.new room turn) }
+    ensures took { IfOk result (λ turn. took_by turn ≤ room) }
     ensures lives { IfOk result (λ turn. Lives now (took_by turn) session.old session.new) }
     ensures made { made_in session.new ≡ made_in session.old }
 {
@@ -179,12 +177,9 @@ fn take_turn<L: Link, T: Notes>(
     now: u64,
     room: u64,
 ) -> Result<Turn, NoMemory>
-    requires { is_open session.old.seen.task ≡ true }
-    ensures turn { IfOk result (λ turn. EachTurn IsAsked T.keeps session.old.seen session.new.seen
-        (L.looks link.old) (L.looks link.new) notes.old notes.new turn) }
-    ensures within { IfOk result (λ turn. took_by turn ≤ room) }
-    ensures full { IfOk result (λ turn. is_full turn ≡ true → room ≡ 0) }
-    ensures on { IfOk result (λ turn. StaysOn turn session.new.seen) }
+    ensures turn { IfOk result (λ turn. EachTurn StandsAsked T.keeps session.old.seen session.new.seen
+        (L.looks link.old) (L.looks link.new) notes.old notes.new room turn) }
+    ensures took { IfOk result (λ turn. took_by turn ≤ room) }
     ensures lives { IfOk result (λ turn. Lives now (took_by turn) session.old session.new) }
     ensures made { made_in session.new ≡ made_in session.old }
 {
@@ -192,49 +187,40 @@ fn take_turn<L: Link, T: Notes>(
         SessionStep::Send => send(alloc, session, link, notes, now),
         SessionStep::Need => {
             if room == 0 {
-                return Ok(Turn::Full);
+                return Ok(Turn::Over(Halt::Ready, After::Pending));
             }
             receive(alloc, session, link, notes, now, room)
         }
-        SessionStep::Done(answer) => Ok(Turn::Answered(answer)),
-        SessionStep::Fault(error) => Ok(Turn::Faulted(fault(error)?)),
+        SessionStep::Done(answer) => Ok(Turn::Over(Halt::Ready, After::Answered(answer))),
+        SessionStep::Fault(error) => Ok(Turn::Over(Halt::Ready, After::Failed(fault(error)?))),
     }
 }
 
-// What the poll met with this turn.
-fn met_after(turn: &Turn, met: Met) -> Met
-    requires { met.taken + took_by turn.now ≤ MOST_TAKEN }
-    ensures { result ≡ met_by turn.now met }
+// What a poll met that received this number of bytes and was stopped so.
+fn met_at(taken: u64, halt: Halt) -> Met
+    ensures { result ≡ record nothing_met {
+      taken = taken;
+      faults = faults_at (stop_at halt);
+      holds = holds_at (stop_at halt);
+      ends = ends_at (stop_at halt);
+    } }
 {
-    match turn {
-        Turn::Took(n) => Met {
-            taken: met.taken + *n,
-            ..met
-        },
-        Turn::Ended(_) => Met { ends: 1, ..met },
-        Turn::Broke(_) => Met { faults: 1, ..met },
-        Turn::Held => Met { holds: 1, ..met },
-        Turn::Sent | Turn::Full | Turn::Answered(_) | Turn::Faulted(_) => met,
+    let met = Met {
+        taken,
+        ..Met::nothing()
+    };
+    match halt {
+        Halt::Ready => met,
+        Halt::ReadHeld | Halt::WriteHeld => Met { holds: 1, ..met },
+        Halt::ReadFailed | Halt::WriteFailed => Met { faults: 1, ..met },
+        Halt::Ended => Met { ends: 1, ..met },
     }
 }
 
-// What the poll came to by this turn, or none where it goes on.
-fn after_turn(turn: Turn) -> Option<After>
-    ensures { result ≡ came_to turn }
-{
-    match turn {
-        Turn::Sent | Turn::Took(_) => None,
-        Turn::Held | Turn::Full => Some(After::Pending),
-        Turn::Answered(answer) => Some(After::Answered(answer)),
-        Turn::Ended(error) | Turn::Broke(error) | Turn::Faulted(error) => {
-            Some(After::Failed(error))
-        }
-    }
-}
-
-/// Goes on with the open call until it returns, the link isn't ready, or the poll took all that it may.
+/// Continues the open call until it returns, the link isn't ready, or the poll received all bytes that it may.
 ///
-/// It returns what the poll came to and what it met. `now`, in milliseconds, is the moment of the payloads that are read. A poll that takes more turns than can be counted is out of memory.
+/// The result is what the poll returned and what it met. `now`, in milliseconds, is the moment of the payloads that are read. A poll
+/// that takes more turns than can be counted is out of memory.
 pub fn poll_session<L: Link, T: Notes>(
     alloc: Global,
     session: &mut Session,
@@ -242,20 +228,18 @@ pub fn poll_session<L: Link, T: Notes>(
     notes: &mut T,
     now: u64,
 ) -> Result<(After, Met), NoMemory>
-    requires { is_open session.old.seen.task ≡ true }
     ensures polls { IfOk result (λ p. EachPoll T.keeps session.old.seen session.new.seen
         (L.looks link.old) (L.looks link.new) notes.old notes.new p.1 p.0) }
     ensures within { IfOk result (λ p. p.1.taken ≤ MOST_TAKEN) }
     ensures lives { IfOk result (λ p. Lives now p.1.taken session.old session.new) }
     ensures made { made_in session.new ≡ made_in session.old }
 {
-    let mut met = Met::nothing();
+    let mut taken = 0;
     'turns: for _ in 0..u64::MAX {
-        let turn = take_turn(alloc, session, link, notes, now, MOST_TAKEN - met.taken)?;
-        met = met_after(&turn, met);
-        match after_turn(turn) {
-            None => {}
-            Some(after) => return Ok((after, met)),
+        match take_turn(alloc, session, link, notes, now, MOST_TAKEN - taken)? {
+            Turn::Sent => {}
+            Turn::Took(n) => taken = taken + n,
+            Turn::Over(halt, after) => return Ok((after, met_at(taken, halt))),
         }
     }
     Err(NoMemory)

@@ -54,7 +54,7 @@ pub struct Tape {
 impl Tape {
     ghost use Rattle.std.specs.Prelude.{◌≡◌, None, option_map, IfOk, OnErr, OnOk};
     ghost use Rattle.my_client.specs.Conn.{kept_in};
-    ghost use Rattle.my_client.specs.Drives.{RowsBy, EndsBy, KeepsBy, GathersBy};
+    ghost use Rattle.my_client.specs.Ends.{RowsBy, EndsBy, KeepsBy, GathersBy};
     ghost use Rattle.my_client.specs.Kept.{asking, nothing_kept};
 
     /// A tape of nothing.
@@ -115,7 +115,7 @@ impl Tape {
         }
     }
 
-    /// Keeps what a poll of the open call came to, and returns the rows that the call gathered, where it ended.
+    /// Keeps what a poll of the open call returned, and returns the rows that the call gathered, where it ended.
     pub fn keep(&mut self, alloc: Global, after: &After) -> Result<Option<Vec<Row>>, NoMemory>
         ensures rows { IfOk result (λ rows. RowsBy (kept_in self.old) after.now (option_map (λ v. v.items) rows)) }
         ensures kept { OnOk result (KeepsBy (kept_in self.old) (kept_in self.new) after.now) }

@@ -4,12 +4,12 @@ use Rattle.my_grammar.specs.declared.login.Login.{Login}
 use Rattle.my_reading.specs.Calls.{kind_of}
 use Rattle.my_reading.specs.Endings.{closes_cancelled}
 use Rattle.my_reading.specs.declared.call.CallKind.{CallKind}
-use Rattle.my_session.specs.Seen.{Seen}
 use Rattle.my_session.specs.View.{Lifetime}
 use Rattle.my_client.specs.declared.tape.Said.TheVariants as says
 use Rattle.my_client.specs.declared.tape.Tape.{Tape}
 use Rattle.my_client.specs.Kept.{Asked, Kept}
 use Rattle.my_client.specs.Reads.{place_kept}
+use Rattle.my_session.specs.Sessions.{Seen}
 use Rattle.my_line.specs.Cancels.{CancelFor, EachCancel, cancelled_by}
 use Rattle.my_line.specs.Stands.{StandsFor}
 use Rattle.my_line.proofs.Standing.{asked_kind, connected_by, not_both}
@@ -23,12 +23,11 @@ module _ (kind : CallKind) (s t : Seen) (p q : Option Tape) (o : Option CallKind
   pub stands_cancelled : (login : Login) (k : Kept) → StandsFor login s p o k → (a : Asked) × (k.pending ≡ Some a) × StandsFor login t q None (cancelled_by login k a)
   stands_cancelled login k w =
       let a = asked_kind k.pending kind (sym may ∙ w.pending_is) in
-      let f : CancelFor login t q k a.0 = each login k a.0 w.rests w.stepped a.1 w.agrees in (
+      let f : CancelFor login t q k a.0 = each login k a.0 w.rests a.1 w.agrees in (
         a.0,
         a.1,
         record {
           rests = f.rests;
-          stepped = f.stepped;
           agrees = f.agrees;
           connected = connected_by k a.0 (says.Cancelled (closes_cancelled (kind_of a.0.call) (place_kept login k))) w.connected;
           pending_is = refl;

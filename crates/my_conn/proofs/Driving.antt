@@ -1,5 +1,5 @@
--- How a call that waits goes on from poll to poll.
-use Rattle.std.proofs.Common.{ℕ, ◌≡◌, ◌⊎◌, inl, inr, ◌+◌, ◌<◌, ◌≤◌, [], true, false, Option, Some, None, is_some, Result, Err, refl, sym, ap, ◌∙◌, subst, arith}
+-- How a call that waits continues from poll to poll.
+use Rattle.std.proofs.Common.{ℕ, ◌≡◌, ◌⊎◌, inl, inr, ◌+◌, ◌<◌, ◌≤◌, true, false, Option, Some, None, is_some, Result, Err, refl, sym, ap, ◌∙◌, subst, arith}
 use Rattle.my_frame.specs.declared.limits.TheConstants.{MOST_TAKEN}
 use Rattle.my_grammar.specs.declared.login.Login.{Login}
 use Rattle.my_link.specs.Looks.{Looks}
@@ -12,28 +12,28 @@ use Rattle.my_reading.specs.declared.call.CallKind.TheVariants.{Connect, Query, 
 use Rattle.my_reading.specs.declared.error.Error.{Error}
 use Rattle.my_reading.specs.declared.error.DriverError.TheVariants.{TooLong}
 use Rattle.my_reading.specs.declared.error.Error.TheVariants as errors
-use Rattle.my_session.specs.View.{Lifetime, View, first_lifetime}
+use Rattle.my_session.specs.View.{Lifetime, first_lifetime}
 use Rattle.my_client.specs.declared.poll.After.{After}
 use Rattle.my_client.specs.declared.poll.After.TheVariants.{Pending, Answered, Failed}
 use Rattle.my_client.specs.Kept.{Kept, asking}
+use Rattle.my_session.specs.View.{View}
 use Rattle.my_client.specs.Lives.{Lives, made_in}
-use Rattle.my_client.proofs.Living.{lives_on}
+use Rattle.my_client.proofs.Living.{lives_both}
 use Rattle.my_line.specs.Calls.{AfterFits, Does, Refuses, pending_after}
 use Rattle.my_line.specs.Stands.{StandsFor}
-use Rattle.my_line.specs.Waits.{DriveRefused, Driven, Goes}
+use Rattle.my_line.specs.Waits.{DriveRefused, Driven, Goes, ResultFits}
 use Rattle.my_line.specs.declared.handshake.TheConstants.{TOO_LONG}
 use Rattle.my_line.proofs.Standing.{bool_cases, not_both}
-use Rattle.my_line.proofs.Using.{unused}
-use Rattle.my_line.proofs.Waiting.{Results, begun_carries, driven, goes_so}
+use Rattle.my_line.proofs.Waiting.{Results, driven, goes_begins, goes_so}
 use Rattle.my_conn.specs.Calls.{CallIs, lost_answer}
 use Rattle.my_conn.specs.Conn.{ConnSeen, session_of}
-use Rattle.my_conn.specs.Drives.{DriveIs, ResultFits, lost_result}
+use Rattle.my_conn.specs.Drives.{DriveIs, lost_result}
 
 -- so far: the call is to begin, or is open
 abbrev pub DriveSoFar : {L : Type 0} → (L → Looks) → Call → Option Call → ConnSeen L → ConnSeen L → ℕ → Type 0
 DriveSoFar look call (Some c) old cur n = (c ≡ call) × (cur ≡ old) × (n ≡ 0)
 DriveSoFar look call None old cur n = (old.lost ≡ false) × (cur.lost ≡ false) × (is_some cur.tape ≡ is_some old.tape) × (cur.fixed ≡ old.fixed) × Lives old.fixed.now n (session_of old) (session_of cur) × ((login : Login) (k : Kept) → StandsFor login old.seen old.tape old.pending k
-    → (f : Kept) × StandsFor login cur.seen cur.tape cur.pending f × Goes call (look old.link) (look cur.link) k f n)
+    → (f : Kept) × StandsFor login cur.seen cur.tape cur.pending f × Goes login call (look old.link) (look cur.link) k f n)
 
 made_lives : (now n : ℕ) (a b : View) → Lives now n a b → made_in b ≡ made_in a
 made_lives now n a b w = ap (λ (l : Lifetime). first_lifetime l.opts l.is_socket l.deadline) w.lifetime
@@ -66,7 +66,7 @@ pending_fails e w = cc
 -- the poll of a call, from what was kept when it began
 record Polled (login : Login) (call : Call) (w x y : Looks) (k end : Kept) (n : ℕ) (after : After) : Type 0 where
   pub results : (r : Result Answer Error) → Results after r → Driven login call w y k n r end ⊎ DriveRefused call w y k n r end
-  pub goes : after ≡ Pending → x.counts.holds ≡ 0 → y.counts.holds ≡ 0 → Goes call w y k end n
+  pub goes : after ≡ Pending → x.counts.holds ≡ 0 → y.counts.holds ≡ 0 → Goes login call w y k end n
 
 refused_so : (call : Call) (x y : Looks) (k end : Kept) (m : Met) (after : After) (given : Option Call) → given ≡ Some call → Refuses given x y k end m after → (r : Result Answer Error) → Results after r → DriveRefused call x y k m.taken r end
 refused_so call x y k end m after given g d r e =
@@ -79,18 +79,18 @@ refused_so call x y k end m after given g d r e =
 
 begun_polled : (login : Login) (call : Call) (x y : Looks) (k end : Kept) (m : Met) (after : After) → Does login (Some call) x y k end m after → Polled login call x x y k end m.taken after
 begun_polled login call x y k end m after (inl d) = record {
-  results = λ r e. inl (subst (λ (i : ℕ). Driven login call x y k i r end) (omega arith) (driven login call k (asking k call None) end 0 x x y m after d.asked [] [] (unused x) (begun_carries k call) refl d.pending d.polled r e));
-  goes = λ e none still. subst (λ (i : ℕ). Goes call x y k end i) (omega arith) (goes_so login call k (asking k call None) end 0 x x y m after d.asked [] [] (unused x) (begun_carries k call) refl d.pending d.polled e none still);
+  results = λ r e. inl (subst (λ (i : ℕ). Driven login call x y k i r end) (omega arith) (driven login call k (asking k call None) end 0 x x y m after d.asked (goes_begins login call x k) d.pending d.polled r e));
+  goes = λ e none still. subst (λ (i : ℕ). Goes login call x y k end i) (omega arith) (goes_so login call k (asking k call None) end 0 x x y m after d.asked (goes_begins login call x k) d.pending d.polled e none still);
 }
 begun_polled login call x y k end m after (inr d) = record {
   results = λ r e. inr (refused_so call x y k end m after (Some call) refl d r e);
   goes = λ e none still. absurd (pending_fails connection_closed (sym e ∙ d.after_is));
 }
 
-open_polled : (login : Login) (call : Call) (w x y : Looks) (k f end : Kept) (n : ℕ) (m : Met) (after : After) → Goes call w x k f n → Does login None x y f end m after → Polled login call w x y k end (n + m.taken) after
+open_polled : (login : Login) (call : Call) (w x y : Looks) (k f end : Kept) (n : ℕ) (m : Met) (after : After) → Goes login call w x k f n → Does login None x y f end m after → Polled login call w x y k end (n + m.taken) after
 open_polled login call w x y k f end n m after c (inl d) = record {
-  results = λ r e. inl (driven login call k f end n w x y m after d.asked c.sent c.came c.used c.carries c.count d.pending d.polled r e);
-  goes = λ e none still. goes_so login call k f end n w x y m after d.asked c.sent c.came c.used c.carries c.count d.pending d.polled e none still;
+  results = λ r e. inl (driven login call k f end n w x y m after d.asked c d.pending d.polled r e);
+  goes = λ e none still. goes_so login call k f end n w x y m after d.asked c d.pending d.polled e none still;
 }
 open_polled login call w x y k f end n m after c (inr d) = absurd (no_call d.given d.call_is)
   where
@@ -117,7 +117,7 @@ module _ {L : Type 0} (look : L → Looks) (kind : CallKind) (call : Call) (old 
   same_fixed (Some c) cur n so is = is.fixed ∙ ap (λ (o : ConnSeen L). o.fixed) so.1
   same_fixed None cur n so is = is.fixed ∙ so.3
 
-  -- what a lost connection, or one that loses, comes to
+  -- what a lost connection, or one that is lost now, returns
   was_sound : (next : Option Call) (cur : ConnSeen L) (n : ℕ) → DriveSoFar look call next old cur n → cur.lost ≡ old.lost
   was_sound (Some c) cur n so = ap (λ (o : ConnSeen L). o.lost) so.1
   was_sound None cur n so = so.1 ∙ sym so.0
@@ -130,7 +130,7 @@ module _ {L : Type 0} (look : L → Looks) (kind : CallKind) (call : Call) (old 
   lives_so (Some c) cur n so is e f =
       let w : Lives old.fixed.now m.taken (session_of cur) (session_of new) = is.lives (was_sound (Some c) cur n so ∙ e) f in
       subst (λ (i : ℕ). Lives old.fixed.now i (session_of old) (session_of new)) (omega (arith, so.2)) (subst (λ (o : ConnSeen L). Lives old.fixed.now m.taken (session_of o) (session_of new)) so.1 w)
-  lives_so None cur n so is e f = lives_on old.fixed.now n m.taken (session_of old) (session_of cur) (session_of new) so.4 (is.lives so.1 f)
+  lives_so None cur n so is e f = lives_both old.fixed.now n m.taken (n + m.taken) (session_of old) (session_of cur) (session_of new) refl so.4 (is.lives so.1 f)
 
   made_so : (next : Option Call) (cur : ConnSeen L) (n : ℕ) → DriveSoFar look call next old cur n → CallIs look old.fixed.now kind next cur new m after → made_in (session_of new) ≡ made_in (session_of old)
   made_so (Some c) cur n so is = is.made ∙ ap (λ (o : ConnSeen L). made_in (session_of o)) so.1
@@ -233,7 +233,7 @@ drive_long {L} look kind call old cur new None n r so long bound lost none link 
       long,
       λ login k w.
           let u = so.5 login k w in
-          (u.0, subst (λ (l : L). Goes call (look old.link) (look l) k u.0 n) (sym link) u.2),
+          (u.0, subst (λ (l : L). Goes login call (look old.link) (look l) k u.0 n) (sym link) u.2),
     ),
   );
   lost = λ f. absurd (not_both old.lost so.0 f);

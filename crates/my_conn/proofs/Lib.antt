@@ -4,3 +4,4 @@ pub mod Cancelling
 pub mod Forgetting
 pub mod Driving
 pub mod Making
+pub mod Refusing

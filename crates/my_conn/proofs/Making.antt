@@ -1,20 +1,28 @@
 -- A connection that is being made, and one that was made.
-use Rattle.std.proofs.Common.{ℕ, ◌≡◌, List, [], ◌∷◌, ◌++◌, Option, Some, None, Result, Ok, Err, inl, inr, is_some, Bool, true, false, refl, sym, ap, ◌∙◌, subst}
+use Rattle.std.proofs.Common.{ℕ, ◌≡◌, ◌≤◌, List, [], ◌∷◌, ◌++◌, drop, length, Option, Some, None, Result, Ok, Err, inl, inr, is_some, Bool, true, false, refl, sym, ◌∙◌, subst, arith}
+use Rattle.std.proofs.lemmas.Bool.{true≢false}
 use Rattle.my_grammar.specs.declared.login.Login.{Login}
 use Rattle.my_link.specs.Aid.{Texts}
 use Rattle.my_link.specs.Looks.{Looks}
 use Rattle.my_reading.specs.declared.call.CallKind.{CallKind}
 use Rattle.my_reading.specs.declared.error.Error.TheVariants as errors
+use Rattle.my_reading.specs.Course.{parts_of}
+use Rattle.my_reading.specs.Place.{Place, first_place, with_bytes}
+use Rattle.my_reading.specs.Reading.{read_calls}
+use Rattle.my_machine.specs.Runs.{parts_left}
 use Rattle.my_opts.specs.Opts.{OptsView}
 use Rattle.my_opts_parts.specs.declared.error.UrlError.{UrlError}
 use Rattle.my_session.specs.Login.{login_of}
-use Rattle.my_session.specs.Seen.{Seen}
-use Rattle.my_session.specs.View.{View}
 use Rattle.my_client.specs.declared.tape.Tape.{Tape}
 use Rattle.my_client.specs.Conn.{kept_in}
 use Rattle.my_client.specs.Kept.{Kept, first_asked, first_kept}
 use Rattle.my_client.specs.Notes.{Agrees}
-use Rattle.my_client.specs.Rests.{IsAsked, Rests}
+use Rattle.my_client.specs.Reads.{EndedRead}
+use Rattle.my_session.proofs.Keeping.{leads_shorter}
+use Rattle.my_session.specs.Sessions.{Seen}
+use Rattle.my_session.specs.View.{View}
+use Rattle.my_client.specs.Stands.{StandsAsked, StandsAt, StandsOpen}
+use Rattle.my_client.proofs.Resting.{at_unread}
 use Rattle.my_line.specs.Makes.{ConnectsFor, IsMade, IsMaking, MakesFor, MakesTo, StaysMaking}
 use Rattle.my_line.specs.Stands.{StandsFor}
 use Rattle.my_line.specs.Waits.{IsShaken}
@@ -25,34 +33,47 @@ use Rattle.my_conn.specs.Connects.{kept_by}
 use Rattle.my_conn.specs.News.{FromUrlIs, Given, IsFirst, IsNew, first_fixed}
 use Rattle.my_conn.specs.declared.conn.Fixed.{Fixed}
 
-pub begun_connects : (login : Login) (s : Seen) (k : Kept) → IsAsked login s k first_asked → k ≡ first_kept → ConnectsFor login s None first_kept first_asked
-begun_connects login s k asked kept = record { asked = subst (λ (k : Kept). IsAsked login s k first_asked) kept asked; agrees = tt; connects = refl }
+pub begun_connects : (login : Login) (s : Seen) (k : Kept) → StandsAsked login s k first_asked → k ≡ first_kept → ConnectsFor login s None first_kept first_asked
+begun_connects login s k asked kept = record { asked = subst (λ (k : Kept). StandsAsked login s k first_asked) kept asked; agrees = tt; connects = refl }
 
 agrees_by : (keep : Bool) (t : Tape) (k : Kept) → kept_in t ≡ k → Agrees (kept_by keep t) k
 agrees_by true t k e = e
 agrees_by false t k e = tt
 
-pub kept_connects : (login : Login) (s : Seen) (keep : Bool) (t : Tape) → IsAsked login s (kept_in t) first_asked → kept_in t ≡ first_kept → ConnectsFor login s (kept_by keep t) first_kept first_asked
-kept_connects login s keep t asked kept = record { asked = subst (λ (k : Kept). IsAsked login s k first_asked) kept asked; agrees = agrees_by keep t first_kept kept; connects = refl }
+pub kept_connects : (login : Login) (s : Seen) (keep : Bool) (t : Tape) → StandsAsked login s (kept_in t) first_asked → kept_in t ≡ first_kept → ConnectsFor login s (kept_by keep t) first_kept first_asked
+kept_connects login s keep t asked kept = record { asked = subst (λ (k : Kept). StandsAsked login s k first_asked) kept asked; agrees = agrees_by keep t first_kept kept; connects = refl }
 
 pub keeps_by : (keep : Bool) (t : Tape) → is_some (kept_by keep t) ≡ keep
 keeps_by true t = refl
 keeps_by false t = refl
 
 -- nothing was received before the first call
-last_nil : (xs ys : List ℕ) → [] ≡ xs ++ ys → ys ≡ []
-last_nil [] ys e = sym e
-last_nil (x ∷ xs) ys e = absurd (no_first e)
-  where
-    no_first : [] ≡ x ∷ (xs ++ ys) → ⊥
-    no_first e = cc
+no_length : (xs : List ℕ) → length xs ≤ 0 → xs ≡ []
+no_length [] e = refl
+no_length (x ∷ xs) e = absurd (omega (arith, e))
 
-pub unread_first : (login : Login) (s : Seen) (k : Kept) → Rests login s k → k ≡ first_kept → s.unread ≡ []
-unread_first login s k r kept =
-    let h = r.heard in
-    last_nil _ s.unread (sym (h.kept.taken_is ∙ ap (λ (f : Kept). f.taken) kept) ∙ h.stands.wire.taken_is)
+module _ (login : Login) (s : Seen) where
+  first_before : (closed : Bool) (before : Place) → EndedRead login first_kept 0 0 closed before → (before ≡ first_place login) × (closed ≡ false)
+  unfolding read_calls
+  first_before closed before w = (sym w.place_is, sym w.closed_is)
 
--- a making goes on, or is done
+  open_unread : StandsOpen login s first_kept first_asked → s.stand.unread ≡ []
+  open_unread o =
+      let from : Place = with_bytes (drop 0 first_kept.sent) (drop 0 first_kept.taken) o.before in
+      let less = leads_shorter login first_asked.call (parts_of login first_asked.call) from (parts_left login first_asked.call o.progress) o.place o.leads in
+      let none : length o.place.unread ≤ 0 = subst (λ (p : Place). length o.place.unread ≤ length (p.unread ++ [])) (first_before false o.before o.ended).0 less in
+      sym (at_unread login o.place s.stand o.at) ∙ no_length o.place.unread none
+
+  asked_unread : StandsAt login s first_kept (Some first_asked) → s.stand.unread ≡ []
+  asked_unread (inl o) = open_unread o
+  asked_unread (inr c) = absurd (true≢false (first_before true c.before c.ended).1)
+
+pub unread_first : (login : Login) (s : Seen) (k : Kept) → StandsAsked login s k first_asked → k ≡ first_kept → s.stand.unread ≡ []
+unread_first login s k w kept =
+    let at : StandsAsked login s first_kept first_asked = subst (λ (k : Kept). StandsAsked login s k first_asked) kept w in
+    asked_unread login s at.stands.at
+
+-- a making continues, or is done
 pub making_on : (texts : Texts) (now : ℕ) (at to : Making) (x y : Looks) (u v : View) (p q : Option Tape) → StaysMaking texts now at to x y u v p q → IsMaking at u.seen p → IsMaking to v.seen q
 making_on texts now at to x y u v p q m w =
     let f = m.each w.0 w.1 w.2 in
@@ -63,7 +84,7 @@ making_stands texts now at x y u v p q m w =
     let f = m.each w.0 w.1 w.2 in
     (w.0, f.0, f.1)
 
--- what a poll of it comes to
+-- what a poll of it returns
 pub stays_so : (texts : Texts) (now : ℕ) (at to : Making) (x y : Looks) (u v : View) (p q : Option Tape) (o : Option Making) → o ≡ Some to → MakesTo texts now at x y u v p q (Ok o) → StaysMaking texts now at to x y u v p q
 stays_so texts now at to x y u v p q o e w = subst (λ (o : Option Making). MakesTo texts now at x y u v p q (Ok o)) e w
 
@@ -72,7 +93,7 @@ made_so texts now at x y u v p q o e w = subst (λ (o : Option Making). MakesTo 
 
 -- without its tape it did the same
 untaped : (login : Login) (o : Option CallKind) (s : Seen) (t : Option Tape) (k : Kept) → StandsFor login s t o k → StandsFor login s None o k
-untaped login o s t k w = record { rests = w.rests; stepped = w.stepped; agrees = tt; connected = w.connected; pending_is = w.pending_is }
+untaped login o s t k w = record { rests = w.rests; agrees = tt; connected = w.connected; pending_is = w.pending_is }
 
 making_for : (login : Login) (at : Making) (s : Seen) (t : Option Tape) (k : Kept) → MakesFor login at None s t k → MakesFor login at None s None k
 making_for login Shakes s t k w = (refl, w.1, record { asked = w.2.asked; agrees = tt; connects = w.2.connects })

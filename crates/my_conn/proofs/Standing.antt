@@ -1,13 +1,13 @@
--- A connection goes on standing for what it did.
+-- The session of a connection still stands for what it did.
 use Rattle.std.proofs.Common.{ℕ, ◌≡◌, Bool, false, Option, refl, sym, subst}
 use Rattle.my_link.specs.Looks.{Looks}
 use Rattle.my_link.specs.declared.met.Met.{Met}
 use Rattle.my_reading.specs.declared.call.Call.{Call}
 use Rattle.my_reading.specs.declared.call.CallKind.{CallKind}
-use Rattle.my_session.specs.Seen.{Seen}
-use Rattle.my_session.specs.View.{View}
 use Rattle.my_client.specs.declared.poll.After.{After}
 use Rattle.my_client.specs.declared.tape.Tape.{Tape}
+use Rattle.my_session.specs.Sessions.{Seen}
+use Rattle.my_session.specs.View.{View}
 use Rattle.my_client.specs.Lives.{made_in}
 use Rattle.my_line.specs.Calls.{EachCall, Leaves, MayPoll, pending_after}
 use Rattle.my_line.specs.Stands.{StandsFor}

@@ -12,5 +12,5 @@ ChecksBy look [] x y step = CheckIs (look x) (look y) step
 ChecksBy look (b ∷ bytes) x y step = (step ≡ Dead) × (y ≡ x)
 
 pub record CheckedIs {L : Type 0} (look : L → Looks) (old new : ConnSeen L) (step : CheckStep) : Type 0 where
-  pub checks : ChecksBy look old.seen.unread old.link new.link step
+  pub checks : ChecksBy look old.seen.stand.unread old.link new.link step
   pub rest : new ≡ record old { link = new.link }

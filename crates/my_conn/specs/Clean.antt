@@ -16,9 +16,9 @@ abbrev pub EachClean : {L : Type 0} → ConnSeen L → Bool → Type 0
 EachClean c dirty = c.lost ≡ false → c.pending ≡ None → (tape : Tape) → c.tape ≡ Some tape
     → IsClean c.seen.login (tape_kept (kept_in tape)) ↔ ((c.seen.closed ≡ false) × (dirty ≡ false))
 
--- Where it isn't closed, these options have the account of the place where the reading of the tape stands.
+-- These options have the account of the place where the reading of the tape stands.
 abbrev pub EachAccount : {L : Type 0} → ConnSeen L → OptsView → Type 0
-EachAccount c opts = c.lost ≡ false → c.seen.closed ≡ false → (tape : Tape) → c.tape ≡ Some tape
+EachAccount c opts = c.lost ≡ false → (tape : Tape) → c.tape ≡ Some tape
     → account_in opts ≡ (place_kept c.seen.login (kept_in tape)).account
 
 -- So it is of all that a connection may have done, with a tape or without one: where no call is open, that is clean exactly where the
@@ -27,7 +27,7 @@ abbrev pub DidClean : {L : Type 0} → ConnSeen L → Bool → Type 0
 DidClean c dirty = (login : Login) (k : Kept) → StandsFor login c.seen c.tape None k
     → IsClean login (tape_kept k) ↔ ((c.seen.closed ≡ false) × (dirty ≡ false))
 
--- and where it isn't closed, these options have the account of the place where the reading of that stands
+-- and these options have the account of the place where the reading of that stands
 abbrev pub DidAccount : {L : Type 0} → ConnSeen L → OptsView → Type 0
-DidAccount c opts = c.seen.closed ≡ false → (login : Login) (k : Kept) → StandsFor login c.seen c.tape c.pending k
+DidAccount c opts = (login : Login) (k : Kept) → StandsFor login c.seen c.tape c.pending k
     → account_in opts ≡ (place_kept login k).account

@@ -2,8 +2,9 @@
 use Rattle.std.specs.Prelude.{◌≡◌, Bool, true, false, Option, None}
 use Rattle.my_grammar.specs.declared.login.Login.{Login}
 use Rattle.my_reading.specs.declared.call.CallKind.{CallKind}
-use Rattle.my_session.specs.Seen.{Seen}
-use Rattle.my_session.specs.View.{Lifetime, View}
+use Rattle.my_session.specs.View.{Lifetime}
+use Rattle.my_session.specs.Sessions.{Seen}
+use Rattle.my_session.specs.View.{View}
 use Rattle.my_client.specs.declared.tape.Tape.{Tape}
 use Rattle.my_client.specs.Kept.{Kept}
 use Rattle.my_line.specs.Stands.{StandsFor}

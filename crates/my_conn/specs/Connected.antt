@@ -1,4 +1,4 @@
--- What a poll of a connection that is being made comes to.
+-- What a poll of a connection that is being made returns.
 use Rattle.std.specs.Prelude.{ℕ, ◌≡◌, None, false, is_some}
 use Rattle.my_link.specs.Aid.{Texts}
 use Rattle.my_link.specs.Looks.{Looks}

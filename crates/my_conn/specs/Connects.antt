@@ -3,8 +3,9 @@ use Rattle.std.specs.Prelude.{Bool, true, false, Option, Some, None}
 use Rattle.my_link.specs.Aid.{Texts}
 use Rattle.my_link.specs.Looks.{Looks}
 use Rattle.my_reading.specs.declared.error.Error.{Error}
-use Rattle.my_session.specs.Seen.{Seen}
-use Rattle.my_session.specs.View.{Lifetime, View}
+use Rattle.my_session.specs.View.{Lifetime}
+use Rattle.my_session.specs.Sessions.{Seen}
+use Rattle.my_session.specs.View.{View}
 use Rattle.my_client.specs.declared.tape.Tape.{Tape}
 use Rattle.my_line.specs.Makes.{WhyNotMade}
 use Rattle.my_line.specs.declared.texts.Making.{Making}
@@ -27,7 +28,7 @@ pub record ConnectFails {L : Type 0} (look : L → Looks) (texts : Texts) (old :
   pub left : Looks
   pub why : WhyNotMade texts old.at (look old.link) left old.seen old.tape e
 
--- a tape that is kept, or let go
+-- a tape that is kept, or isn't
 abbrev pub kept_by : Bool → Tape → Option Tape
 kept_by true t = Some t
 kept_by false t = None

@@ -16,13 +16,11 @@ use Rattle.my_reading.specs.declared.error.DriverError.TheVariants.{TooLong}
 use Rattle.my_reading.specs.declared.error.Error.{Error}
 use Rattle.my_reading.specs.declared.error.Error.TheVariants as errors
 use Rattle.my_reading.specs.Errors.{connection_closed}
-use Rattle.my_reading.specs.Told.{told}
 use Rattle.my_statements.specs.Prepared.{StatementView}
-use Rattle.my_session.specs.Fits.{may_be}
 use Rattle.my_client.specs.Kept.{Kept}
 use Rattle.my_client.specs.Lives.{Lives, made_in}
 use Rattle.my_line.specs.Stands.{StandsFor}
-use Rattle.my_line.specs.Waits.{DriveRefused, Driven, Goes}
+use Rattle.my_line.specs.Waits.{DriveRefused, Driven, Goes, ResultFits}
 use Rattle.my_line.specs.declared.handshake.TheConstants.{TOO_LONG}
 use Rattle.my_conn.specs.Answers.{done_of, next_of, taken_of}
 use Rattle.my_conn.specs.declared.drive.NextAnswer.{NextAnswer}
@@ -31,12 +29,7 @@ use Rattle.my_conn.specs.Conn.{ConnSeen, session_of}
 -- at least 2^40 bytes were taken in it without an answer: this many
 abbrev pub IsTooLong : {L : Type 0} → (L → Looks) → Call → ConnSeen L → ConnSeen L → ℕ → Type 0
 IsTooLong look call old new n = (TOO_LONG ≤ n) × ((login : Login) (k : Kept)
-    → StandsFor login old.seen old.tape old.pending k → (f : Kept) × Goes call (look old.link) (look new.link) k f n)
-
--- an answer is one of the call's kind
-abbrev pub ResultFits : CallKind → Result Answer Error → Type 0
-ResultFits c (Ok answer) = may_be c (told answer) ≡ true
-ResultFits c (Err e) = Unit {0}
+    → StandsFor login old.seen old.tape old.pending k → (f : Kept) × Goes login call (look old.link) (look new.link) k f n)
 
 abbrev pub lost_result : CallKind → Result Answer Error
 lost_result ForgetTransaction = Ok answers.Ready

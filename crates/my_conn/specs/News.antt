@@ -1,4 +1,4 @@
--- What a call that connects and waits comes to.
+-- What a call that connects and waits returns.
 use Rattle.std.specs.Prelude.{ℕ, ◌≡◌, ◌⊎◌, [], Bool, None, false}
 use Rattle.std.specs.declared.result.Result.{Result}
 use Rattle.std.specs.declared.result.Result.TheVariants.{Ok, Err}
@@ -9,7 +9,8 @@ use Rattle.my_opts.specs.Opts.{OptsView}
 use Rattle.my_opts_parts.specs.Pool.{deadline_of}
 use Rattle.my_opts_parts.specs.declared.error.UrlError.{UrlError}
 use Rattle.my_session.specs.Login.{login_of}
-use Rattle.my_session.specs.View.{View, first_lifetime}
+use Rattle.my_session.specs.View.{first_lifetime}
+use Rattle.my_session.specs.View.{View}
 use Rattle.my_line.specs.Waits.{IsShaken, WhyUnmade}
 use Rattle.my_conn.specs.Conn.{ConnSeen, session_of}
 use Rattle.my_conn.specs.declared.conn.Fixed.{Fixed}
@@ -30,7 +31,7 @@ given_by look socket link now random = record { looks = look link; is_socket = s
 
 -- a session that was made for it, and received nothing
 pub record IsFirst (opts : OptsView) (g : Given) (v : View) : Type 0 where
-  pub unread : v.seen.unread ≡ []
+  pub unread : v.seen.stand.unread ≡ []
   pub lifetime : v.lifetime ≡ first_lifetime opts g.is_socket (deadline_of opts.pool_opts g.now g.random)
 
 pub record IsNew {L : Type 0} (look : L → Looks) (opts : OptsView) (g : Given) (c : ConnSeen L) : Type 0 where

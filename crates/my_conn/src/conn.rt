@@ -2,9 +2,7 @@
 ghost use Rattle.std.specs.Prelude.{◌≡◌, ◌||◌, Some, None, true, false};
 ghost use Rattle.std.specs.Option.{option_copied};
 ghost use Rattle.my_session.specs.Login.{with_account};
-ghost use Rattle.my_session.specs.Steps.{is_taken};
-ghost use Rattle.my_session.specs.Rest.{is_dirty};
-ghost use Rattle.my_statements.specs.Known.{known_of};
+ghost use Rattle.my_session.specs.Sessions.{is_dirty, is_taken, known_by};
 ghost use Rattle.my_line.specs.Calls.{pending_after};
 ghost use Rattle.my_conn.specs.Calls.{lost_answer};
 ghost use Rattle.my_conn.specs.Clean.{DidAccount, DidClean, EachAccount, EachClean};
@@ -80,7 +78,7 @@ impl<L> Model for Conn<L> {
     ghost invariant = { λ c. Standing c.lost c.session.seen c.tape c.pending };
 }
 
-// What a call of a lost connection comes to.
+// What a call of a lost connection returns.
 fn lost_answer(kind: CallKind) -> After
     ensures { result ≡ lost_answer kind }
 {
@@ -152,7 +150,7 @@ impl<L> Conn<L> {
 
     /// The options in force: those that it was made with, as each change of user changed them.
     pub fn opts(&self) -> &Opts
-        ensures value { result.now ≡ with_account self.now.seen.account self.now.lifetime.opts }
+        ensures value { result.now ≡ with_account self.now.seen.stand.account self.now.lifetime.opts }
         ensures account { EachAccount self.now result.now }
         ensures did { DidAccount self.now result.now }
     {
@@ -175,7 +173,7 @@ impl<L> Conn<L> {
 
     // The server's timeout, in seconds.
     pub(crate) fn timeout(&self) -> u64
-        ensures { result ≡ self.now.seen.facts.settings.wait_timeout }
+        ensures { result ≡ self.now.seen.stand.facts.settings.wait_timeout }
     {
         self.session.wait_timeout()
     }
@@ -214,28 +212,28 @@ impl<L> Conn<L> {
 
     /// The number of the connection, as the server reported it.
     pub fn id(&self) -> u32
-        ensures { result ≡ self.now.seen.facts.connection }
+        ensures { result ≡ self.now.seen.stand.facts.connection }
     {
         self.session.connection_id()
     }
 
     /// The server's version, as it reported it.
     pub fn version(&self) -> &[u8]
-        ensures { result.now ≡ self.now.seen.facts.version }
+        ensures { result.now ≡ self.now.seen.stand.facts.version }
     {
         self.session.version()
     }
 
     /// The last OK, or the OK that ended a set; none after an ERR.
     pub fn last_ok_packet(&self) -> Option<&OkPacket>
-        ensures { option_copied result ≡ self.now.seen.facts.ok }
+        ensures { option_copied result ≡ self.now.seen.stand.facts.ok }
     {
         self.session.last_ok()
     }
 
-    /// The columns of the rows of a prepared statement, where they are known.
+    /// The columns of the rows of a prepared statement, where they are known. None are where it is closed.
     pub fn columns_of(&self, statement: &Statement) -> Option<&SetColumns>
-        ensures { option_copied result ≡ known_of statement.now.inner.id self.now.seen.statements.known }
+        ensures { option_copied result ≡ known_by statement.now.inner.id self.now.seen }
     {
         self.session.columns_of(statement)
     }
@@ -298,7 +296,7 @@ impl<L: Link> Conn<L> {
     ghost use Rattle.my_conn.specs.Checks.{CheckedIs};
 
     /// Polls a call of this kind once, at the moment `now`, in milliseconds: `call` begins, or where there is none, the open one
-    /// goes on.
+    /// continues.
     pub fn poll_call(
         &mut self,
         alloc: Global,
@@ -371,12 +369,7 @@ impl<L> Conn<L> {
         if self.lost {
             return;
         }
-        match forget_open(
-            self.alloc,
-            &mut self.session,
-            &mut self.tape,
-            self.fixed.now,
-        ) {
+        match forget_open(self.alloc, &mut self.session, &mut self.tape) {
             Ok(()) => {}
             Err(NoMemory) => {
                 self.lost = true;

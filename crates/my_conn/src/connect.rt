@@ -30,10 +30,7 @@ impl<L: BlockingLink + Drop> Conn<L> {
         let fixed = Fixed::first(&opts, now);
         let begun = match begin_conn(alloc, opts, link, now, random) {
             Ok(begun) => begun,
-            Err(link) => {
-                drop(link);
-                return Err(Error::NoMemory);
-            }
+            Err(NoMemory) => return Err(Error::NoMemory),
         };
         let TapedConn {
             mut session,
@@ -54,7 +51,7 @@ impl<L: BlockingLink + Drop> Conn<L> {
     }
 
     /// Connects over this link with the options that a URL gives, as `new` does. A URL that gives none is refused, and
-    /// the link let go unused. The text has at most `LONGEST_URL` bytes.
+    /// the link isn't used. The text has at most `LONGEST_URL` bytes.
     pub fn from_url(
         alloc: Global,
         url: &str,

@@ -50,7 +50,7 @@ impl<L> Model for Connecting<L> {
     ghost invariant = { λ c. IsMaking c.at c.session.seen c.tape };
 }
 
-/// What a poll of a connection that is being made comes to.
+/// What a poll of a connection that is being made returns.
 #[derive(Drop)]
 pub enum Connected<L> {
     /// It isn't made yet.
@@ -59,7 +59,7 @@ pub enum Connected<L> {
     Failed(Error),
 }
 
-// A tape that is kept, or let go.
+// A tape that is kept, or isn't.
 fn kept(tape: Tape, keep: bool) -> Option<Tape>
     ensures { result ≡ kept_by keep tape }
 {
@@ -102,13 +102,7 @@ impl<L: Link + Drop> Connecting<L> {
         ensures fixed { IfOk result (λ c. c.fixed ≡ first_fixed opts now) }
     {
         let fixed = Fixed::first(&opts, now);
-        let begun = match begin_conn(alloc, opts, link, now, random) {
-            Ok(begun) => begun,
-            Err(link) => {
-                drop(link);
-                return Err(NoMemory);
-            }
-        };
+        let begun = begin_conn(alloc, opts, link, now, random)?;
         let TapedConn {
             session,
             link,
@@ -123,7 +117,7 @@ impl<L: Link + Drop> Connecting<L> {
         })
     }
 
-    /// Goes on with the making of the connection: the handshake, and then each text that the aid tells, with its result read
+    /// Continues the making of the connection: the handshake, and then each text that the aid tells, with its result read
     /// whole before the next. Where it isn't made yet, the connection that is being made is returned.
     ///
     /// `now` is the moment, in milliseconds. The aid is asked what follows, and for nothing else.

@@ -27,14 +27,14 @@ fn ttl_by(ttl: Option<Millis>, seconds: u64) -> u128
 impl<L> Conn<L> {
     /// How long it may rest, in milliseconds; 0 is without an end.
     pub fn ttl(&self) -> u128
-        ensures { result ≡ ttl_by self.now.lifetime.opts.conn_ttl self.now.seen.facts.settings.wait_timeout }
+        ensures { result ≡ ttl_by self.now.lifetime.opts.conn_ttl self.now.seen.stand.facts.settings.wait_timeout }
     {
         ttl_by(self.opts().conn_ttl(), self.timeout())
     }
 
     /// The number of rows that the last statement changed, by the last OK; 0 without one.
     pub fn affected_rows(&self) -> u64
-        ensures { result ≡ affected_by self.now.seen.facts.ok }
+        ensures { result ≡ affected_by self.now.seen.stand.facts.ok }
     {
         match self.last_ok_packet() {
             None => 0,
@@ -45,7 +45,7 @@ impl<L> Conn<L> {
     /// The id that the server generated for the last new row, by the last OK; none where it generated none,
     /// or without an OK.
     pub fn last_insert_id(&self) -> Option<u64>
-        ensures { result ≡ insert_by self.now.seen.facts.ok }
+        ensures { result ≡ insert_by self.now.seen.stand.facts.ok }
     {
         match self.last_ok_packet() {
             None => None,
@@ -55,7 +55,7 @@ impl<L> Conn<L> {
 
     /// The number of warnings, by the last OK; 0 without one.
     pub fn get_warnings(&self) -> u16
-        ensures { result ≡ warnings_by self.now.seen.facts.ok }
+        ensures { result ≡ warnings_by self.now.seen.stand.facts.ok }
     {
         match self.last_ok_packet() {
             None => 0,
@@ -65,7 +65,7 @@ impl<L> Conn<L> {
 
     /// The last OK's remark for people; empty without one.
     pub fn info(&self) -> &[u8]
-        ensures { result.now ≡ info_by self.now.seen.facts.ok }
+        ensures { result.now ≡ info_by self.now.seen.stand.facts.ok }
     {
         match self.last_ok_packet() {
             None => &[],
@@ -75,9 +75,9 @@ impl<L> Conn<L> {
 
     /// The three numbers of the server's version.
     pub fn server_version(&self) -> (u16, u16, u16)
-        ensures major { result.0 ≡ (version_of self.now.seen.facts.version).major }
-        ensures minor { result.1 ≡ (version_of self.now.seen.facts.version).minor }
-        ensures patch { result.2 ≡ (version_of self.now.seen.facts.version).patch }
+        ensures major { result.0 ≡ (version_of self.now.seen.stand.facts.version).major }
+        ensures minor { result.1 ≡ (version_of self.now.seen.stand.facts.version).minor }
+        ensures patch { result.2 ≡ (version_of self.now.seen.stand.facts.version).patch }
     {
         let version = server_version(self.version());
         (version.major, version.minor, version.patch)

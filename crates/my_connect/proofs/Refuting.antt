@@ -1,5 +1,5 @@
 -- The error of a dial is returned where a dial gave no link alone.
-use Rattle.std.proofs.Common.{ℕ, ◌≡◌, ◌∙◌, ◌⊎◌, inl, inr, ◌<◌, ◌+◌, ◌-◌, ◌^◌, min, Bool, Result, Ok, Err, sym, ap, arith}
+use Rattle.std.proofs.Common.{ℕ, ◌≡◌, ◌∙◌, inl, inr, ◌<◌, ◌+◌, ◌-◌, ◌^◌, min, Result, Ok, Err, ap, arith}
 use Rattle.my_link.specs.Looks.{Looks}
 use Rattle.my_opts.specs.Opts.{OptsView}
 use Rattle.my_reading.specs.declared.error.Error.{Error}
@@ -7,6 +7,7 @@ use Rattle.my_reading.specs.declared.error.Error.TheVariants as errors
 use Rattle.my_world.specs.World.{DialCounts, WorldSeen}
 use Rattle.my_conn.specs.Conn.{ConnSeen}
 use Rattle.my_conn.specs.News.{Given, NewIs, given_by}
+use Rattle.my_conn.proofs.Refusing.{new_own}
 use Rattle.my_connect.specs.Connected.{MadeOver}
 use Rattle.my_connect.specs.Dialed.{DialIs, NoLink, undialed}
 use Rattle.my_connect.specs.Refuted.{AreCounted, DialsAreCounted}
@@ -29,9 +30,7 @@ module _ (old mid new : WorldSeen) (small : AreCounted old.dials) (before : mid.
   no_dial look e is (inr refused) = no_link refused.1.no_link
 
 unmade : {L : Type 0} (look : L → Looks) (opts : OptsView) (g : Given) → NewIs look opts g (Err undialed) → ⊥
-unmade look opts g (y, inl out) = cc
-unmade look opts g (y, inr (inl long)) = cc
-unmade look opts g (y, inr (inr w)) = w.driven.ends.2
+unmade look opts g w = new_own look opts g undialed w
 
 abbrev failed : {A : Type 0} → Error → Result A Error
 failed e = Err e

@@ -1,5 +1,5 @@
 -- What connecting doesn't return.
-use Rattle.std.specs.Prelude.{ℕ, ◌≡◌, ◌<◌, ◌^◌, ◌-◌, Bool}
+use Rattle.std.specs.Prelude.{◌≡◌, ◌<◌, ◌^◌, ◌-◌, Bool}
 use Rattle.std.specs.declared.result.Result.TheVariants.{Err}
 use Rattle.my_link.specs.Looks.{Looks}
 use Rattle.my_opts.specs.Opts.{OptsView}

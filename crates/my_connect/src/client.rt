@@ -74,23 +74,23 @@ impl<L> Client<L> {
 
     /// The number of the connection, as the server reported it.
     pub fn id(&self) -> u32
-        ensures { result ≡ self.now.seen.facts.connection }
+        ensures { result ≡ self.now.seen.stand.facts.connection }
     {
         self.conn.id()
     }
 
     /// The three numbers of the server's version.
     pub fn server_version(&self) -> (u16, u16, u16)
-        ensures major { result.0 ≡ (version_of self.now.seen.facts.version).major }
-        ensures minor { result.1 ≡ (version_of self.now.seen.facts.version).minor }
-        ensures patch { result.2 ≡ (version_of self.now.seen.facts.version).patch }
+        ensures major { result.0 ≡ (version_of self.now.seen.stand.facts.version).major }
+        ensures minor { result.1 ≡ (version_of self.now.seen.stand.facts.version).minor }
+        ensures patch { result.2 ≡ (version_of self.now.seen.stand.facts.version).patch }
     {
         self.conn.server_version()
     }
 
     /// The number of rows that the last statement changed, by the last OK; 0 without one.
     pub fn affected_rows(&self) -> u64
-        ensures { result ≡ affected_by self.now.seen.facts.ok }
+        ensures { result ≡ affected_by self.now.seen.stand.facts.ok }
     {
         self.conn.affected_rows()
     }
@@ -98,21 +98,21 @@ impl<L> Client<L> {
     /// The id that the server generated for the last new row, by the last OK; none where it generated none,
     /// or without an OK.
     pub fn last_insert_id(&self) -> Option<u64>
-        ensures { result ≡ insert_by self.now.seen.facts.ok }
+        ensures { result ≡ insert_by self.now.seen.stand.facts.ok }
     {
         self.conn.last_insert_id()
     }
 
     /// The number of warnings, by the last OK; 0 without one.
     pub fn get_warnings(&self) -> u16
-        ensures { result ≡ warnings_by self.now.seen.facts.ok }
+        ensures { result ≡ warnings_by self.now.seen.stand.facts.ok }
     {
         self.conn.get_warnings()
     }
 
     /// The last OK's remark for people; empty without one.
     pub fn info(&self) -> &[u8]
-        ensures { result.now ≡ info_by self.now.seen.facts.ok }
+        ensures { result.now ≡ info_by self.now.seen.stand.facts.ok }
     {
         self.conn.info()
     }

@@ -1,90 +1,86 @@
 -- How a line's transaction is given up.
-use Rattle.std.proofs.Common.{◌≡◌, ◌⊎◌, inl, inr, ℕ, ◌+◌, length, List, [], Bool, true, false, ◌&&◌, Option, Some, None, if◌then◌else◌, refl, sym, ap, ◌∙◌, subst, arith}
-use Rattle.std.proofs.lemmas.Bool.{le-ltb}
+use Rattle.std.proofs.Common.{◌≡◌, ◌⊎◌, inl, inr, ℕ, ◌+◌, nat_lt, List, [], ◌∷◌, Bool, true, false, ◌&&◌, Option, Some, None, cond, refl, sym, ap, ◌∙◌, subst}
 use Rattle.my_grammar.specs.declared.login.Login.{Login}
 use Rattle.my_reading.specs.declared.answer.Answer.{Answer}
 use Rattle.my_reading.specs.declared.answer.Answer.TheVariants as answers
 use Rattle.my_reading.specs.declared.answer.Answer.TheVariants.{Ready}
 use Rattle.my_reading.specs.declared.call.Call.TheVariants.{ForgetTransaction}
-use Rattle.my_reading.specs.declared.call.CallKind.TheVariants as kinds
-use Rattle.my_reading.specs.Told.{ToldReady, told}
-use Rattle.my_reading.specs.declared.error.Error.{Error}
-use Rattle.my_session.specs.declared.answer.SessionStep.{SessionStep}
-use Rattle.my_session.specs.declared.answer.SessionStep.TheVariants.{Send, Need, Done, Fault}
-use Rattle.my_session.specs.declared.task.Task.TheVariants.{Nothing, Begun, Leaving}
-use Rattle.my_session.specs.Causes.{EachStepStands}
-use Rattle.my_session.specs.Fits.{is_begun}
-use Rattle.my_session.specs.History.{History, began}
-use Rattle.my_session.specs.Seen.{Seen}
-use Rattle.my_session.specs.Stands.{Stands, owes}
-use Rattle.my_session.specs.Mirror.{EachStepReads}
-use Rattle.my_session.specs.Steps.{Steps, begun}
-use Rattle.my_session.specs.Tasks.{is_open}
-use Rattle.my_session.specs.View.{View, last_io_after, lived}
+use Rattle.my_reading.proofs.Leading.{leads_to_course}
+use Rattle.my_reading.specs.Course.{GiveUp, Halt, Owes, Returns, course, halt, step, step_of, unless_owed}
+use Rattle.my_reading.specs.Leads.{Here, Then}
+use Rattle.my_reading.specs.Place.{Place, owed, with_status}
+use Rattle.my_reading.specs.Told.{Told, ToldReady, told}
+use Rattle.my_reading.specs.Transactions.{given_up}
+use Rattle.my_session.specs.View.{Lifetime, lived}
 use Rattle.my_client.specs.declared.tape.Said.{Said}
 use Rattle.my_client.specs.declared.tape.Said.TheVariants as says
 use Rattle.my_client.specs.declared.tape.Tape.{Tape}
 use Rattle.my_client.specs.Kept.{Asked, Kept, asked_by, asking, ended_by}
 use Rattle.my_client.specs.Notes.{Agrees}
-use Rattle.my_client.specs.Rests.{IsAnswered, IsAsked}
-use Rattle.my_client.proofs.Hearing.Beginning.{begins, idle_task}
-use Rattle.my_client.proofs.Hearing.Stepping.{is_answered}
-use Rattle.my_client.proofs.Once.{once_done, once_fails, once_needs, once_sends}
-use Rattle.my_line.specs.Forgets.{EachForget, IsAtOnce, IsReady}
+use Rattle.my_client.specs.Reads.{ComesTo}
+use Rattle.my_client.proofs.TapeRead.Stopping.{stop_open}
+use Rattle.my_session.specs.Sessions.{Seen, begun}
+use Rattle.my_client.specs.Stands.{Returned, Stands, StandsAsked, StandsClosed, StandsOpen}
+use Rattle.my_client.proofs.Moving.{started}
+use Rattle.my_client.proofs.Resting.{rests_idle}
+use Rattle.my_line.specs.Forgets.{EachAnswered, EachForget}
 use Rattle.my_line.specs.Stands.{StandsFor}
-use Rattle.my_line.proofs.Calling.{NotesCall}
-use Rattle.my_line.proofs.Standing.{connected_by, idle_kept, no_asked}
+use Rattle.my_line.proofs.Calling.{NotesCall, asked_begun}
+use Rattle.my_line.proofs.Standing.{connected_by, no_asked}
 
 -- it isn't refused
 pub never_refused : (closed : Bool) → closed && false ≡ true → ⊥
 never_refused true e = cc
 never_refused false e = cc
 
--- once it began, it is open, and answered at once
-open_by : (closed : Bool) → is_open (if closed then Leaving kinds.ForgetTransaction else Begun kinds.ForgetTransaction) ≡ true
-open_by true = refl
-open_by false = refl
+-- a line at rest has no open call
+pub rest_idle : (login : Login) (s : Seen) (p : Option Tape) (k : Kept) → StandsFor login s p None k → s.opened ≡ None
+rest_idle login s p k w = rests_idle login s k w.rests.stands (no_asked k.pending w.pending_is)
 
-pub begun_on : (s r : Seen) → r ≡ begun s ForgetTransaction → is_open r.task ≡ true
-begun_on s r e = ap (λ (x : Seen). is_open x.task) e ∙ open_by s.closed
+-- the moment of the last payload stays, where a step takes it as its own
+same_moment : (b : Bool) (last : ℕ) → cond b last last ≡ last
+same_moment true last = refl
+same_moment false last = refl
 
--- the session with this task, which owes these bytes
-abbrev asked_with : Seen → Bool → List ℕ → Seen
-asked_with s closed owed = record { context = s.context; task = (if closed then Leaving kinds.ForgetTransaction else Begun kinds.ForgetTransaction); call = ForgetTransaction; untold = s.untold; taken = s.taken; closed = s.closed; ended = s.ended; number = s.number; unread = s.unread; owed = owed; facts = s.facts; statements = s.statements; status = s.status; account = s.account; trial = s.trial; login = s.login }
+pub lived_last : (n m : ℕ) (l : Lifetime) → lived l.last_io 0 n m l ≡ l
+lived_last n m l = ap (λ last. record { opts = l.opts; is_socket = l.is_socket; deadline = l.deadline; last_io = last }) (same_moment (nat_lt m (n + 0)) l.last_io)
 
-once_with : (s : Seen) (closed : Bool) → IsAtOnce (asked_with s closed [])
-once_with s true = (refl, refl)
-once_with s false = (refl, refl)
+-- what the call returns: it owes bytes, or is done
+owes_course : (login : Login) (p : Place) (b : ℕ) (bytes : List ℕ) → owed p ≡ b ∷ bytes → course login ForgetTransaction p ≡ halt p Owes
+unfolding step
+owes_course login p b bytes e =
+    leads_to_course login ForgetTransaction p (GiveUp ∷ []) p p Owes (Here (GiveUp ∷ []) p)
+    (ap (λ (x : List ℕ). unless_owed x p (step_of login ForgetTransaction (GiveUp ∷ []) p)) e)
 
-pub at_once : (s r : Seen) → s.owed ≡ [] → r ≡ begun s ForgetTransaction → IsAtOnce r
-at_once s r none e = subst IsAtOnce (sym e) (subst (λ bytes. IsAtOnce (asked_with s s.closed bytes)) (sym none) (once_with s s.closed))
+done_course : (login : Login) (p : Place) → owed p ≡ [] → course login ForgetTransaction p ≡ halt (with_status (given_up p.status) p) (Returns ToldReady)
+unfolding step
+done_course login p e =
+    let q : Place = with_status (given_up p.status) p in
+    leads_to_course login ForgetTransaction p [] q q (Returns ToldReady)
+    (Then (GiveUp ∷ []) p [] q [] q (ap (λ (x : List ℕ). unless_owed x p (step_of login ForgetTransaction (GiveUp ∷ []) p)) e) (Here [] q))
+    (ap (λ (x : List ℕ). unless_owed x q (step_of login ForgetTransaction [] q)) e)
 
--- a line at rest owes nothing
-pub rest_idle : (login : Login) (s : Seen) (p : Option Tape) (k : Kept) → StandsFor login s p None k → is_open s.task ≡ false
-rest_idle login s p k w = idle_kept login s k w.rests (no_asked k.pending w.pending_is)
+same_told : (t : Told) → Some (Returns ToldReady) ≡ Some (Returns t) → t ≡ ToldReady
+same_told t e = cc
 
-pub rest_owes : (login : Login) (s : Seen) (p : Option Tape) (k : Kept) → StandsFor login s p None k → s.owed ≡ []
-rest_owes login s p k w = w.rests.heard.stands.settled (ap owes (idle_task s.task (rest_idle login s p k w)))
+no_owing : (t : Told) → Some Owes ≡ Some (Returns t) → ⊥
+no_owing t e = cc
 
--- its step asks for nothing, and reads nothing
-pub never_asks : (s t : Seen) (step : SessionStep) → IsAtOnce s → Steps s t step → (step ≡ Send) ⊎ (step ≡ Need) → ⊥
-never_asks s t step w v (inl e) = once_sends s t w.0 (subst (Steps s t) e v)
-never_asks s t step w v (inr e) = once_needs s t w.0 (subst (Steps s t) e v)
+course_tells : (login : Login) (p : Place) (t : Told) → Some (course login ForgetTransaction p).stop ≡ Some (Returns t) → t ≡ ToldReady
+course_tells login p t e = by_owed (owed p) refl
+  where
+    by_owed : (x : List ℕ) → owed p ≡ x → t ≡ ToldReady
+    by_owed [] f = same_told t (sym (ap (λ (h : Halt). Some h.stop) (done_course login p f)) ∙ e)
+    by_owed (b ∷ bytes) f = absurd (no_owing t (sym (ap (λ (h : Halt). Some h.stop) (owes_course login p b bytes f)) ∙ e))
 
-pub unread_done : (s t : Seen) (answer : Answer) → IsAtOnce s → Steps s t (Done answer) → t.unread ≡ s.unread
-unread_done s t answer w v = ap (λ (x : Seen). x.unread) (once_done s t w.0 answer v).1 ∙ w.1
-
-pub unread_failed : (s t : Seen) (e : Error) → IsAtOnce s → Steps s t (Fault e) → t.unread ≡ s.unread
-unread_failed s t e w v = ap (λ (x : Seen). x.unread) (once_fails s t w.0 e v).1
-
-same_moment : (now n last : ℕ) → last_io_after now 0 n n last ≡ last
-same_moment now n last = ap (λ b. if b then now else last) (le-ltb n (n + 0) (omega arith))
-
-pub lived_same : (now : ℕ) (a b : View) → b.seen.unread ≡ a.seen.unread → b.lifetime ≡ lived now 0 (length a.seen.unread) (length b.seen.unread) a.lifetime → b.lifetime ≡ a.lifetime
-lived_same now a b e f =
-    let l = a.lifetime in
-    f ∙ ap (λ (bytes : List ℕ). lived now 0 (length a.seen.unread) (length bytes) l) e
-    ∙ ap (λ last. record { opts = l.opts; is_socket = l.is_socket; deadline = l.deadline; last_io = last }) (same_moment now (length a.seen.unread) l.last_io)
+forget_tells : (login : Login) (r : Seen) (k : Kept) (t : Told) → StandsAsked login r (asking k ForgetTransaction None) (asked_by k ForgetTransaction) → ComesTo login (asking k ForgetTransaction None) t → t ≡ ToldReady
+forget_tells login r k t w comes = by_call w.stands.at
+  where
+    by_call : StandsOpen login r (asking k ForgetTransaction None) (asked_by k ForgetTransaction) ⊎ StandsClosed login r (asking k ForgetTransaction None) (asked_by k ForgetTransaction) → t ≡ ToldReady
+    by_call (inl o) =
+        course_tells login (started (asking k ForgetTransaction None) (asked_by k ForgetTransaction) o.before) t
+        (sym (stop_open login (asking k ForgetTransaction None) (asked_by k ForgetTransaction) false o.before o.ended refl) ∙ comes)
+    by_call (inr c) = same_told t (sym (stop_open login (asking k ForgetTransaction None) (asked_by k ForgetTransaction) true c.before c.ended refl) ∙ comes)
 
 -- only one answer says that it is done
 ready_only : (answer : Answer) → told answer ≡ ToldReady → answer ≡ Ready
@@ -95,30 +91,20 @@ ready_only answers.NoSet e = cc
 ready_only (answers.Stmt statement) e = cc
 ready_only (answers.Flag flag) e = cc
 
-pub is_ready : (s t : Seen) (answer : Answer) → IsAtOnce s → Steps s t (Done answer) → answer ≡ Ready
-is_ready s t answer w v = ready_only answer (once_done s t w.0 answer v).0
-
-pub ready_steps : (s t : Seen) (answer : Answer) → answer ≡ Ready → Steps s t (Done answer) → t.task ≡ Nothing → EachStepReads s t (Done answer) → EachStepStands s t (Done answer) → IsReady s t
-ready_steps s t answer e v n rd st = record {
-  steps = subst (λ a. Steps s t (Done a)) e v;
-  task = n;
-  reads = subst (λ a. EachStepReads s t (Done a)) e rd;
-  stands = subst (λ a. EachStepStands s t (Done a)) e st;
-}
-
 -- what the tape keeps of its end
 abbrev pub NotesEnd : Option Tape → Option Tape → Said → Type 0
 NotesEnd p q said = (k : Kept) (a : Asked) → Agrees p k → k.pending ≡ Some a → Agrees q (ended_by k a said)
 
-pub each_forget : (s r t : Seen) (p q u : Option Tape) → NotesCall p q ForgetTransaction → r ≡ begun s ForgetTransaction → ((h : History) → Stands s h → Stands r (began h ForgetTransaction)) → IsReady r t → NotesEnd q u (says.Answered Ready) → EachForget s t p u
-each_forget s r t p q u noted is st ready ended login k w =
+pub each_forget : (s r t : Seen) (p q u : Option Tape) (answer : Answer) → NotesCall p q ForgetTransaction → r ≡ begun ForgetTransaction s → EachAnswered r t answer → NotesEnd q u (says.Answered answer) → EachForget s t p u
+each_forget s r t p q u answer noted is answered ended login k w =
     let a : Asked = asked_by k ForgetTransaction in
-    let asked : IsAsked login r (asking k ForgetTransaction None) a = begins login s r k ForgetTransaction None (rest_idle login s p k w) is st w.rests in
-    let answered : IsAnswered login t (asking k ForgetTransaction None) a Ready = is_answered login r t (asking k ForgetTransaction None) a Ready asked ready.steps ready.task ready.stands ready.reads in
+    let began : Kept = asking k ForgetTransaction None in
+    let asked : StandsAsked login r began a = asked_begun login s r k ForgetTransaction (never_refused s.closed) is w.rests.stands (no_asked k.pending w.pending_is) in
+    let f : Returned login t began a (says.Answered answer) = answered login began a asked in
+    let ready : answer ≡ Ready = ready_only answer (forget_tells login r k (told answer) asked f.comes) in
     record {
-      rests = answered.rests;
-      stepped = record { begun = ap is_begun ready.task; stops = tt };
-      agrees = ended (asking k ForgetTransaction None) a (noted k w.agrees) refl;
-      connected = connected_by (asking k ForgetTransaction None) a (says.Answered Ready) w.connected;
+      rests = record { stands = subst (λ (x : Answer). Stands login t (ended_by began a (says.Answered x))) ready f.stands; waits = tt };
+      agrees = subst (λ (x : Answer). Agrees u (ended_by began a (says.Answered x))) ready (ended began a (noted k w.agrees) refl);
+      connected = connected_by began a (says.Answered Ready) w.connected;
       pending_is = refl;
     }

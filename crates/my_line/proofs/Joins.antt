@@ -3,45 +3,40 @@ use Rattle.std.proofs.Common.{◌≡◌, inl, inr, ◌||◌, Bool, true, false, 
 use Rattle.my_grammar.specs.declared.login.Login.{Login}
 use Rattle.my_link.specs.Looks.{Looks}
 use Rattle.my_link.specs.declared.met.Met.{Met}
-use Rattle.my_reading.specs.Calls.{kind_of, is_connect}
-use Rattle.my_reading.specs.Told.{told}
+use Rattle.my_reading.specs.Calls.{kind_of}
+use Rattle.my_reading.specs.Told.{ToldReady, told}
 use Rattle.my_reading.specs.declared.answer.Answer.{Answer}
 use Rattle.my_reading.specs.declared.answer.Answer.TheVariants as answers
 use Rattle.my_reading.specs.declared.call.Call.{Call}
 use Rattle.my_reading.specs.declared.call.CallKind.{CallKind}
 use Rattle.my_reading.specs.declared.call.CallKind.TheVariants.{Connect}
-use Rattle.my_session.specs.Entries.{connects, has_connected}
+use Rattle.my_client.specs.Made.{connects, has_connected}
 use Rattle.my_session.specs.Fits.{may_be}
-use Rattle.my_session.specs.Seen.{Seen}
-use Rattle.my_session.specs.Tasks.{is_open}
 use Rattle.my_client.specs.declared.poll.After.{After}
 use Rattle.my_client.specs.declared.poll.After.TheVariants as after
 use Rattle.my_client.specs.declared.tape.Said.TheVariants as says
 use Rattle.my_client.specs.declared.tape.Tape.{Tape}
-use Rattle.my_client.specs.Causes.{IsPolled}
 use Rattle.my_client.specs.Kept.{Asked, Kept, ended_by, made_of}
 use Rattle.my_client.specs.Notes.{Agrees}
-use Rattle.my_client.specs.Reads.{IsStepped}
-use Rattle.my_client.specs.Rests.{Rests}
-use Rattle.my_client.proofs.Hearing.{made_more}
-use Rattle.my_client.proofs.Hearing.Readying.{connect_ready}
+use Rattle.my_session.specs.Sessions.{Seen}
+use Rattle.my_client.specs.Polls.{IsPolled, moved_by}
+use Rattle.my_client.specs.Stands.{Rests}
+use Rattle.my_client.proofs.Fitting.{answer_fits}
+use Rattle.my_client.proofs.Moving.{all_pending}
 use Rattle.my_line.specs.Calls.{CallFor, Does, EachCall, PendsBy}
 use Rattle.my_line.specs.Makes.{ConnectsFor}
 use Rattle.my_line.specs.Stands.{StandsFor, kind_kept}
-use Rattle.my_line.proofs.Standing.{ends_pend, moves_count, open_kept}
+use Rattle.my_line.proofs.Polled.{answer_comes}
+use Rattle.my_line.proofs.Standing.{made_more, polled_pends}
 
 -- there is something that a handshake did
 abbrev pub Connects : Seen → Option Tape → Type 0
 Connects s t = (login : Login) × (k : Kept) × (a : Asked) × ConnectsFor login s t k a
 
-pub connects_open : (s : Seen) (p : Option Tape) → Connects s p → is_open s.task ≡ true
-connects_open s p w = open_kept w.0 s w.1 w.2 w.3.asked.rests w.3.asked.asked
-
 -- the handshake was polled
 pub record Shook (login : Login) (t : Seen) (x y : Looks) (q : Option Tape) (m : Met) (after : After) (k : Kept) (a : Asked) : Type 0 where
   pub end : Kept
   pub rests : Rests login t end
-  pub stepped : IsStepped login t end
   pub agrees : Agrees q end
   pub polled : IsPolled login a k x m after end y
 
@@ -59,7 +54,7 @@ module _ (s t : Seen) (x y : Looks) (p q : Option Tape) (m : Met) (p1 : After) (
   pub shook : (login : Login) (k : Kept) (a : Asked) → ConnectsFor login s p k a → Shook login t x y q m p1 k a
   shook login k a w =
       let f : CallFor login None t q x y k m p1 = each login k (a, w.asked) w.agrees in
-      record { end = f.end; rests = f.rests; stepped = f.stepped; agrees = f.agrees; polled = by_does f.end f.does }
+      record { end = f.end; rests = f.rests; agrees = f.agrees; polled = by_does f.end f.does }
     where
       by_does : (end : Kept) → Does login None x y k end m p1 → IsPolled login a k x m p1 end y
       by_does end (inl d) = subst (λ (b : Asked). IsPolled login b k x m p1 end y) (same_some d.asked a (sym d.pending ∙ w.asked.asked)) d.polled
@@ -72,7 +67,7 @@ module _ (s t : Seen) (x y : Looks) (p q : Option Tape) (m : Met) (each : EachCa
       let f : Shook login t x y q m after.Pending k a = shook s t x y p q m after.Pending each login k a w in (
         f.end,
         record {
-          asked = record { rests = f.rests; asked = ap (λ (g : Kept). g.pending) f.polled.ends.0 ∙ f.polled.pending };
+          asked = record { stands = f.rests.stands; asked = ap (λ (g : Kept). g.pending) f.polled.ends ∙ all_pending k f.polled.moves ∙ w.asked.asked };
           agrees = f.agrees;
           connects = w.connects;
         },
@@ -81,8 +76,8 @@ module _ (s t : Seen) (x y : Looks) (p q : Option Tape) (m : Met) (each : EachCa
 
   pub pends : Connects s p → PendsBy after.Pending x y m
   pends w =
-      let f = (shook s t x y p q m after.Pending each w.0 w.1 w.2 w.3).polled in
-      ends_pend w.0 w.2 f.following _ m x f.used.moved y (moves_count f.used.moves x f.used.moved f.used.leads) f.stop after.Pending f.within f.used.stops f.ends
+      let f : Shook w.0 t x y q m after.Pending w.1 w.2 = shook s t x y p q m after.Pending each w.0 w.1 w.2 w.3 in
+      polled_pends w.0 w.2 x y w.1 f.end m after.Pending f.polled
 
 -- it was made
 pub answer_ready : (answer : Answer) (c : CallKind) → c ≡ Connect → may_be c (told answer) ≡ true → answer ≡ answers.Ready
@@ -97,16 +92,20 @@ module _ (s t : Seen) (x y : Looks) (p q : Option Tape) (m : Met) (answer : Answ
   pub made : (login : Login) (k : Kept) (a : Asked) → ConnectsFor login s p k a → (end : Kept) × StandsFor login t q None end × IsPolled login a k x m (after.Answered answers.Ready) end y
   made login k a w =
       let f : Shook login t x y q m (after.Answered answer) k a = shook s t x y p q m (after.Answered answer) each login k a w in
-      let b : Kept = f.polled.following in
-      let end_is : f.end ≡ ended_by b a (says.Answered answer) = f.polled.ends.0 in
-      let connected : has_connected (made_of (ended_by b a (says.Answered answer)).calls) ≡ true = ap has_connected (made_more b.calls (record { call = a.call; sent_from = a.sent_from; taken_from = a.taken_from; said = says.Answered answer })) ∙ first_true (connects (told answer) (kind_of a.call)) (has_connected (made_of b.calls)) (connect_ready (kind_of a.call) answer (ap is_connect w.connects) f.polled.ends.2) in (
+      let b : Kept = moved_by k f.polled.moves in
+      let comes = answer_comes login b f.polled.stop m.taken answer f.polled.comes in
+      let ready : answer ≡ answers.Ready = answer_ready answer (kind_of a.call) w.connects (answer_fits login b a (told answer) (all_pending k f.polled.moves ∙ w.asked.asked) comes.1) in
+      let polled : IsPolled login a k x m (after.Answered answers.Ready) f.end y = subst (λ (v : Answer). IsPolled login a k x m (after.Answered v) f.end y) ready f.polled in
+      let end_is : f.end ≡ ended_by b a (says.Answered answers.Ready) = f.polled.ends ∙ ap (λ (v : Answer). ended_by b a (says.Answered v)) ready in
+      let connected : has_connected (made_of (ended_by b a (says.Answered answers.Ready)).calls) ≡ true =
+      ap has_connected (made_more b.calls (record { call = a.call; sent_from = a.sent_from; taken_from = a.taken_from; said = says.Answered answers.Ready }))
+      ∙ first_true (connects ToldReady (kind_of a.call)) (has_connected (made_of b.calls)) (ap (connects ToldReady) w.connects) in (
         f.end,
         record {
           rests = f.rests;
-          stepped = f.stepped;
           agrees = f.agrees;
           connected = subst (λ (g : Kept). has_connected (made_of g.calls) ≡ true) (sym end_is) connected;
           pending_is = sym (ap kind_kept end_is);
         },
-        subst (λ (v : Answer). IsPolled login a k x m (after.Answered v) f.end y) (answer_ready answer (kind_of a.call) w.connects f.polled.ends.2) f.polled,
+        polled,
       )

@@ -1,10 +1,10 @@
 pub mod Noting
+pub mod Polled
 pub mod Calling
 pub mod Standing
 pub mod Cancelling
 pub mod Forgetting
 pub mod Joins
-pub mod Using
 pub mod Waiting
 pub mod Shaking
 pub mod Points

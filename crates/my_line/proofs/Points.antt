@@ -5,7 +5,7 @@ use Rattle.my_frame.specs.declared.limits.TheConstants.{MOST_TAKEN}
 use Rattle.my_grammar.specs.declared.login.Login.{Login}
 use Rattle.my_link.specs.Aid.{Texts}
 use Rattle.my_link.specs.Looks.{Looks}
-use Rattle.my_link.specs.Moves.{NoStop, Stop, StopsAt}
+use Rattle.my_link.specs.Moves.{NoStop, Stop as LinkStop, StopsAt, received_by}
 use Rattle.my_link.specs.Outside.{Counts}
 use Rattle.my_link.specs.declared.met.Met.{Met}
 use Rattle.my_reading.specs.Calls.{kind_of}
@@ -19,14 +19,15 @@ use Rattle.my_reading.specs.declared.call.CallKind.TheVariants.{Query, DropResul
 use Rattle.my_reading.specs.declared.error.Error.{Error}
 use Rattle.my_reading.specs.declared.error.Error.TheVariants as errors
 use Rattle.my_session.specs.Fits.{may_be}
-use Rattle.my_session.specs.Seen.{Seen}
-use Rattle.my_session.specs.View.{View}
 use Rattle.my_client.specs.declared.poll.After.{After}
 use Rattle.my_client.specs.declared.poll.After.TheVariants.{Pending, Answered, Failed}
 use Rattle.my_client.specs.declared.tape.Tape.{Tape}
-use Rattle.my_client.specs.Causes.{PollEnds}
+use Rattle.my_client.specs.Ends.{kept_after}
 use Rattle.my_client.specs.Kept.{Asked, Kept}
+use Rattle.my_session.specs.Sessions.{Seen}
+use Rattle.my_session.specs.View.{View}
 use Rattle.my_client.specs.Lives.{Lives}
+use Rattle.my_client.specs.Polls.{moved_by}
 use Rattle.my_client.proofs.Living.{lives_on, lives_still}
 use Rattle.my_line.specs.Calls.{AfterFits, Does, EachCall, MayPoll, MayStart, PendsBy, asked_for}
 use Rattle.my_line.specs.Makes.{AidRefuses, CallFails, ConnectsFor, GoesOn, IsMade, IsMaking, Leads, MakesFor, Point, StaysMaking, Took, WhyNotMade, first_point}
@@ -34,24 +35,28 @@ use Rattle.my_line.specs.Stands.{StandsFor}
 use Rattle.my_line.specs.Texts.{Ends, EndsRefused, Follows, FollowsBy, Sends}
 use Rattle.my_line.specs.declared.texts.Making.{Making}
 use Rattle.my_line.specs.declared.texts.Making.TheVariants.{Shakes, Asks, Drops}
-use Rattle.my_line.proofs.Joins.{Shook, connects_open, made, shook, still}
-use Rattle.my_line.proofs.Standing.{does_pend, fits_after, may_start, moves_count, stands_after}
+use Rattle.my_line.proofs.Joins.{Shook, made, shook, still}
+use Rattle.my_line.proofs.Polled.{answer_comes, met_taken, moved_taken, moves_count}
+use Rattle.my_line.proofs.Standing.{does_pend, fits_after, may_start, stands_after}
 
--- what the polls took
+-- what the polls received
 same_taken : (call : Option Call) (k : Kept) → (asked_for call k).taken ≡ k.taken
 same_taken None k = refl
 same_taken (Some call) k = refl
 
-ends_taken : (login : Login) (a : Asked) (f end : Kept) (m : Met) (st : Stop) (after : After) → PollEnds login a f m st after end → end.taken ≡ f.taken
-ends_taken login a f end m st Pending w = ap (λ (g : Kept). g.taken) w.0
-ends_taken login a f end m st (Answered answer) w = ap (λ (g : Kept). g.taken) w.0
-ends_taken login a f end m st (Failed e) w = ap (λ (g : Kept). g.taken) w.0
+after_taken : (f : Kept) (a : Asked) (after : After) → (kept_after f a after).taken ≡ f.taken
+after_taken f a Pending = refl
+after_taken f a (Answered answer) = refl
+after_taken f a (Failed e) = refl
 
 pub does_take : (login : Login) (call : Option Call) (x y : Looks) (k end : Kept) (m : Met) (after : After) → Does login call x y k end m after → Took m.taken k end
 does_take login call x y k end m after (inl d) =
     let u = d.polled in
-    let all : end.taken ≡ k.taken ++ u.taken = ends_taken login d.asked u.following end m u.stop after u.ends ∙ u.taken_is ∙ ap (λ (bs : List ℕ). bs ++ u.taken) (same_taken call k) in
-    omega (arith, ap (λ (bs : List ℕ). length bs) all, length-append k.taken u.taken, u.met.taken)
+    let f : Kept = asked_for call k in
+    let came : List ℕ = received_by u.moves in
+    let all : end.taken ≡ k.taken ++ came =
+    ap (λ (g : Kept). g.taken) u.ends ∙ after_taken (moved_by f u.moves) d.asked after ∙ moved_taken f u.moves ∙ ap (λ (bs : List ℕ). bs ++ came) (same_taken call k) in
+    omega (arith, ap (λ (bs : List ℕ). length bs) all, length-append k.taken came, met_taken m u.moves u.stop u.met)
 does_take login call x y k end m after (inr d) =
     let same : end.taken ≡ k.taken = ap (λ (g : Kept). g.taken) d.end_is in
     omega (arith, ap (λ (bs : List ℕ). length bs) same, ap (λ (u : Met). u.taken) d.none)
@@ -139,15 +144,16 @@ module _ (login : Login) (s t : Seen) (x y : Looks) (p q : Option Tape) (m : Met
 
 -- where it may be polled
 pub making_starts : (login : Login) (at : Making) (call : Option Call) (s : Seen) (p : Option Tape) (k : Kept) → MakesFor login at call s p k → MayStart call s
-making_starts login Shakes call s p k w = subst (λ (c : Option Call). MayStart c s) (sym w.0) (connects_open s p (login, k, w.1, w.2))
+making_starts login Shakes call s p k w = subst (λ (c : Option Call). MayStart c s) (sym w.0) tt
 making_starts login (Asks n) call s p k w = may_start Query call login s p w.0 k w.2 w.1
 making_starts login (Drops n) call s p k w = may_start DropResult call login s p w.0 k w.2 w.1
 
 -- an answered call left the link's counts
 answered_same : (login : Login) (call : Option Call) (x y : Looks) (k end : Kept) (m : Met) → Does login call x y k end m (Answered answers.Ready) → y.counts ≡ x.counts
 answered_same login call x y k end m (inl d) =
-    let u = d.polled.used in
-    let stops : StopsAt NoStop u.moved y = subst (λ st. StopsAt st u.moved y) d.polled.ends.3 u.stops in
+    let u = d.polled in
+    let none : u.stop ≡ NoStop = (answer_comes login (moved_by (asked_for call k) u.moves) u.stop m.taken answers.Ready u.comes).0 in
+    let stops : StopsAt NoStop u.moved y = subst (λ (st : LinkStop). StopsAt st u.moved y) none u.stops in
     ap (λ (l : Looks). l.counts) stops ∙ moves_count u.moves x u.moved u.leads
 answered_same login call x y k end m (inr d) = absurd (no_answer d.after_is)
   where

@@ -12,38 +12,35 @@ use Rattle.my_reading.specs.Calls.{kind_of, is_connect, is_unrefused}
 use Rattle.my_reading.specs.Errors.{connection_closed}
 use Rattle.my_reading.specs.Told.{told}
 use Rattle.my_session.specs.Fits.{may_be}
-use Rattle.my_session.specs.Steps.{AtBegun}
-use Rattle.my_session.specs.Tasks.{is_open}
-use Rattle.my_session.specs.History.{has_closed}
-use Rattle.my_session.specs.Seen.{Seen}
+use Rattle.my_client.specs.Made.{has_closed}
+use Rattle.my_session.specs.Sessions.{Seen}
 use Rattle.my_session.specs.View.{View}
 use Rattle.my_client.specs.declared.poll.After.{After}
 use Rattle.my_client.specs.declared.poll.After.TheVariants.{Pending, Answered, Failed}
 use Rattle.my_client.specs.declared.tape.Said.TheVariants as says
 use Rattle.my_client.specs.declared.tape.Tape.{Tape}
-use Rattle.my_client.specs.Causes.{IsPolled}
 use Rattle.my_client.specs.Kept.{Asked, Kept, asking, asked_by, ended_by, made_of}
-use Rattle.my_client.specs.Lives.{Lives}
 use Rattle.my_client.specs.Notes.{Agrees}
-use Rattle.my_client.specs.Reads.{IsStepped}
-use Rattle.my_client.specs.Rests.{Rests, IsAsked}
+use Rattle.my_client.specs.Lives.{Lives}
+use Rattle.my_client.specs.Polls.{IsPolled}
+use Rattle.my_client.specs.Stands.{Rests, Stands, StandsAsked}
 
 -- A first poll comes where no call is open, of a call other than the handshake; a later one where this call is open.
 abbrev pub MayPoll : CallKind → Option Call → Option CallKind → Type 0
 MayPoll c None pending = pending ≡ Some c
 MayPoll c (Some call) pending = (pending ≡ None) × (kind_of call ≡ c) × (is_connect c ≡ false)
 
--- the same of the session
+-- a call begins where the session has no open call
 abbrev pub MayStart : Option Call → Seen → Type 0
-MayStart None s = is_open s.task ≡ true
-MayStart (Some call) s = (is_open s.task ≡ false) × (s.closed ≡ false → AtBegun (kind_of call) s.context.spot)
+MayStart None s = Unit {0}
+MayStart (Some call) s = s.opened ≡ None
 
 -- a first poll begins the call
 abbrev pub asked_for : Option Call → Kept → Kept
 asked_for None k = k
 asked_for (Some call) k = asking k call None
 
--- the open call was polled over the link
+-- the open call was polled over the link, each move in its turn by the reading, and returned what the reading says
 pub record PollsOn (login : Login) (call : Option Call) (x y : Looks) (k end : Kept) (m : Met) (after : After) : Type 0 where
   pub asked : Asked
   pub pending : (asked_for call k).pending ≡ Some asked
@@ -68,20 +65,19 @@ pub record CallFor (login : Login) (call : Option Call) (t : Seen) (q : Option T
     (after : After) : Type 0 where
   pub end : Kept
   pub rests : Rests login t end
-  pub stepped : IsStepped login t end
   pub agrees : Agrees q end
   pub does : Does login call x y k end m after
 
 -- where a poll may come
 abbrev pub IsCallable : Option Call → Login → Seen → Kept → Type 0
-IsCallable None login s k = (a : Asked) × IsAsked login s k a
-IsCallable (Some call) login s k = Rests login s k × (k.pending ≡ None)
+IsCallable None login s k = (a : Asked) × StandsAsked login s k a
+IsCallable (Some call) login s k = Stands login s k × (k.pending ≡ None)
 
 abbrev pub EachCall : Option Call → Seen → Seen → Looks → Looks → Option Tape → Option Tape → Met → After → Type 0
 EachCall call s t x y p q m after = (login : Login) (k : Kept) → IsCallable call login s k → Agrees p k
     → CallFor login call t q x y k m after
 
--- what a poll at the moment `now`, in which `taken` bytes were taken, leaves of the session and of the tape
+-- what a poll at the moment `now`, in which `taken` bytes were received, leaves of the session and of the tape
 pub record Leaves (now taken : ℕ) (u v : View) (p q : Option Tape) : Type 0 where
   pub within : taken ≤ MOST_TAKEN
   pub lives : Lives now taken u v

@@ -15,15 +15,15 @@ use Rattle.my_reading.specs.declared.call.CallKind.TheVariants.{Connect}
 use Rattle.my_reading.specs.declared.error.Error.{Error}
 use Rattle.my_reading.specs.declared.error.Error.TheVariants as errors
 use Rattle.my_reading.specs.Calls.{kind_of}
-use Rattle.my_session.specs.Seen.{Seen}
+use Rattle.my_session.specs.Sessions.{Seen}
 use Rattle.my_session.specs.View.{View}
 use Rattle.my_client.specs.declared.poll.After.{After}
 use Rattle.my_client.specs.declared.poll.After.TheVariants.{Pending, Answered, Failed}
 use Rattle.my_client.specs.declared.tape.Tape.{Tape}
 use Rattle.my_client.specs.Kept.{Asked, Kept}
-use Rattle.my_client.specs.Lives.{Lives}
 use Rattle.my_client.specs.Notes.{Agrees}
-use Rattle.my_client.specs.Rests.{IsAsked}
+use Rattle.my_client.specs.Lives.{Lives}
+use Rattle.my_client.specs.Stands.{StandsAsked}
 use Rattle.my_line.specs.Calls.{Does, MayPoll}
 use Rattle.my_line.specs.Stands.{StandsFor}
 use Rattle.my_line.specs.Texts.{Ends, EndsRefused, Follows, kind_at}
@@ -32,7 +32,7 @@ use Rattle.my_line.specs.declared.texts.Making.TheVariants.{Shakes, Asks, Drops}
 
 -- This is what it did so far: its handshake is open.
 pub record ConnectsFor (login : Login) (s : Seen) (t : Option Tape) (k : Kept) (a : Asked) : Type 0 where
-  pub asked : IsAsked login s k a
+  pub asked : StandsAsked login s k a
   pub agrees : Agrees t k
   pub connects : kind_of a.call ≡ Connect
 
@@ -50,7 +50,7 @@ MakesFor login (Drops n) call s t k = GoesOn login (kind_at (Drops n)) call s t 
 abbrev pub IsMaking : Making → Seen → Option Tape → Type 0
 IsMaking at s t = (login : Login) × (k : Kept) × MakesFor login at None s t k
 
--- before the poll of a call, which begins or goes on: how the link looks, and what was kept
+-- before the poll of a call, which begins or continues: how the link looks, and what was kept
 pub record Point : Type 0 where
   pub at : Making
   pub call : Option Call
@@ -73,7 +73,7 @@ abbrev pub Leads : Texts → Login → Point → List Point → Point → Type 0
 Leads texts login p [] q = q ≡ p
 Leads texts login p (m ∷ ms) q = Leads texts login p ms m × Passes texts login m q
 
--- The calls of one poll: each but the last was answered, and the last came to this.
+-- The calls of one poll: each but the last was answered, and the last returned this.
 pub record Polls (texts : Texts) (login : Login) (at : Making) (x y : Looks) (k end : Kept) (after : After) : Type 0 where
   pub earlier : List Point
   pub last : Point

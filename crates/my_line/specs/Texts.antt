@@ -37,7 +37,7 @@ IsDone texts n = IsTold texts n after.Done
 abbrev pub IsRefused : Texts → ℕ → Error → Type 0
 IsRefused texts n e = (text : List ℕ) × IsTold texts n (after.Refuse text) × (e ≡ errors.Other (record { text = text }))
 
--- what is asked for a text comes to
+-- what asking for a text returns
 abbrev pub AsksBy : Texts → ℕ → Result (Option (Making × Call)) Error → Type 0
 AsksBy texts n (Ok (Some p)) = Sends texts n p.0 p.1
 AsksBy texts n (Ok None) = IsDone texts n

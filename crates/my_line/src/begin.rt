@@ -1,14 +1,13 @@
 //! A call on a session, from its beginning to its end, noted on the tape, where one is kept.
 ghost use Rattle.std.specs.Prelude.{◌≡◌, Some, None, true, false, is_some, IfOk, OnOk};
 ghost use Rattle.my_link.specs.Met.{nothing_met};
-ghost use Rattle.my_reading.specs.Calls.{kind_of};
-ghost use Rattle.my_session.specs.Tasks.{is_open};
-ghost use Rattle.my_session.specs.Steps.{AtBegun};
-ghost use Rattle.my_client.specs.Drives.{CancelStands, closed_by, kept_after};
-ghost use Rattle.my_session.specs.Machine.{dropped};
+ghost use Rattle.my_grammar.specs.declared.login.Login.{Login};
+ghost use Rattle.my_client.specs.Ends.{kept_after};
 ghost use Rattle.my_client.specs.Kept.{Asked, Kept, asking, ended_by};
-ghost use Rattle.my_client.specs.Lives.{made_in};
 ghost use Rattle.my_client.specs.Notes.{Agrees};
+ghost use Rattle.my_client.specs.Drives.{CancelLeaves, closes_by};
+ghost use Rattle.my_client.specs.Lives.{made_in};
+ghost use Rattle.my_client.specs.Stands.{Waits};
 ghost use Rattle.my_client.specs.Turns.{EachPoll};
 ghost use Rattle.my_line.specs.Calls.{EachCall, Leaves, MayStart};
 ghost use Rattle.my_line.specs.Cancels.{EachCancel};
@@ -35,7 +34,7 @@ pub(crate) fn note_call(alloc: Global, tape: &mut Option<Tape>, call: &Call) -> 
     }
 }
 
-// Notes what a poll of the open call came to.
+// Notes what a poll of the open call returned.
 fn note_after(alloc: Global, tape: &mut Option<Tape>, after: &After) -> Result<(), NoMemory>
     ensures noted { OnOk result ((k : Kept) (a : Asked) → Agrees tape.old k → k.pending ≡ Some a
         → Agrees tape.new (kept_after k a after.now)) }
@@ -58,7 +57,6 @@ fn poll_noted<L: Link>(
     tape: &mut Option<Tape>,
     now: u64,
 ) -> Result<(After, Met), NoMemory>
-    requires { is_open session.old.seen.task ≡ true }
     ensures polls { IfOk result (λ p. EachPoll Agrees session.old.seen session.new.seen
         (L.looks link.old) (L.looks link.new) tape.old tape.new p.1 p.0) }
     ensures leaves { IfOk result (λ p. Leaves now p.1.taken session.old session.new tape.old tape.new) }
@@ -83,7 +81,6 @@ pub(crate) fn poll_open<L: Link>(
     tape: &mut Option<Tape>,
     now: u64,
 ) -> Result<(After, Met), NoMemory>
-    requires { is_open session.old.seen.task ≡ true }
     ensures does { IfOk result (λ p. EachCall None session.old.seen session.new.seen
         (L.looks link.old) (L.looks link.new) tape.old tape.new p.1 p.0) }
     ensures leaves { IfOk result (λ p. Leaves now p.1.taken session.old session.new tape.old tape.new) }
@@ -99,7 +96,7 @@ pub(crate) fn poll_open<L: Link>(
     }
 }
 
-// Notes that the call that began is refused with this error, and returns what it comes to.
+// Notes that the call that began is refused with this error, and returns what its poll returns.
 fn note_refusal(
     alloc: Global,
     tape: &mut Option<Tape>,
@@ -130,8 +127,7 @@ fn begin_call<L: Link>(
     call: Call,
     now: u64,
 ) -> Result<(After, Met), NoMemory>
-    requires idle { is_open session.old.seen.task ≡ false }
-    requires order { session.old.seen.closed ≡ false → AtBegun (kind_of call) session.old.seen.context.spot }
+    requires { session.old.seen.opened ≡ None }
     ensures does { IfOk result (λ p. EachCall (Some call) session.old.seen session.new.seen
         (L.looks link.old) (L.looks link.new) tape.old tape.new p.1 p.0) }
     ensures leaves { IfOk result (λ p. Leaves now p.1.taken session.old session.new tape.old tape.new) }
@@ -149,7 +145,7 @@ fn begin_call<L: Link>(
     }
 }
 
-/// Polls a call once, at the moment `now`: `call` begins, or where there is none, the open one goes on.
+/// Polls a call once, at the moment `now`: `call` begins, or where there is none, the open one continues.
 pub fn poll_once<L: Link>(
     alloc: Global,
     session: &mut Session,
@@ -183,10 +179,9 @@ pub(crate) fn note_end(tape: &mut Option<Tape>, said: Said)
 
 // Cancels the session's open call, and returns whether that closed it.
 fn cancel_session(session: &mut Session) -> bool
-    requires { is_open session.old.seen.task ≡ true }
-    ensures seen { session.new.seen ≡ dropped session.old.seen }
-    ensures stands { CancelStands session.old.seen session.new.seen }
-    ensures closing { result ≡ closed_by session.old.seen session.new.seen }
+    ensures cancels { (login : Login) (k : Kept) (a : Asked) → Waits login session.old.seen k a
+        → CancelLeaves login session.old.seen session.new.seen k a }
+    ensures closing { result ≡ closes_by session.old.seen session.new.seen }
     ensures lifetime { session.new.lifetime ≡ session.old.lifetime }
 {
     let was_closed = session.is_closed();
@@ -196,7 +191,6 @@ fn cancel_session(session: &mut Session) -> bool
 
 /// Cancels the open call. It takes no memory.
 pub fn cancel_open(session: &mut Session, tape: &mut Option<Tape>)
-    requires { is_open session.old.seen.task ≡ true }
     ensures lifetime { session.new.lifetime ≡ session.old.lifetime }
     ensures does { EachCancel session.old.seen session.new.seen tape.old tape.new }
     ensures keeps { is_some tape.new ≡ is_some tape.old }

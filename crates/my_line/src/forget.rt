@@ -1,7 +1,6 @@
 //! The call that gives a transaction up. It is answered at once, so that no link is needed.
-ghost use Rattle.std.specs.Prelude.{◌≡◌, true, is_some, IfOk, OnOk};
-ghost use Rattle.my_session.specs.Tasks.{is_open};
-ghost use Rattle.my_line.specs.Forgets.{EachForget, IsAtOnce, IsAtRest, IsReady};
+ghost use Rattle.std.specs.Prelude.{◌≡◌, None, is_some, IfOk, OnOk};
+ghost use Rattle.my_line.specs.Forgets.{EachAnswered, EachForget};
 
 use crate::begin::{note_call, note_end};
 use my_client::{Said, Tape};
@@ -10,32 +9,30 @@ use my_reading::{Answer, Call};
 use my_session::{Session, SessionStep};
 use std::alloc::Global;
 
-// The first step of a call that is answered at once.
-fn step_once(alloc: Global, session: &mut Session, now: u64) -> Result<Answer, NoMemory>
-    requires is_on { is_open session.old.seen.task ≡ true }
-    requires at_once { IsAtOnce session.old.seen }
-    ensures ready { IfOk result (λ answer. answer ≡ Answer.Ready) }
-    ensures steps { OnOk result (IsReady session.old.seen session.new.seen) }
+// The first step of the open call, which answers it at once. The moment of the last payload stays.
+fn step_once(alloc: Global, session: &mut Session) -> Result<Answer, NoMemory>
+    ensures answered { IfOk result (λ answer. EachAnswered session.old.seen session.new.seen answer) }
     ensures lifetime { session.new.lifetime ≡ session.old.lifetime }
 {
-    match session.step(alloc, now) {
+    let last = session.last_io();
+    match session.step(alloc, last) {
         SessionStep::Done(answer) => Ok(answer),
         SessionStep::Fault(error) => {
             drop(error);
             Err(NoMemory)
         }
-        SessionStep::Send | SessionStep::Need => unreachable!(),
+        SessionStep::Send | SessionStep::Need => Err(NoMemory),
     }
 }
 
-/// Gives the transaction up, where the server has one, at the moment `now`: it is rolled back before the next command.
+/// Gives the transaction up, where the server has one: it is rolled back before the next command. Nothing is sent or
+/// received.
 pub fn forget_open(
     alloc: Global,
     session: &mut Session,
     tape: &mut Option<Tape>,
-    now: u64,
 ) -> Result<(), NoMemory>
-    requires { IsAtRest session.old.seen tape.old }
+    requires { session.old.seen.opened ≡ None }
     ensures does { OnOk result (EachForget session.old.seen session.new.seen tape.old tape.new) }
     ensures keeps { OnOk result (is_some tape.new ≡ is_some tape.old) }
     ensures lifetime { session.new.lifetime ≡ session.old.lifetime }
@@ -45,7 +42,7 @@ pub fn forget_open(
         Ok(()) => {}
         Err(_) => unreachable!(),
     }
-    let answer = step_once(alloc, session, now)?;
+    let answer = step_once(alloc, session)?;
     note_end(tape, Said::Answered(answer));
     Ok(())
 }

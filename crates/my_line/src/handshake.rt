@@ -1,6 +1,6 @@
 //! A handshake over a link that never holds, until it returns.
 ghost use Rattle.std.specs.Prelude.{◌≡◌, OnOk, is_some};
-ghost use Rattle.my_grammar.specs.declared.login.Login.{Login as LoginOf};
+ghost use Rattle.my_grammar.specs.declared.login.Login.{Login};
 ghost use Rattle.my_client.specs.Kept.{first_asked, first_kept};
 ghost use Rattle.my_line.specs.Makes.{ConnectsFor};
 ghost use Rattle.my_line.specs.Waits.{ShakesTo};
@@ -13,7 +13,7 @@ use my_reading::{DriverError, Error};
 use my_session::Session;
 use std::alloc::Global;
 
-/// A call that took this many bytes without an answer is given up.
+/// A call that received this many bytes without an answer is given up.
 pub const TOO_LONG: u64 = 1099511627776;
 
 /// The link was always ready.
@@ -31,8 +31,8 @@ pub fn shake_hands<L: BlockingLink>(
     tape: &mut Option<Tape>,
     now: u64,
 ) -> Result<(), Error>
-    requires { (login : LoginOf) × ConnectsFor login session.old.seen tape.old first_kept first_asked }
-    ensures shakes { (login : LoginOf) → ConnectsFor login session.old.seen tape.old first_kept first_asked
+    requires { (login : Login) × ConnectsFor login session.old.seen tape.old first_kept first_asked }
+    ensures shakes { (login : Login) → ConnectsFor login session.old.seen tape.old first_kept first_asked
         → ShakesTo login now (L.looks link.old) (L.looks link.new) session.old session.new tape.new result }
     ensures keeps { OnOk result (is_some tape.new ≡ is_some tape.old) }
 {

@@ -11,7 +11,7 @@ use my_reading::Error;
 use my_session::Session;
 use std::alloc::Global;
 
-/// Goes on with the making of a connection, at the moment `now`: the handshake, and then each text that the aid tells, with
+/// Continues the making of a connection, at the moment `now`: the handshake, and then each text that the aid tells, with
 /// its result read whole before the next. It returns where the making is, or none where the connection is made.
 ///
 /// A making that takes more calls than can be counted is out of memory.

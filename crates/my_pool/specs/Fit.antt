@@ -1,6 +1,6 @@
 -- What a pool asks of a connection, and what it tells the core of one.
 use Rattle.std.specs.Prelude.{ℕ, ◌≡◌, ◌⊎◌, Bool, false, ◌||◌, Option, Some, None}
-use Rattle.my_session.specs.Rest.{is_dirty}
+use Rattle.my_session.specs.Sessions.{is_dirty}
 use Rattle.my_reading.specs.declared.call.CallKind.{CallKind}
 use Rattle.my_reading.specs.declared.call.CallKind.TheVariants.{CleanForPool, ResetForPool, Quit}
 use Rattle.my_reading.specs.Clean.{IsClean}
@@ -26,7 +26,7 @@ times_at now c = record {
   since = now;
   deadline = c.lifetime.deadline;
   last_io = c.lifetime.last_io;
-  ttl = ttl_by c.lifetime.opts.conn_ttl c.seen.facts.settings.wait_timeout;
+  ttl = ttl_by c.lifetime.opts.conn_ttl c.seen.stand.facts.settings.wait_timeout;
 }
 
 -- what the core decides by
@@ -37,7 +37,7 @@ facts_of now c = record {
   expired = is_over now (times_at now c);
   reset = c.fixed.reset;
   last_io = c.lifetime.last_io;
-  ttl = ttl_by c.lifetime.opts.conn_ttl c.seen.facts.settings.wait_timeout;
+  ttl = ttl_by c.lifetime.opts.conn_ttl c.seen.stand.facts.settings.wait_timeout;
   deadline = c.lifetime.deadline;
 }
 

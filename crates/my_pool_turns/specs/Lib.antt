@@ -1,3 +1,4 @@
 pub mod Tasks
 pub mod Works
 pub mod Turns
+pub mod Laws

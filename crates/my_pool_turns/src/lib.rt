@@ -1,6 +1,7 @@
 //! A turn of a pool on one thread: what came back is cleaned, reset, kept or closed.
 #![tactic(auto)]
 
+pub mod laws;
 mod task;
 mod turns;
 

@@ -1,4 +1,5 @@
 pub mod Outputs
 pub mod MadeBeside
+pub mod Polls
 pub mod Runs
 pub mod WrongRuns

@@ -4,10 +4,7 @@ pub mod Taping
 use Rattle.std.proofs.Common.{◌≤◌, ℕ, ◌≡◌, ◌+◌, ◌<◌, ◌&&◌, suc, zero, List, [], ◌∷◌, ◌++◌, length, map, take, get_or, Option, Result, Ok, IfOk, OnOk, Bool, true, false, refl, sym, ap, ◌∙◌, subst, arith}
 use Rattle.std.proofs.lemmas.List.{length-append, map-append}
 use Rattle.my_grammar.specs.declared.login.Login.{Login}
-use Rattle.my_session.proofs.History.{each_history}
-use Rattle.my_session.specs.Law.{IsLawful}
 use Rattle.my_link.specs.declared.link.ReadItem.{ReadItem}
-use Rattle.my_client.specs.declared.conn.TapedConn.{TapedConn}
 use Rattle.my_steps.specs.declared.slot.Slot.{Slot}
 use Rattle.my_steps.specs.declared.slot.Slot.TheVariants.{Gone, Held, There, Ended}
 use Rattle.my_script.specs.declared.step.Step.{Step}
@@ -26,29 +23,24 @@ use Rattle.my_steps.specs.Grows.{Line, StepGrows, beside_of, handles_after, is_f
 use Rattle.my_run.specs.declared.beside.BesideEach.{BesideEach}
 use Rattle.my_run.specs.Beside.{beside_in}
 use Rattle.my_steps.specs.Handle.{Handle, Absent, Dialing, Joined, at_number}
-use Rattle.my_run.specs.Headline.{AnswerView, answer_view, steps_of, IsSaid, IsExplained, EachExplained, Headline, SoFar}
+use Rattle.my_run.specs.Headline.{AnswerView, answer_view, steps_of, IsExplained, EachExplained, Headline, SoFar}
 use Rattle.my_link.specs.declared.dialer.DialItem.{DialItem}
 use Rattle.my_world.specs.World.{Plans, SamePlans, WorldSeen}
-use Rattle.my_client.specs.Ready.{StandsBy}
 use Rattle.my_steps.specs.Keeps.{IsStood, AreStood, AreAwaited}
-use Rattle.my_steps.specs.Ready.{IsJoined, AllJoined}
 use Rattle.my_steps.proofs.Working.Awaiting.{at_sym}
 use Rattle.my_link.specs.Looks.{Looks}
 use Rattle.my_client.specs.Conn.{kept_of}
 use Rattle.my_steps.specs.Slot.{handle_with, handle_of, handles_from, handles_in}
 use Rattle.my_run.specs.Tapes.{all_in, links_at, links_in, tape_view, tape_at, tapes_in, with_links}
-use Rattle.my_client.proofs.TapeRead.{is_read}
+use Rattle.my_client.proofs.Reading.{rests_read}
 use Rattle.my_run.proofs.Runs.Fitting.{IsFit, AllFit, step_fits}
-
-said : {L : Type 0} (login : Login) (c : TapedConn L) → StandsBy login c → IsSaid login (kept_of c)
-said login c w = record { history = w.rests.heard.history; kept = w.rests.heard.kept; law = subst (λ l. IsLawful l w.rests.heard.history) w.rests.heard.login_is (each_history c.session.seen w.rests.heard.history w.rests.heard.stands).law; read = is_read login c.session.seen (kept_of c) (kept_of c).pending refl w.rests.read w.stepped.stops }
 
 -- what is at each number is explained
 said_at : {L : Type 0} (look : L → Looks) (login : Login) (plan : Option (List ReadItem)) (items left : Option (List DialItem)) (s : Slot L) → IsStood login s → IsFit plan items (handle_with look left s) → IsExplained login plan items (handle_with look left s)
 said_at look login plan items left Gone w f = tt
 said_at look login plan items left Held w f = f
-said_at look login plan items left (There c) w f = (said login c w, f)
-said_at look login plan items left (Ended c) w f = (said login c w, f)
+said_at look login plan items left (There c) w f = (rests_read login c.session.seen (kept_of c) w, f)
+said_at look login plan items left (Ended c) w f = (rests_read login c.session.seen (kept_of c) w, f)
 
 all_said : {L : Type 0} (look : L → Looks) (login : Login) (plan : Option (List ReadItem)) (items : Option (List DialItem)) (left : ℕ → Option (List DialItem)) (k : ℕ) (ss : List (Slot L)) (m : ℕ) → AreStood login ss → IsFit plan items (at_number (handles_from look left k ss) m) → IsExplained login plan items (at_number (handles_from look left k ss) m)
 all_said look login plan items left k [] m w f = tt
@@ -159,17 +151,6 @@ if_at {T} {E} r x P e p = subst (λ (s : Result T E). IfOk s P) e p
 
 pub on_at : {T E : Type 0} (r : Result T E) (x : T) (P : Type 0) → r ≡ Ok x → OnOk r P → P
 on_at {T} {E} r x P e p = subst (λ (s : Result T E). OnOk s P) e p
-
--- where calls may begin
-joined_same : {L : Type 0} (look : L → Looks) (left : Option (List DialItem)) (s : Slot L) → IsJoined (handle_with look left s) → IsJoined (handle_of look s)
-joined_same look left Gone w = tt
-joined_same look left Held w = tt
-joined_same look left (There c) w = w
-joined_same look left (Ended c) w = w
-
-pub all_joined : {L : Type 0} (look : L → Looks) (left : ℕ → Option (List DialItem)) (k : ℕ) (ss : List (Slot L)) → AllJoined (handles_from look left k ss) → AllJoined (map (handle_of look) ss)
-all_joined look left k [] w = tt
-all_joined look left k (s ∷ ss) w = (joined_same look (left k) s w.0, all_joined look left (suc k) ss w.1)
 
 -- each step may stand there
 first_true : (b c : Bool) → b && c ≡ true → b ≡ true

@@ -18,11 +18,10 @@ use Rattle.my_reading.specs.declared.answer.Answer.TheVariants as answers
 use Rattle.my_handshake.specs.declared.version.ServerVersion.{ServerVersion}
 use Rattle.my_reading.specs.declared.call.Call.TheVariants.{Ping, Quit, Rollback}
 use Rattle.my_reading.specs.Calls.{kind_of}
-use Rattle.my_reading.specs.declared.error.IoKind.TheVariants.{Dial}
+use Rattle.my_reading.specs.declared.error.IoKind.TheVariants.{Dial, Link}
 use Rattle.my_reading.specs.Errors.{connection_closed, io_error}
-use Rattle.my_session.specs.History.{has_closed}
-use Rattle.my_session.specs.Stands.{owes}
-use Rattle.my_session.specs.Steps.{is_refused}
+use Rattle.my_client.specs.Made.{has_closed}
+use Rattle.my_session.specs.Sessions.{is_refused}
 use Rattle.my_script.specs.declared.step.Step.{Step}
 use Rattle.my_script.specs.declared.step.Step.TheVariants as steps
 use Rattle.my_script.specs.declared.transcript.Outcome.{Outcome}
@@ -36,10 +35,12 @@ use Rattle.my_script.specs.declared.transcript.Use.{Use}
 use Rattle.my_client.specs.declared.poll.After.{After}
 use Rattle.my_client.specs.declared.poll.After.TheVariants as after
 use Rattle.my_reading.specs.Course as reading
-use Rattle.my_reading.specs.Told.{ToldReady}
+use Rattle.my_reading.specs.Told.{ToldError, ToldReady}
 use Rattle.my_client.proofs.TapeRead.Stopping.{stop_closed}
-use Rattle.my_client.specs.Causes.{IsPolled, PollEnds}
+use Rattle.my_client.specs.Reads.{facts_kept, stop_kept}
 use Rattle.my_client.specs.Kept.{Asked, Kept, made_of, asking, asked_by, first_asked, first_kept}
+use Rattle.my_client.specs.Polls.{IsPolled, comes_at, comes_to, moved_by as moved_all, told_of}
+use Rattle.my_client.proofs.Moving.{all_pending}
 use Rattle.my_link.specs.declared.dialer.DialItem.{DialItem}
 use Rattle.my_link.specs.declared.dialer.DialItem.TheVariants.{Wait, Fail}
 use Rattle.my_world.specs.Plan.{moment_after}
@@ -60,6 +61,7 @@ use Rattle.my_steps.specs.Sums.{use_of, quiet, held_use, failed_use}
 use Rattle.my_run.specs.Tapes.{TapeView, tape_view, tape_call, open_call, links_at, links_in, tapes_in, tape_of, tape_at, with_links}
 use Rattle.my_run.specs.Tool.{ToolEnds}
 use Rattle.my_run.specs.WrongRuns.{NoPlannedDialFault, NoWaitAsFault, NoHeldDialFault, NoHiddenDials, LinksHaveTapes, NoSecretDial, NoBytesAfter, MayFail, DialFault, NoStillMoment, one_fault, NoEarlyEnd, NoHoldAfterTurn, NoHoldInTurn, NoZeroSent, NoOtherTaken, NoFaultAtRest, HasRead, NoBrokenInput, NoClosedExecution, NoUngivenExecution, NoForgottenRollback}
+use Rattle.my_run.proofs.Polls.{all_calls, answered_by, met_so, returned_by, sent_so, taken_so, used_so}
 
 -- what was told
 told_some : {I : Type 0} (x y : Option (List I)) (is : List I) (R : List I → List I → Type 0) → x ≡ Some is → Told x y R → (js : List I) × (y ≡ Some js) × R is js
@@ -135,19 +137,14 @@ met_after ms x z bytes more (inr h) w e some = stays_first ms x z bytes more h w
 
 no_hold_met : (login : Login) (a : Asked) (k end : Kept) (x y : Looks) (u : Met) (bytes sent : List ℕ) (more : List ReadItem) → u ≡ record nothing_met { holds = 1 } → IsMet x bytes more → x.writes ≡ Some [] → 0 < length sent → end.sent ≡ k.sent ++ sent → IsPolled login a k x u after.Pending end y → ⊥
 no_hold_met login a k end x y u bytes sent more is h unheld some grown w =
-    let none : received_by w.used.moves ≡ [] = w.used.received_is ∙ nil_of w.taken (sym (ap (λ (m : Met). m.taken) is) ∙ w.met.taken) in
-    let same : k.sent ++ w.sent ≡ k.sent ++ sent = sym w.sent_is ∙ sym (ap (λ (m : Kept). m.sent) w.ends.0) ∙ grown in
-    let more_sent : 0 < length (sent_by w.used.moves) = omega (arith, some, ap length same, length-append k.sent w.sent, length-append k.sent sent, ap length w.used.sent_is) in
-    no_hold_at w.stop w.used.moved y bytes more (met_after w.used.moves x w.used.moved bytes more h w.used.leads none more_sent) (stays_open w.used.moves x w.used.moved unheld w.used.leads) w.used.stops (sym (ap (λ (m : Met). m.holds) is) ∙ w.met.holds)
+    let met = met_so login a k x u after.Pending end y w in
+    let none : received_by w.moves ≡ [] = nil_of (received_by w.moves) (sym (ap (λ (m : Met). m.taken) is) ∙ met.taken) in
+    let same : k.sent ++ sent_by w.moves ≡ k.sent ++ sent = sym (sent_so login a k x u after.Pending end y w) ∙ grown in
+    let more_sent : 0 < length (sent_by w.moves) = omega (arith, some, ap length same, length-append k.sent (sent_by w.moves), length-append k.sent sent) in
+    no_hold_at w.stop w.moved y bytes more (met_after w.moves x w.moved bytes more h w.leads none more_sent) (stays_open w.moves x w.moved unheld w.leads) w.stops (sym (ap (λ (m : Met). m.holds) is) ∙ met.holds)
 
 pub no_hold_after_turn : NoHoldAfterTurn
 no_hold_after_turn login a k end x y bytes sent more h unheld some grown w = no_hold_met login a k end x y (record nothing_met { holds = 1 }) bytes sent more refl (inl h) unheld some grown w
-
--- what a poll came to keeps the bytes that were sent
-ends_sent : (login : Login) (a : Asked) (k end : Kept) (u : Met) (stop : Stop) (p : After) → PollEnds login a k u stop p end → end.sent ≡ k.sent
-ends_sent login a k end u stop after.Pending e = ap (λ (m : Kept). m.sent) e.0
-ends_sent login a k end u stop (after.Answered answer) e = ap (λ (m : Kept). m.sent) e.0
-ends_sent login a k end u stop (after.Failed x) e = ap (λ (m : Kept). m.sent) e.0
 
 has_got : (x : Option (List ℕ)) (got : List ℕ) → x ≡ Some got → HasGot x got
 has_got x got e = subst (λ o. HasGot o got) (sym e) refl
@@ -156,10 +153,11 @@ pub no_zero_sent : NoZeroSent
 unfolding first_of
 no_zero_sent login a k end x y u p got old new grown w =
     let spent : IsSpent None None x got [] 0 = record { got = has_got x.got got old; reads = tt; failed = tt } in
-    let later = used_spent None None x y got [] w.sent w.taken w.stop 0 w.used spent in
-    let told : got ++ 0 ∷ [] ≡ got ++ w.sent = subst (λ o. HasGot o (got ++ w.sent)) new later.got in
-    let kept : k.sent ++ w.sent ≡ k.sent ++ 1 ∷ [] = sym w.sent_is ∙ sym (ends_sent login a w.following end u w.stop p w.ends) ∙ grown in
-    let differs : 0 ∷ [] ≡ 1 ∷ [] = cancel_front got (0 ∷ []) w.sent told ∙ cancel_front k.sent w.sent (1 ∷ []) kept in
+    let sent : List ℕ = sent_by w.moves in
+    let later = used_spent None None x y got [] sent (received_by w.moves) w.stop 0 (used_so login a k x u p end y w) spent in
+    let told : got ++ 0 ∷ [] ≡ got ++ sent = subst (λ o. HasGot o (got ++ sent)) new later.got in
+    let kept : k.sent ++ sent ≡ k.sent ++ 1 ∷ [] = sym (sent_so login a k x u p end y w) ∙ grown in
+    let differs : 0 ∷ [] ≡ 1 ∷ [] = cancel_front got (0 ∷ []) sent told ∙ cancel_front k.sent sent (1 ∷ []) kept in
     omega (arith, ap first_of differs)
 
 -- a transcript of one line
@@ -358,16 +356,18 @@ record IsMade (login : Login) (rules : Option (List WriteItem)) (made : Handle) 
   is : made ≡ Joined true kept link
   open_writes : rules ≡ Some [] → link.writes ≡ Some []
 
-made_by : (login : Login) (plan : List ReadItem) (rules : Option (List WriteItem)) (n id : ℕ) (v : ServerVersion) (x : Looks) (o : Outcome) (used : Use) (t : Handle) → o ≡ Connected n id v → HasPlan (Some plan) rules x → (w : Connects login 0 first_asked first_kept x o used t) → ConnectShows login 0 w.after w.end w.link o t → PollEnds login first_asked w.polled.following used.met w.polled.stop w.after w.end → IsMade login rules t
-made_by login plan rules n id v x o used t shown planned w = by_after w.after
+made_by : (login : Login) (plan : List ReadItem) (rules : Option (List WriteItem)) (n id : ℕ) (v : ServerVersion) (x : Looks) (o : Outcome) (used : Use) (t : Handle) → o ≡ Connected n id v → HasPlan (Some plan) rules x → (w : Connects login 0 first_asked first_kept x o used t) → IsMade login rules t
+made_by login plan rules n id v x o used t shown planned w = by_after w.after w.shows w.polled.comes
   where
-    by_after : (p : After) → ConnectShows login 0 p w.end w.link o t → PollEnds login first_asked w.polled.following used.met w.polled.stop p w.end → IsMade login rules t
+    by_after : (p : After) → ConnectShows login 0 p w.end w.link o t → comes_at login (moved_all first_kept w.polled.moves) w.polled.stop used.met.taken ≡ Some (told_of p) → IsMade login rules t
     by_after after.Pending s e = let no : Pending ≡ Connected n id v = sym s.0 ∙ shown in cc
     by_after (after.Answered answer) s e = record {
       kept = w.end;
       link = w.link;
       is = s.1;
-      open_writes = λ r. ap (λ (l : Looks). l.writes) (subst (λ (st : Stop). StopsAt st w.polled.used.moved w.link) e.3 w.polled.used.stops) ∙ stays_open w.polled.used.moves x w.polled.used.moved (planned.1 ∙ r) w.polled.used.leads;
+      open_writes = λ r.
+          let none : w.polled.stop ≡ NoStop = answered_by w.polled.stop (stop_kept login (moved_all first_kept w.polled.moves)) used.met.taken (facts_kept login (moved_all first_kept w.polled.moves)).place answer e in
+          ap (λ (l : Looks). l.writes) (subst (λ (st : Stop). StopsAt st w.polled.moved w.link) none w.polled.stops) ∙ stays_open w.polled.moves x w.polled.moved (planned.1 ∙ r) w.polled.leads;
     }
     by_after (after.Failed x) s e = let no : Failed x ≡ Connected n id v = sym s.0 ∙ shown in cc
 
@@ -375,7 +375,7 @@ dialed_made : (login : Login) (plan : Option (List ReadItem)) (is : List ReadIte
 dialed_made login None is rules items n id v o us t told shown d = cc
 dialed_made login (Some plan) is rules items n id v o us t told shown (Holds left e f g held) = let no : Pending ≡ Connected n id v = sym e ∙ shown in cc
 dialed_made login (Some plan) is rules items n id v o us t told shown (Fails left e f g failed) = let no : Failed (io_error Dial 0) ≡ Connected n id v = sym e ∙ shown in cc
-dialed_made login (Some plan) is rules items n id v o us t told shown (Links used x left same new given conn) = made_by login plan rules n id v x o used t shown new.planned conn conn.shows conn.polled.ends
+dialed_made login (Some plan) is rules items n id v o us t told shown (Links used x left same new given conn) = made_by login plan rules n id v x o used t shown new.planned conn
 
 -- `ping` on what it made
 pinged : (q : Option Asked) (login : Login) (k : Kept) (y : Looks) (o : Outcome) (us : List Use) (t : Handle) → o ≡ Pending → BeginsOn q login 0 Ping k y o us t → PolledOnce login 0 (asked_by k Ping) (asking k Ping None) y o us t
@@ -461,19 +461,22 @@ no_hold_in_turn login plans before later greeting ok pong a b t c n id v some_ok
     let met_is : r.used.met ≡ record nothing_met { holds = 1 } = ap first_met (sym r.uses ∙ second_uses) in
     let tapes : tape_view t ∷ [] ≡ tape_of 0 r.end ∷ [] =
     w.tapes_are ∙ ap (λ (ls : List Line). tapes_in 0 (handles_after ls)) o.2 ∙ ap (tapes_in 0) (there.others ∙ ap (put_at 0 there.made) handles) ∙ ap (λ (h : Handle). tapes_in 0 (h ∷ [])) r.left in
-    let end_is : r.end ≡ polled.following = polled.ends.0 in
-    let sent_is : t.sent.items ≡ made.kept.sent ++ polled.sent = ap sent_in tapes ∙ ap (λ (x : Kept). x.sent) end_is ∙ polled.sent_is in
-    let none : polled.taken ≡ [] = nil_of polled.taken (sym (ap (λ (u : Met). u.taken) met_is) ∙ polled.met.taken) in
-    let taken_is : made.kept.taken ≡ greeting ++ ok = sym (append-nil made.kept.taken) ∙ ap (λ bs. made.kept.taken ++ bs) (sym none) ∙ sym polled.taken_is ∙ sym (ap (λ (x : Kept). x.taken) end_is) ∙ sym (ap taken_in tapes) ∙ taken in
+    let pinging : Kept = asking made.kept Ping None in
+    let ping : Asked = asked_by made.kept Ping in
+    let end_is : r.end ≡ moved_all pinging polled.moves = polled.ends in
+    let sent : List ℕ = sent_by polled.moves in
+    let end_sent : r.end.sent ≡ made.kept.sent ++ sent = sent_so login ping pinging made.link r.used.met after.Pending r.end r.link polled in
+    let sent_is : t.sent.items ≡ made.kept.sent ++ sent = ap sent_in tapes ∙ end_sent in
+    let none : received_by polled.moves ≡ [] = nil_of (received_by polled.moves) (sym (ap (λ (u : Met). u.taken) met_is) ∙ (met_so login ping pinging made.link r.used.met after.Pending r.end r.link polled).taken) in
+    let taken_is : made.kept.taken ≡ greeting ++ ok = sym (append-nil made.kept.taken) ∙ ap (λ bs. made.kept.taken ++ bs) (sym none) ∙ sym (taken_so login ping pinging made.link r.used.met after.Pending r.end r.link polled) ∙ sym (ap taken_in tapes) ∙ taken in
     let open_is : map tape_call r.end.calls ++ record { call = Ping; sent_from = length made.kept.sent; answer = None } ∷ [] ≡ c ∷ record { call = Ping; sent_from = n; answer = None } ∷ [] =
-    ap (λ (q : Option Asked). map tape_call r.end.calls ++ open_call q) (sym (ap (λ (x : Kept). x.pending) end_is ∙ polled.pending)) ∙ sym (ap calls_in tapes) ∙ calls in
+    ap (λ (q : Option Asked). map tape_call r.end.calls ++ open_call q) (sym (ap (λ (x : Kept). x.pending) end_is ∙ all_pending pinging polled.moves)) ∙ sym (ap calls_in tapes) ∙ calls in
     let from : length made.kept.sent ≡ n = ap (λ (x : TapeCall). x.sent_from) (last_call (map tape_call r.end.calls) _ c _ open_is) in
-    let some : 0 < length polled.sent = omega (arith, longer, ap length sent_is, length-append made.kept.sent polled.sent, from) in
-    let end_sent : r.end.sent ≡ made.kept.sent ++ polled.sent = ap (λ (x : Kept). x.sent) end_is ∙ polled.sent_is in
+    let some : 0 < length sent = omega (arith, longer, ap length sent_is, length-append made.kept.sent sent, from) in
     let unheld : made.link.writes ≡ Some [] = made.open_writes rules in
     elim (items_left greeting ok pong some_ok some_pong (plans.reads 0) made.link.items made.kept.taken told taken_is fits.1.reads) as (λ _. ⊥) [
-      | inl x ↦ no_hold_met login (asked_by made.kept Ping) (asking made.kept Ping None) r.end made.link r.link r.used.met pong polled.sent [] met_is (inl x) unheld some end_sent polled
-      | inr x ↦ no_hold_met login (asked_by made.kept Ping) (asking made.kept Ping None) r.end made.link r.link r.used.met x.0 polled.sent x.1 met_is (inr x.2) unheld some end_sent polled
+      | inl x ↦ no_hold_met login (asked_by made.kept Ping) (asking made.kept Ping None) r.end made.link r.link r.used.met pong sent [] met_is (inl x) unheld some end_sent polled
+      | inr x ↦ no_hold_met login (asked_by made.kept Ping) (asking made.kept Ping None) r.end made.link r.link r.used.met x.0 sent x.1 met_is (inr x.2) unheld some end_sent polled
     ]
   where
     first_outcome : List AnswerView → Outcome
@@ -522,8 +525,9 @@ connect_end login x o used t bytes more h is w =
     let met : Met = record nothing_met { ends = 1 } in
     let met_is : used.met ≡ met = ap (λ (u : Use). u.met) is in
     let p = w.polled in
-    let none : received_by p.used.moves ≡ [] = p.used.received_is ∙ nil_of p.taken (sym (ap (λ (m : Met). m.taken) met_is) ∙ p.met.taken) in
-    early_end p.stop p.used.moved w.link bytes more (stays_first p.used.moves x p.used.moved bytes more h p.used.leads none) p.used.stops (sym (ap (λ (m : Met). m.ends) met_is) ∙ p.met.ends)
+    let so = met_so login first_asked first_kept x used.met w.after w.end w.link p in
+    let none : received_by p.moves ≡ [] = nil_of (received_by p.moves) (sym (ap (λ (m : Met). m.taken) met_is) ∙ so.taken) in
+    early_end p.stop p.moved w.link bytes more (stays_first p.moves x p.moved bytes more h p.leads none) p.stops (sym (ap (λ (m : Met). m.ends) met_is) ∙ so.ends)
 
 dial_end : (login : Login) (plan : Option (List ReadItem)) (rules : Option (List WriteItem)) (items : Option (List DialItem)) (o : Outcome) (us : List Use) (t : Handle) (bytes : List ℕ) (more : List ReadItem) → plan ≡ Some (Bytes bytes ∷ more) → us ≡ quiet 0 ∷ use_of 0 (record nothing_met { ends = 1 }) ∷ [] → Dials login plan rules items 0 o us t → ⊥
 dial_end login plan rules items o us t bytes more told ue (Holds left e f g held) = let no : held_use 0 ∷ [] ≡ quiet 0 ∷ use_of 0 (record nothing_met { ends = 1 }) ∷ [] = sym f ∙ ue in cc
@@ -568,12 +572,13 @@ no_other_taken login plans before later more a t told number taken w =
 -- a quit on a closed session
 pub no_fault_at_rest : NoFaultAtRest
 no_fault_at_rest login k end x y u place closed w =
-    let shut : has_closed (made_of w.following.calls) ≡ true = ap (λ cs. has_closed (made_of cs)) w.calls ∙ closed in
-    let returns = stop_closed login w.following (asked_by k Quit) w.pending shut in
-    elim w.ends.2.1 as (λ _. ⊥) [
-      | inl owes ↦ let no : Some (reading.Returns ToldReady) ≡ Some reading.Owes = sym returns ∙ owes in cc
-      | inr awaits ↦ let no : Some (reading.Returns ToldReady) ≡ Some reading.Awaits = sym returns ∙ awaits in cc
-    ]
+    let f : Kept = moved_all (asking k Quit None) w.moves in
+    let shut : has_closed (made_of f.calls) ≡ true = ap (λ cs. has_closed (made_of cs)) (all_calls (asking k Quit None) w.moves) ∙ closed in
+    let returns : stop_kept login f ≡ Some (reading.Returns ToldReady) = stop_closed login f (asked_by k Quit) (all_pending (asking k Quit None) w.moves) shut in
+    let told = returned_by w.stop ToldReady u.taken (facts_kept login f).place (Some (ToldError (io_error Link place)))
+    (ap (λ s. comes_to w.stop s u.taken (facts_kept login f).place) (sym returns) ∙ w.comes) in
+    let no : Some (ToldError (io_error Link place)) ≡ Some ToldReady = told.1 in
+    cc
 
 -- an input that broke off
 broken_off : (words : List (List ℕ)) (world later : WorldSeen) (s r : SourceSeen) (w v : SinkSeen) (t : Transcript) (status : Status) → s.ends ≡ 0 → r.ends ≡ 0 → HasRead status → ToolEnds words world later s r w v t status → ⊥

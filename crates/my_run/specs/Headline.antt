@@ -1,8 +1,6 @@
 -- The theorem on a run.
 use Rattle.std.specs.Prelude.{ℕ, ◌≡◌, zero, suc, List, [], ◌∷◌, ◌++◌, map, Option}
 use Rattle.my_grammar.specs.declared.login.Login.{Login}
-use Rattle.my_session.specs.History.{History}
-use Rattle.my_session.specs.Law.{IsLawful}
 use Rattle.my_link.specs.declared.link.ReadItem.{ReadItem}
 use Rattle.my_link.specs.declared.dialer.DialItem.{DialItem}
 use Rattle.my_link.specs.declared.dialer.DialItem.TheVariants.{Wait}
@@ -19,7 +17,6 @@ use Rattle.my_steps.specs.Dialing.{AreDialed, Course, moved_by}
 use Rattle.my_steps.specs.Grows.{Line, AreGrown, handles_after}
 use Rattle.my_steps.specs.Handle.{Handle, Absent, Dialing, Joined, at_number}
 use Rattle.my_client.specs.Reads.{IsRead}
-use Rattle.my_client.specs.Kept.{Kept, IsOf}
 use Rattle.my_world.specs.World.{Plans, SamePlans, WorldSeen}
 use Rattle.my_steps.specs.Keeps.{AreStood, AreAwaited}
 use Rattle.my_steps.specs.Slot.{handles_in}
@@ -43,16 +40,6 @@ abbrev pub answers_of : List Line → List AnswerView
 answers_of [] = []
 answers_of (l ∷ ls) = answers_of ls ++ record { number = l.number; outcome = l.outcome; uses = l.uses } ∷ []
 
--- The tape is explained: some history is what was kept, and the law of histories holds of it: the calls' commands by the table
--- were sent, the last perhaps cut, the grammar finds the responses in the bytes taken, and of each set callers were given
--- a beginning. And the tape is one that its reading accepts.
-pub record IsSaid (login : Login) (k : Kept) : Type 0 where
-  pub history : History
-  pub kept : IsOf k history
-  pub law : IsLawful login history
-  -- each call ended, or is open, exactly as the one reading of the tape says
-  pub read : IsRead login k
-
 -- Where the link tells the bytes that it was sent, these are they; and where its plan is told, the bytes that it gave and those
 -- that it has left are the planned ones.
 pub record FitsLink (plan : Option (List ReadItem)) (x : Looks) (sent taken : List ℕ) : Type 0 where
@@ -68,11 +55,12 @@ waits (suc k) = Wait ∷ waits k
 abbrev pub HasWaited : List DialItem → List DialItem → Type 0
 HasWaited items left = (k : ℕ) × (items ≡ waits (suc k) ++ left)
 
--- a connection at a number, over the plan of its link and the items for its dials
+-- A connection at a number, over the plan of its link and the items for its dials: each call of its tape ended, or is
+-- open, exactly as the one reading of the tape says.
 abbrev pub IsExplained : Login → Option (List ReadItem) → Option (List DialItem) → Handle → Type 0
 IsExplained login plan items Absent = Unit {0}
 IsExplained login plan items (Dialing left) = Told items left HasWaited
-IsExplained login plan items (Joined there k x) = IsSaid login k × FitsLink plan x k.sent k.taken
+IsExplained login plan items (Joined there k x) = IsRead login k × FitsLink plan x k.sent k.taken
 
 -- so it holds at each number after each line
 abbrev pub EachExplained : Login → Plans → List Line → Type 0

@@ -12,7 +12,7 @@ use Rattle.my_handshake.specs.declared.version.ServerVersion.{ServerVersion}
 use Rattle.my_reading.specs.declared.call.Call.TheVariants.{Ping, Quit}
 use Rattle.my_reading.specs.declared.error.IoKind.TheVariants.{Dial, Link}
 use Rattle.my_reading.specs.Errors.{io_error, unexpected_eof}
-use Rattle.my_session.specs.History.{has_closed}
+use Rattle.my_client.specs.Made.{has_closed}
 use Rattle.my_params.specs.declared.params.Params.{Params}
 use Rattle.my_script.specs.declared.step.Step.{Step}
 use Rattle.my_script.specs.declared.step.Step.TheVariants as steps
@@ -23,8 +23,8 @@ use Rattle.my_script.specs.declared.transcript.Tape.{Tape}
 use Rattle.my_script.specs.declared.transcript.TapeCall.{TapeCall}
 use Rattle.my_client.specs.declared.poll.After.{After}
 use Rattle.my_client.specs.declared.poll.After.TheVariants as after
-use Rattle.my_client.specs.Causes.{IsPolled}
 use Rattle.my_client.specs.Kept.{Asked, Kept, made_of, asking, asked_by}
+use Rattle.my_client.specs.Polls.{IsPolled}
 use Rattle.my_link.specs.declared.dialer.DialItem.{DialItem}
 use Rattle.my_link.specs.declared.dialer.DialItem.TheVariants.{Wait, Fail}
 use Rattle.my_world.specs.World.{Back, Plans, WorldSeen, DialCounts, Chance, no_dials, drawn}

@@ -1,12 +1,3 @@
-pub mod CallKinds
-pub mod Ends
-pub mod Executing
-pub mod Faults
-pub mod Fits
-pub mod History
-pub mod Mirror
-pub mod Refusals
-pub mod SettingsLaw
-pub mod Stands
-pub mod Steps
-pub mod Whole
+pub mod Adopting
+pub mod Answering
+pub mod Keeping

@@ -5,8 +5,8 @@ use Rattle.my_reading.specs.declared.error.Error.{Error}
 use Rattle.my_reading.specs.declared.error.Error.TheVariants.{Driver, NoMemory}
 use Rattle.my_reading.specs.declared.error.IoKind.TheVariants.{Link}
 use Rattle.my_reading.specs.Errors.{io_error}
-use Rattle.my_session.specs.declared.task.LinkFault.{LinkFault}
-use Rattle.my_session.specs.declared.task.LinkFault.TheVariants as faults
+use Rattle.my_session.specs.declared.answer.LinkFault.{LinkFault}
+use Rattle.my_session.specs.declared.answer.LinkFault.TheVariants as faults
 
 abbrev pub link_error : LinkFault → ℕ → Error
 link_error faults.Link place = io_error Link place

@@ -1,25 +1,15 @@
-//! What the open call asks for on the way, or comes to.
+//! What the open call asks for, or how it ended.
 
-use my_reading::{Answer, Error, ServerError};
-use my_value::Row;
+use my_reading::{Answer, Error};
 
-/// What one move of the open call comes to.
-#[derive(Drop)]
-pub enum Tick {
-    /// It goes on.
-    Goes,
-    /// It goes on, and passed over this row.
-    PassedRow(Row),
-    /// It goes on, and passed over a set's end.
-    PassedEnd,
-    /// It goes on, and passed over this error of the server.
-    PassedError(ServerError),
-    /// Bytes are to be sent.
-    Sends,
-    /// More bytes are awaited.
-    Needs,
-    Done(Answer),
-    Fault(Error),
+/// Why a caller lets the open call fail.
+#[derive(Clone, Copy, Debug, PartialEq, Eq)]
+pub enum LinkFault {
+    /// The link failed.
+    Link,
+    /// The call received too many bytes without an answer.
+    TooLong,
+    NoMemory,
 }
 
 /// What the open call asks for, or how it ended.

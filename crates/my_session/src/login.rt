@@ -1,10 +1,10 @@
 //! What a client with some options says of itself.
 ghost use Rattle.std.specs.Prelude.{◌≡◌, IfOk, map, option_map, string_bytes};
-ghost use Rattle.my_session.specs.Login.{account_in, login_of};
+ghost use Rattle.my_session.specs.Login.{login_of};
 
 use my_frame::limits::DEFAULT_MAX_ALLOWED_PACKET;
 use my_frame::{Blob, Listed, NoMemory};
-use my_grammar::{Account, Login};
+use my_grammar::Login;
 use my_handshake::Attributes;
 use my_opts::Opts;
 use std::alloc::Global;
@@ -26,17 +26,6 @@ fn copied(alloc: Global, queries: &[String]) -> Result<Listed<Blob>, NoMemory>
         texts.push(Blob::from_slice(alloc, query.as_bytes())?)?;
     }
     Ok(texts)
-}
-
-/// The account of these options.
-pub fn account_for(alloc: Global, opts: &Opts) -> Result<Account, NoMemory>
-    ensures { IfOk result (λ account. account ≡ account_in opts.now) }
-{
-    Ok(Account {
-        user: blob(alloc, opts.user())?,
-        password: blob(alloc, opts.pass())?,
-        database: blob(alloc, opts.db_name())?,
-    })
 }
 
 /// The login of a client with these options.

@@ -8,6 +8,7 @@ pub mod Numbers
 pub mod Ordering
 pub mod Readying
 pub mod Resuming
+pub mod Standing
 pub mod Streaming
 use Rattle.std.proofs.Common.{◌≡◌, ◌<◌, ◌⊎◌, inl, inr, true, ℕ, zero, suc, List, [], ◌∷◌, length, get_or, slice_set, false, refl, sym, ap, ◌∙◌, subst, arith}
 use Rattle.my_grammar.specs.declared.login.Login.{Login}
@@ -20,7 +21,6 @@ use Rattle.my_script.specs.declared.transcript.Use.{Use}
 use Rattle.my_client.specs.declared.conn.TapedConn.{TapedConn}
 use Rattle.my_client.specs.Conn.{kept_of}
 use Rattle.my_client.specs.Kept.{Kept}
-use Rattle.my_client.specs.Ready.{StandsBy}
 use Rattle.my_steps.specs.declared.slot.Slot.{Slot}
 use Rattle.my_steps.specs.declared.slot.Slot.TheVariants.{Gone, Held, There, Ended}
 use Rattle.my_steps.specs.declared.work.Work.{Work}
@@ -28,7 +28,7 @@ use Rattle.my_steps.specs.declared.work.Work.TheVariants as works
 use Rattle.my_steps.specs.Did.{Did, DidAt, Stepped, does_at, untold}
 use Rattle.my_steps.specs.Grows.{At, Cancels, IsRefused}
 use Rattle.my_steps.specs.Handle.{Handle, Absent, Dialing, Joined}
-use Rattle.my_steps.specs.Keeps.{IsStood, AreStood, IsAwaited, AreAwaited}
+use Rattle.my_steps.specs.Keeps.{StandsBy, IsStood, AreStood, IsAwaited, AreAwaited}
 use Rattle.my_steps.specs.Slot.{HasLink, handle_of, handles_in}
 use Rattle.my_steps.proofs.Working.Awaiting.{linked_awaited, linked_handle}
 use Rattle.my_steps.proofs.Working.Numbers.{stepped_at, stepped_past}

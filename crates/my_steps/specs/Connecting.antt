@@ -19,13 +19,13 @@ use Rattle.my_steps.specs.Slot.{HasLink, handle_with, handle_of}
 use Rattle.my_steps.specs.Sums.{quiet}
 use Rattle.my_steps.specs.declared.outcome.StepResult.{StepResult}
 use Rattle.my_client.specs.Conn.{kept_of}
-use Rattle.my_client.specs.Rests.{IsAsked}
+use Rattle.my_client.specs.Stands.{StandsAsked}
 
 -- where the connection stands once its handshake was polled, and what the step shows
 abbrev pub Settles : {L : Type 0} → TapedConn L → ℕ → After → Slot L → Outcome → Type 0
 Settles c n after.Pending slot o = (slot ≡ There c) × (o ≡ Pending)
 Settles c n (after.Answered answer) slot o = (slot ≡ There c)
-    × (o ≡ Connected n c.session.seen.facts.connection (version_of c.session.seen.facts.version))
+    × (o ≡ Connected n c.session.seen.stand.facts.connection (version_of c.session.seen.stand.facts.version))
 Settles c n (after.Failed e) slot o = (slot ≡ Ended c) × (o ≡ Failed e)
 
 -- a poll of the handshake, and what is at the number after it
@@ -47,7 +47,7 @@ pub record Dialed {L : Type 0} (look : L → Looks) (login : Login) (n : ℕ) (b
 
 -- of each call that may be open on the connection: the poll of a handshake, after these uses
 abbrev pub EachJoins : {L : Type 0} → (L → Looks) → ℕ → List Use → TapedConn L → Slot L → StepResult → Type 0
-EachJoins look n before c slot r = (login : Login) (a : Asked) → IsAsked login c.session.seen (kept_of c) a
+EachJoins look n before c slot r = (login : Login) (a : Asked) → StandsAsked login c.session.seen (kept_of c) a
     → (used : Use) × (r.uses.items ≡ before ++ used ∷ [])
     × Joins look login n a (kept_of c) (look c.link) slot r.outcome used
 

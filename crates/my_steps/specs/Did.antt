@@ -1,13 +1,12 @@
 -- What a step did to what is at one number, and to all numbers.
-use Rattle.std.specs.Prelude.{◌≡◌, ◌≤◌, ℕ, List, Option, Some, None, length, Bool, true, false, ◌&&◌}
+use Rattle.std.specs.Prelude.{◌≤◌, ℕ, List, Option, Some, None, length, Bool, true, false, ◌&&◌}
 use Rattle.my_grammar.specs.declared.login.Login.{Login}
 use Rattle.my_link.specs.Looks.{Looks}
 use Rattle.my_params.specs.declared.params.Params.{Params}
 use Rattle.my_statements.specs.Prepared.{StatementView}
-use Rattle.my_reading.specs.Calls.{is_connect, kind_of}
 use Rattle.my_reading.specs.declared.call.Call.{Call}
 use Rattle.my_reading.specs.declared.call.Call.TheVariants as calls
-use Rattle.my_session.specs.Seen.{Seen}
+use Rattle.my_session.specs.Sessions.{Seen}
 use Rattle.my_world.specs.declared.line.WorldLine.{WorldLine}
 use Rattle.my_world.specs.declared.line.WorldLine.TheVariants as lines
 use Rattle.my_world.specs.World.{Plans}
@@ -15,12 +14,10 @@ use Rattle.my_script.specs.declared.step.Step.{Step}
 use Rattle.my_script.specs.declared.step.Step.TheVariants as steps
 use Rattle.my_script.specs.declared.transcript.Outcome.{Outcome}
 use Rattle.my_script.specs.declared.transcript.Use.{Use}
+use Rattle.my_client.specs.Kept.{Asked, Kept}
 use Rattle.my_client.specs.declared.conn.TapedConn.{TapedConn}
 use Rattle.my_client.specs.Conn.{kept_of}
-use Rattle.my_client.specs.Kept.{Asked, Kept}
-use Rattle.my_client.specs.Ready.{StandsBy}
-use Rattle.my_client.specs.Reads.{IsStepped}
-use Rattle.my_client.specs.Rests.{Rests, IsAsked}
+use Rattle.my_client.specs.Stands.{Rests, StandsAsked}
 use Rattle.my_steps.specs.declared.outcome.StepResult.{StepResult}
 use Rattle.my_steps.specs.declared.slot.Slot.{Slot}
 use Rattle.my_steps.specs.declared.slot.Slot.TheVariants.{There}
@@ -31,7 +28,7 @@ use Rattle.my_steps.specs.declared.work.Work.TheVariants as works
 use Rattle.my_steps.specs.Dialing.{is_dialing}
 use Rattle.my_steps.specs.Grows.{PolledOnce, Calls, CollectsAt, StreamsAt, LetsGo, Misses, TellsFields, GoesOn, Cancels}
 use Rattle.my_steps.specs.Handle.{Handle, Joined}
-use Rattle.my_steps.specs.Keeps.{IsStood, AreStood, IsAwaited, AreAwaited}
+use Rattle.my_steps.specs.Keeps.{StandsBy, IsStood, AreStood, IsAwaited, AreAwaited}
 use Rattle.my_steps.specs.Slot.{handle_with, handle_of, handles_in}
 
 -- a poll of the open call, as a step of one call shows it
@@ -39,7 +36,6 @@ pub record OpenPolled (login : Login) (n : ℕ) (a : Asked) (t : Seen) (x y : Lo
     (us : List Use) : Type 0 where
   pub once : PolledOnce login n a k x o us (Joined true end y)
   pub rests : Rests login t end
-  pub stepped : IsStepped login t end
 
 -- at number n: what is there is kept, and the transcript's fact holds
 pub record Did {L : Type 0} (look : L → Looks) (login : Login) (R : Handle → Outcome → List Use → Handle → Type 0)
@@ -52,11 +48,6 @@ pub record Stepped {L : Type 0} (login : Login) (old new : List (Slot L)) (Fact 
   pub stood : AreStood login new
   pub longer : length old ≤ length new
   pub grows : Fact
-
--- a call that a step begins isn't the handshake
-abbrev pub MayBegin : Work → Type 0
-MayBegin (works.Begin call) = is_connect (kind_of call) ≡ false
-MayBegin _ = Unit {0}
 
 -- what a step's work at number n shows, and what it leaves there, in a world that told these plans
 abbrev pub does_at : Login → Plans → ℕ → Work → Handle → Outcome → List Use → Handle → Type 0
@@ -131,7 +122,7 @@ IsMoving line = ⊥
 
 -- of each call that may be open on the connection: what a poll of it did
 abbrev pub EachPolled : {L : Type 0} → (L → Looks) → ℕ → TapedConn L → TapedConn L → StepResult → Type 0
-EachPolled look n c d r = (login : Login) (a : Asked) → IsAsked login c.session.seen (kept_of c) a
+EachPolled look n c d r = (login : Login) (a : Asked) → StandsAsked login c.session.seen (kept_of c) a
     → OpenPolled login n a d.session.seen (look c.link) (look d.link) (kept_of c) (kept_of d) r.outcome r.uses.items
 
 -- of each login for which the connection stands: what a step's work did to it

@@ -1,14 +1,10 @@
 -- How the rows of a set are gathered.
-use Rattle.std.specs.Prelude.{ℕ, ◌≡◌, List, [], ◌∷◌, ◌++◌, Option, Some, unwrap_or, true}
+use Rattle.std.specs.Prelude.{ℕ, ◌≡◌, List, [], ◌∷◌, ◌++◌, Option, Some, None, unwrap_or, true, false}
 use Rattle.my_value.specs.RowParts.{RowParts}
 use Rattle.my_grammar.specs.declared.login.Login.{Login}
 use Rattle.my_reading.specs.declared.answer.Answer.TheVariants as answers
 use Rattle.my_reading.specs.declared.call.Call.TheVariants.{NextRow}
-use Rattle.my_session.specs.declared.task.Task.TheVariants.{Nothing}
-use Rattle.my_session.specs.History.{History, began}
-use Rattle.my_session.specs.Seen.{Seen}
-use Rattle.my_session.specs.Stands.{Stands}
-use Rattle.my_session.specs.Steps.{begun}
+use Rattle.my_session.specs.Sessions.{begun}
 use Rattle.my_steps.specs.declared.gather.Gathering.{Gathering}
 use Rattle.my_steps.specs.declared.gather.Gathering.TheVariants.{On, Over}
 use Rattle.my_client.specs.declared.poll.After.{After}
@@ -22,9 +18,8 @@ use Rattle.my_steps.specs.Handle.{Handle, Joined}
 use Rattle.my_client.specs.Kept.{Asked, Kept, asking}
 use Rattle.my_steps.specs.declared.outcome.StepResult.{StepResult}
 use Rattle.my_link.specs.Looks.{Looks}
-use Rattle.my_client.specs.Reads.{IsStepped}
-use Rattle.my_client.specs.Rests.{Rests, IsAsked}
 use Rattle.my_client.specs.Conn.{kept_of}
+use Rattle.my_client.specs.Stands.{Rests, StandsAsked}
 
 -- what a gathering that ends shows, of the rows that came before
 abbrev pub Shows : Option (List RowParts) → After → Outcome → Type 0
@@ -41,15 +36,11 @@ Shows rows (after.Failed e) o = o ≡ Failed e
 abbrev pub asking_on : Kept → Option (List RowParts) → RowParts → Kept
 asking_on k rows row = asking k NextRow (Some (unwrap_or rows [] ++ row ∷ []))
 
--- the session stands for each history that it stood for, with this call begun
-abbrev pub BeginStands : Seen → Seen → Type 0
-BeginStands s t = (h : History) → Stands s h → Stands t (began h NextRow)
-
 pub record AsksNext {L : Type 0} (c d : TapedConn L) (rows : List RowParts) : Type 0 where
-  pub idle : c.session.seen.task ≡ Nothing
+  pub idle : c.session.seen.opened ≡ None
+  pub alive : c.session.seen.closed ≡ false
   pub kept : kept_of d ≡ asking (kept_of c) NextRow (Some rows)
-  pub seen : d.session.seen ≡ begun c.session.seen NextRow
-  pub stands : (h : History) → Stands c.session.seen h → Stands d.session.seen (began h NextRow)
+  pub seen : d.session.seen ≡ begun NextRow c.session.seen
   pub link : d.link ≡ c.link
 
 abbrev pub GoesNext : {L : Type 0} → TapedConn L → TapedConn L → Option (List RowParts) → After → Type 0
@@ -71,17 +62,16 @@ pub record GatherDid {L : Type 0} (look : L → Looks) (login : Login) (n : ℕ)
     (o : Outcome) (us : List Use) : Type 0 where
   pub gathers : Gathers login n us a (kept_of c) (look c.link) o (Joined true (kept_of d) (look d.link))
   pub rests : Rests login d.session.seen (kept_of d)
-  pub stepped : IsStepped login d.session.seen (kept_of d)
 
 -- so far in a gathering
 pub record GatherSoFar {L : Type 0} (look : L → Looks) (login : Login) (n : ℕ) (a : Asked) (c d : TapedConn L)
     (us : List Use) : Type 0 where
   pub now : Asked
-  pub asked : IsAsked login d.session.seen (kept_of d) now
+  pub asked : StandsAsked login d.session.seen (kept_of d) now
   pub onto : (vs : List Use) (o : Outcome) (t : Handle) → Gathers login n vs now (kept_of d) (look d.link) o t
       → Gathers login n (us ++ vs) a (kept_of c) (look c.link) o t
 
 -- of each call that may be open on the connection
 abbrev pub EachGathers : {L : Type 0} → (L → Looks) → ℕ → TapedConn L → TapedConn L → StepResult → Type 0
-EachGathers look n c d r = (login : Login) (a : Asked) → IsAsked login c.session.seen (kept_of c) a
+EachGathers look n c d r = (login : Login) (a : Asked) → StandsAsked login c.session.seen (kept_of c) a
     → GatherDid look login n a c d r.outcome r.uses.items

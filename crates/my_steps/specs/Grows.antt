@@ -13,8 +13,8 @@ use Rattle.my_reading.specs.Calls.{kind_of, is_connect}
 use Rattle.my_reading.specs.Endings.{closes_cancelled}
 use Rattle.my_reading.specs.Errors.{connection_closed, io_error}
 use Rattle.my_reading.specs.Place.{is_taken}
-use Rattle.my_session.specs.History.{has_closed}
-use Rattle.my_session.specs.Steps.{is_refused}
+use Rattle.my_client.specs.Made.{has_closed}
+use Rattle.my_session.specs.Sessions.{is_refused}
 use Rattle.my_reading.specs.declared.error.IoKind.TheVariants.{Dial}
 use Rattle.my_client.specs.declared.poll.After.{After}
 use Rattle.my_client.specs.declared.poll.After.TheVariants as after
@@ -28,7 +28,7 @@ use Rattle.my_client.specs.declared.tape.Said.TheVariants as says
 use Rattle.my_script.specs.declared.transcript.Outcome.{Outcome}
 use Rattle.my_script.specs.declared.transcript.Outcome.TheVariants.{Done, Pending, SetEnd, NoSet, Row, Rows, Prepared, Flag, Fields, Connected, Failed, NoSuchHandle}
 use Rattle.my_script.specs.declared.transcript.Use.{Use}
-use Rattle.my_client.specs.Causes.{IsPolled}
+use Rattle.my_client.specs.Polls.{IsPolled}
 use Rattle.my_steps.specs.Handle.{Handle, Absent, Dialing, Joined, at_number, put_at}
 use Rattle.my_client.specs.Reads.{facts_kept, place_kept}
 use Rattle.my_client.specs.Kept.{Asked, Kept, made_of, asking, ended_by, asked_by, first_asked, first_kept}

@@ -3,8 +3,14 @@ use Rattle.std.specs.Prelude.{ℕ, suc, List, [], ◌∷◌}
 use Rattle.my_grammar.specs.declared.login.Login.{Login}
 use Rattle.my_steps.specs.declared.slot.Slot.{Slot}
 use Rattle.my_steps.specs.declared.slot.Slot.TheVariants.{Gone, Held, There, Ended}
-use Rattle.my_client.specs.Ready.{StandsBy}
+use Rattle.my_client.specs.declared.conn.TapedConn.{TapedConn}
+use Rattle.my_client.specs.Conn.{kept_of}
+use Rattle.my_client.specs.Stands.{Rests}
 use Rattle.my_world.specs.World.{Plans, SameFrom, SameLink}
+
+-- a connection's session stands where the reading of its tape does, and its open call waits for its link
+abbrev pub StandsBy : {L : Type 0} → Login → TapedConn L → Type 0
+StandsBy login c = Rests login c.session.seen (kept_of c)
 
 abbrev pub IsStood : {L : Type 0} → Login → Slot L → Type 0
 IsStood login Gone = Unit {0}

@@ -8,15 +8,15 @@ use Rattle.my_world.specs.World.{Chance, Plans}
 use Rattle.my_steps.specs.declared.step.Order.{Order}
 use Rattle.my_steps.specs.declared.step.Order.TheVariants.{Dial, Move, Visit}
 use Rattle.my_steps.specs.Dialing.{chance_dialed}
-use Rattle.my_steps.specs.Did.{IsMoving, MayBegin, does_at, redials}
+use Rattle.my_steps.specs.Did.{IsMoving, does_at, redials}
 use Rattle.my_steps.specs.Grows.{At, DialsNext, Moves}
 use Rattle.my_steps.specs.Handle.{Handle, at_number}
 
--- a world is moved only where it takes a plan, and an errand begins no handshake
+-- a world is moved only where it takes a plan
 abbrev pub MayCarry : Bool → Order → Type 0
 MayCarry takes Dial = Unit {0}
 MayCarry takes (Move line) = (takes ≡ true) × IsMoving line
-MayCarry takes (Visit e) = MayBegin e.work
+MayCarry takes (Visit e) = Unit {0}
 
 abbrev pub Carries : Login → Plans → Order → List Handle → Outcome → List Use → List Handle → Type 0
 Carries login plans Dial hs o us ts = DialsNext login plans hs o us ts

@@ -1,27 +1,45 @@
--- Where a step may begin a call.
-use Rattle.my_client.specs.Ready.{JoinedBy}
-use Rattle.std.specs.Prelude.{List, [], ◌∷◌, map, false, true}
+-- What a step needs of connections, and what a poll leaves of a session.
+use Rattle.std.specs.Prelude.{◌≡◌, List, None, false}
 use Rattle.my_grammar.specs.declared.login.Login.{Login}
+use Rattle.my_reading.specs.declared.answer.Answer.TheVariants as answers
+use Rattle.my_client.specs.declared.poll.After.{After}
+use Rattle.my_client.specs.declared.poll.After.TheVariants.{Pending, Answered, Failed}
+use Rattle.my_client.specs.Kept.{Asked}
+use Rattle.my_session.specs.Sessions.{Seen}
+use Rattle.my_client.specs.declared.conn.TapedConn.{TapedConn}
+use Rattle.my_client.specs.Conn.{kept_of}
+use Rattle.my_client.specs.Stands.{StandsAsked}
 use Rattle.my_steps.specs.declared.slot.Slot.{Slot}
-use Rattle.my_steps.specs.Handle.{Handle, Absent, Dialing, Joined}
-use Rattle.my_steps.specs.Keeps.{IsStood, AreStood}
-use Rattle.my_steps.specs.Slot.{handle_of}
-use Rattle.my_link.specs.Looks.{Looks}
+use Rattle.my_steps.specs.Keeps.{StandsBy, IsStood, AreStood}
 
--- the same for a number and for all numbers
-abbrev pub IsJoined : Handle → Type 0
-IsJoined Absent = Unit {0}
-IsJoined (Dialing left) = Unit {0}
-IsJoined (Joined false k x) = Unit {0}
-IsJoined (Joined true k x) = JoinedBy k.pending k
+-- There is a login for which a connection stands, what is at a number does, and what is at all numbers does.
+abbrev pub ConnReady : {L : Type 0} → TapedConn L → Type 0
+ConnReady c = (login : Login) × StandsBy login c
 
-abbrev pub AllJoined : List Handle → Type 0
-AllJoined [] = Unit {0}
-AllJoined (h ∷ hs) = IsJoined h × AllJoined hs
+abbrev pub SlotReady : {L : Type 0} → Slot L → Type 0
+SlotReady s = (login : Login) × IsStood login s
 
--- a number at which a call may begin, and all numbers
-abbrev pub SlotReady : {L : Type 0} → (L → Looks) → Slot L → Type 0
-SlotReady look s = (login : Login) × IsStood login s × IsJoined (handle_of look s)
+abbrev pub AreReady : {L : Type 0} → List (Slot L) → Type 0
+AreReady ss = (login : Login) × AreStood login ss
 
-abbrev pub AreReady : {L : Type 0} → (L → Looks) → List (Slot L) → Type 0
-AreReady look ss = (login : Login) × AreStood login ss × AllJoined (map (handle_of look) ss)
+-- a call is open on a session that isn't closed
+abbrev pub AskedReady : {L : Type 0} → TapedConn L → Type 0
+AskedReady c = (login : Login) × (a : Asked) × StandsAsked login c.session.seen (kept_of c) a
+    × (c.session.seen.closed ≡ false)
+
+-- a poll that was answered leaves no open call
+abbrev pub RestsBy : After → Seen → Type 0
+RestsBy Pending s = Unit {0}
+RestsBy (Answered answer) s = s.opened ≡ None
+RestsBy (Failed e) s = Unit {0}
+
+-- and after a row the session isn't closed
+abbrev pub StaysOpen : After → Seen → Type 0
+StaysOpen Pending s = Unit {0}
+StaysOpen (Answered answers.Ready) s = Unit {0}
+StaysOpen (Answered (answers.Row row)) s = s.closed ≡ false
+StaysOpen (Answered answers.SetEnd) s = Unit {0}
+StaysOpen (Answered answers.NoSet) s = Unit {0}
+StaysOpen (Answered (answers.Stmt statement)) s = Unit {0}
+StaysOpen (Answered (answers.Flag flag)) s = Unit {0}
+StaysOpen (Failed e) s = Unit {0}

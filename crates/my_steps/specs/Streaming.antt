@@ -4,11 +4,11 @@ use Rattle.my_grammar.specs.declared.login.Login.{Login}
 use Rattle.my_link.specs.Looks.{Looks}
 use Rattle.my_client.specs.declared.conn.TapedConn.{TapedConn}
 use Rattle.my_client.specs.Conn.{kept_of}
-use Rattle.my_client.specs.Ready.{StandsBy}
 use Rattle.my_script.specs.declared.transcript.Use.{Use}
 use Rattle.my_steps.specs.declared.outcome.StepResult.{StepResult}
 use Rattle.my_steps.specs.Grows.{ThenTakes, is_done}
 use Rattle.my_steps.specs.Handle.{Joined}
+use Rattle.my_steps.specs.Keeps.{StandsBy}
 
 -- what was done after the first part of a step
 pub record TakesAfter {L : Type 0} (look : L → Looks) (login : Login) (n : ℕ) (c d : TapedConn L)

@@ -1,12 +1,8 @@
 //! A step that begins a call on a connection.
-ghost use Rattle.std.specs.Prelude.{◌≡◌, [], None, true, false, IfOk, OnOk};
-ghost use Rattle.my_reading.specs.Calls.{is_connect, kind_of};
-ghost use Rattle.my_session.specs.Tasks.{is_open};
-ghost use Rattle.my_client.specs.Conn.{kept_of};
-ghost use Rattle.my_client.specs.Drives.{EachEnded};
+ghost use Rattle.std.specs.Prelude.{◌≡◌, [], None, IfOk, OnOk};
 ghost use Rattle.my_client.specs.Kept.{asking};
-ghost use Rattle.my_client.specs.Ready.{ConnReady};
 ghost use Rattle.my_client.specs.declared.tape.Said.TheVariants as says;
+ghost use Rattle.my_client.specs.Conn.{EachEnded, kept_of};
 ghost use Rattle.my_steps.specs.Did.{EachPolled, EachDid};
 ghost use Rattle.my_steps.specs.declared.slot.Slot.TheVariants.{There as ThereAt};
 ghost use Rattle.my_steps.specs.declared.work.Work.TheVariants.{Begin as BeginWork};
@@ -26,7 +22,6 @@ pub(crate) fn poll_open<L: Link>(
     number: u64,
     now: u64,
 ) -> Result<StepResult, NoMemory>
-    requires { is_open conn.old.session.seen.task ≡ true }
     ensures { IfOk result (λ d. EachPolled L.looks number conn.old conn.new d) }
 {
     let (after, met, rows) = drive(alloc, conn, now)?;
@@ -68,7 +63,7 @@ fn keep_asked<L>(alloc: Global, conn: &mut TapedConn<L>, call: &Call) -> Result<
     ask(conn, copy, None)
 }
 
-/// Begins a call other than the handshake, and polls it.
+/// Begins a call, and polls it.
 pub(crate) fn begin_call<L: Link>(
     alloc: Global,
     conn: &mut TapedConn<L>,
@@ -76,8 +71,6 @@ pub(crate) fn begin_call<L: Link>(
     now: u64,
     call: Call,
 ) -> Result<StepResult, NoMemory>
-    requires ready { ConnReady conn.old }
-    requires kind { is_connect (kind_of call) ≡ false }
     ensures { IfOk result (λ d. EachDid L.looks number (BeginWork call) conn.old (ThereAt conn.new) d) }
 {
     if conn.session.is_open() {

@@ -3,10 +3,9 @@ ghost use Rattle.std.specs.Prelude.{◌≡◌, ◌∷◌, [], suc, length, true,
 ghost use Rattle.my_reading.specs.Errors.{io_error};
 ghost use Rattle.my_session.specs.Login.{login_of};
 ghost use Rattle.my_world.specs.World.{SameBut, SamePlans, drawn};
-ghost use Rattle.my_client.specs.Conn.{kept_of};
 ghost use Rattle.my_client.specs.Kept.{first_asked, first_kept};
-ghost use Rattle.my_client.specs.Rests.{IsAsked};
-ghost use Rattle.my_session.specs.Tasks.{is_open};
+ghost use Rattle.my_client.specs.Conn.{kept_of};
+ghost use Rattle.my_client.specs.Stands.{StandsAsked};
 ghost use Rattle.my_steps.specs.Connecting.{Settles, EachJoins, JoinsFirst, Dialed};
 ghost use Rattle.my_steps.specs.Slot.{placed};
 ghost use Rattle.my_steps.specs.Dialing.{DialsTo, dial_met};
@@ -16,7 +15,7 @@ ghost use Rattle.my_steps.specs.Sums.{quiet};
 
 use crate::outcome::{StepResult, Worked, used_once};
 use crate::slot::{Slot, place};
-use my_client::{After, TapedConn, begin_conn, drive};
+use my_client::{After, TapedConn, begin_over, drive};
 use my_frame::NoMemory;
 use my_handshake::server_version;
 use my_link::{Link, Met};
@@ -59,7 +58,6 @@ pub(crate) fn poll_connect<L: Link>(
     now: u64,
     mut uses: Vec<Use>,
 ) -> Result<Worked, NoMemory>
-    requires { is_open conn.old.session.seen.task ≡ true }
     ensures { IfOk result (λ w. EachJoins L.looks number uses.items conn.old (placed w.there conn.new) w.did) }
 {
     let (after, met, rows) = drive(alloc, conn, now)?;
@@ -86,7 +84,6 @@ fn join<L: Link>(
     number: u64,
     now: u64,
 ) -> Result<Worked, NoMemory>
-    requires { is_open conn.old.session.seen.task ≡ true }
     ensures { IfOk result (λ w. EachJoins L.looks number (quiet number ∷ []) conn.old (placed w.there conn.new) w.did) }
 {
     let mut uses = Vec::new(alloc);
@@ -106,13 +103,12 @@ struct Given {
 
 // Makes the connection's first call. Out of memory the link is returned.
 fn begin_on<L: Link>(alloc: Global, opts: &Opts, link: L, given: Given) -> Result<TapedConn<L>, L>
-    ensures asked { IfOk result (λ c. IsAsked (login_of opts.now) c.session.seen (kept_of c) first_asked) }
+    ensures asked { IfOk result (λ c. StandsAsked (login_of opts.now) c.session.seen (kept_of c) first_asked) }
     ensures kept { IfOk result (λ c. kept_of c ≡ first_kept) }
-    ensures is_on { IfOk result (λ c. is_open c.session.seen.task ≡ true) }
     ensures link { IfOk result (λ c. c.link ≡ link) }
 {
     match opts.copy(alloc) {
-        Ok(opts) => begin_conn(alloc, opts, link, given.now, given.random),
+        Ok(opts) => begin_over(alloc, opts, link, given.now, given.random),
         Err(NoMemory) => Err(link),
     }
 }

@@ -1,14 +1,12 @@
 //! A step that gathers the rows of a set.
-ghost use Rattle.std.specs.Prelude.{◌≡◌, [], Some, option_map, unwrap_or, true, false, IfOk, OnOk};
-ghost use Rattle.my_session.specs.Tasks.{is_open};
+ghost use Rattle.std.specs.Prelude.{◌≡◌, [], None, Some, option_map, unwrap_or, false, IfOk, OnOk};
 ghost use Rattle.my_reading.specs.declared.call.Call.TheVariants.{NextRow as NextRowOf};
-ghost use Rattle.my_session.specs.declared.task.Task.TheVariants.{Nothing};
-ghost use Rattle.my_session.specs.Steps.{begun};
-ghost use Rattle.my_client.specs.Conn.{kept_of};
 ghost use Rattle.my_client.specs.Kept.{asking};
-ghost use Rattle.my_client.specs.Ready.{IsReady, ConnReady, AskedReady, RestsBy, StaysOpen};
+ghost use Rattle.my_session.specs.Sessions.{begun};
+ghost use Rattle.my_client.specs.Conn.{kept_of};
 ghost use Rattle.my_steps.specs.Did.{EachDid};
-ghost use Rattle.my_steps.specs.Gathering.{asking_on, BeginStands, Goes, EachGathers};
+ghost use Rattle.my_steps.specs.Gathering.{asking_on, Goes, EachGathers};
+ghost use Rattle.my_steps.specs.Ready.{ConnReady, AskedReady, RestsBy, StaysOpen};
 ghost use Rattle.my_steps.specs.declared.slot.Slot.TheVariants.{There as ThereAt};
 ghost use Rattle.my_steps.specs.declared.work.Work.TheVariants.{Collect as CollectWork};
 
@@ -40,12 +38,10 @@ fn rows_so_far(alloc: Global, rows: Option<Vec<Row>>) -> Vec<Row>
 
 // The next row is asked for.
 fn ask_next<L>(conn: &mut TapedConn<L>, rows: Vec<Row>) -> Result<(), NoMemory>
-    requires idle { conn.old.session.seen.task ≡ Nothing }
-    requires ready { IsReady conn.old.session.seen }
+    requires idle { conn.old.session.seen.opened ≡ None }
     requires alive { conn.old.session.seen.closed ≡ false }
     ensures kept { OnOk result (kept_of conn.new ≡ asking (kept_of conn.old) NextRowOf (Some rows.items)) }
-    ensures seen { OnOk result (conn.new.session.seen ≡ begun conn.old.session.seen NextRowOf) }
-    ensures stands { OnOk result (BeginStands conn.old.session.seen conn.new.session.seen) }
+    ensures seen { OnOk result (conn.new.session.seen ≡ begun NextRowOf conn.old.session.seen) }
     ensures link { conn.new.link ≡ conn.old.link }
 {
     ask(conn, Call::NextRow, Some(rows))?;
@@ -65,13 +61,11 @@ fn add_row<L>(
     rows: Option<Vec<Row>>,
     row: Row,
 ) -> Result<(), NoMemory>
-    requires idle { conn.old.session.seen.task ≡ Nothing }
-    requires ready { IsReady conn.old.session.seen }
+    requires idle { conn.old.session.seen.opened ≡ None }
     requires alive { conn.old.session.seen.closed ≡ false }
     ensures kept { OnOk result (
         kept_of conn.new ≡ asking_on (kept_of conn.old) (option_map (λ rows. rows.items) rows) row) }
-    ensures seen { OnOk result (conn.new.session.seen ≡ begun conn.old.session.seen NextRowOf) }
-    ensures stands { OnOk result (BeginStands conn.old.session.seen conn.new.session.seen) }
+    ensures seen { OnOk result (conn.new.session.seen ≡ begun NextRowOf conn.old.session.seen) }
     ensures link { OnOk result (conn.new.link ≡ conn.old.link) }
 {
     let mut all = rows_so_far(alloc, rows);
@@ -92,7 +86,6 @@ fn go_on<L>(
 ) -> Result<Gathering, NoMemory>
     requires rests { RestsBy after conn.old.session.seen }
     requires alive { StaysOpen after conn.old.session.seen }
-    requires ready { IsReady conn.old.session.seen }
     ensures { IfOk result (λ g. Goes conn.old conn.new (option_map (λ rows. rows.items) rows) after g) }
 {
     match after {
@@ -137,8 +130,7 @@ pub(crate) fn gather<L: Link>(
     number: u64,
     now: u64,
 ) -> Result<StepResult, NoMemory>
-    requires is_on { is_open conn.old.session.seen.task ≡ true }
-    requires asked { AskedReady conn.old }
+    requires { AskedReady conn.old }
     ensures { IfOk result (λ d. EachGathers L.looks number conn.old conn.new d) }
 {
     let mut uses = Vec::new(alloc);

@@ -1,7 +1,7 @@
 //! A step that polls a connection's open call.
 ghost use Rattle.std.specs.Prelude.{IfOk};
-ghost use Rattle.my_client.specs.Ready.{ConnReady};
 ghost use Rattle.my_steps.specs.Did.{EachDid};
+ghost use Rattle.my_steps.specs.Ready.{ConnReady};
 ghost use Rattle.my_steps.specs.Slot.{placed};
 ghost use Rattle.my_steps.specs.declared.work.Work.TheVariants.{Poll as PollWork};
 

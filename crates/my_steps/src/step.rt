@@ -159,7 +159,7 @@ fn carry_out<N: World>(
     order: Order,
     now: u64,
 ) -> Result<StepResult, NoMemory>
-    requires ready { AreReady N.L.looks slots.old.items }
+    requires ready { AreReady slots.old.items }
     requires may { MayCarry (N.seen world.old).takes order }
     ensures longer { OnOk result (length slots.old.items ≤ length slots.new.items) }
     ensures takes { (N.seen world.new).takes ≡ (N.seen world.old).takes }
@@ -200,7 +200,7 @@ pub fn run_step<N: World>(
     found: bool,
     named: Option<&Statement>,
 ) -> Result<StepResult, NoMemory>
-    requires ready { AreReady N.L.looks slots.old.items }
+    requires ready { AreReady slots.old.items }
     requires stands { may_stand (N.seen world.old).takes step.now ≡ true }
     ensures longer { OnOk result (length slots.old.items ≤ length slots.new.items) }
     ensures takes { (N.seen world.new).takes ≡ (N.seen world.old).takes }

@@ -2,10 +2,9 @@
 ghost use Rattle.std.specs.Prelude.{◌≡◌, ◌++◌, ◌&&◌, not, Some, IfOk};
 ghost use Rattle.my_reading.specs.Calls.{kind_of};
 ghost use Rattle.my_script.specs.Streams.{is_skip};
-ghost use Rattle.my_session.specs.Steps.{is_taken};
-ghost use Rattle.my_client.specs.Conn.{kept_of};
 ghost use Rattle.my_client.specs.Kept.{Asked};
-ghost use Rattle.my_client.specs.Ready.{ConnReady};
+ghost use Rattle.my_session.specs.Sessions.{is_taken};
+ghost use Rattle.my_client.specs.Conn.{kept_of};
 ghost use Rattle.my_steps.specs.Did.{EachDid};
 ghost use Rattle.my_steps.specs.Grows.{is_done};
 ghost use Rattle.my_steps.specs.Streaming.{EachTakes};
@@ -89,7 +88,6 @@ pub(crate) fn then_take<L: Link>(
     now: u64,
     skipped: StepResult,
 ) -> Result<StepResult, NoMemory>
-    requires { ConnReady conn.old }
     ensures { IfOk result (λ d. EachTakes L.looks number conn.old conn.new skipped d) }
 {
     if !is_done(&skipped.outcome) {
@@ -119,7 +117,6 @@ pub(crate) fn take_call<L: Link>(
     number: u64,
     now: u64,
 ) -> Result<StepResult, NoMemory>
-    requires { ConnReady conn.old }
     ensures { IfOk result (λ d. EachDid L.looks number TakeWork conn.old (ThereAt conn.new) d) }
 {
     if conn.session.is_open() {

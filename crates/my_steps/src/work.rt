@@ -1,14 +1,13 @@
 //! What a step does at a connection's number.
 ghost use Rattle.std.specs.Prelude.{◌≡◌, length, IfOk, OnOk};
 ghost use Rattle.my_session.specs.Login.{login_of};
-ghost use Rattle.my_client.specs.Ready.{ConnReady};
 ghost use Rattle.my_world.specs.World.{SameBut};
 ghost use Rattle.my_steps.specs.Dialing.{DialsTo, chance_dialed, dial_met};
-ghost use Rattle.my_steps.specs.Did.{MayBegin, does_at, EachDid, DoesAt, StepsOn, is_poll, redials};
+ghost use Rattle.my_steps.specs.Did.{does_at, EachDid, DoesAt, StepsOn, is_poll, redials};
 ghost use Rattle.my_steps.specs.Handle.{at_number};
 ghost use Rattle.my_steps.specs.Slot.{HasLink, handle_of, handles_in, placed};
 ghost use Rattle.my_steps.specs.Grows.{At};
-ghost use Rattle.my_steps.specs.Ready.{SlotReady, AreReady};
+ghost use Rattle.my_steps.specs.Ready.{ConnReady, SlotReady, AreReady};
 ghost use Rattle.my_steps.specs.declared.slot.Slot.TheVariants.{Held as HeldAt};
 
 use crate::begin::begin_call;
@@ -33,7 +32,7 @@ use std::mem;
 /// What a step does at its number.
 #[derive(Drop)]
 pub(crate) enum Work {
-    /// Begins a call other than the handshake.
+    /// Begins a call.
     Begin(Call),
     Collect,
     /// Lets a stream take a set.
@@ -62,8 +61,7 @@ fn work_there<L: Link>(
     now: u64,
     work: Work,
 ) -> Result<Worked, NoMemory>
-    requires ready { ConnReady conn.old }
-    requires kind { MayBegin work }
+    requires { ConnReady conn.old }
     ensures { IfOk result (λ w. EachDid L.looks number work conn.old (placed w.there conn.new) w.did) }
 {
     match work {
@@ -104,8 +102,7 @@ fn work_conn<L: Link>(
     now: u64,
     work: Work,
 ) -> (Slot<L>, Result<StepResult, NoMemory>)
-    requires ready { ConnReady conn }
-    requires kind { MayBegin work }
+    requires { ConnReady conn }
     ensures did { IfOk result.1 (λ d. EachDid L.looks number work conn result.0 d) }
     ensures linked { OnOk result.1 (HasLink result.0) }
 {
@@ -152,8 +149,7 @@ fn work_on<N: World>(
     now: u64,
     work: Work,
 ) -> (Slot<N::L>, Result<StepResult, NoMemory>)
-    requires ready { SlotReady N.L.looks slot }
-    requires kind { MayBegin work }
+    requires { SlotReady slot }
     ensures others { SameBut number (N.seen world.old).plans (N.seen world.new).plans }
     ensures takes { (N.seen world.new).takes ≡ (N.seen world.old).takes }
     ensures chance { OnOk result.1 ((N.seen world.new).chance ≡
@@ -192,8 +188,7 @@ pub(crate) fn work_at<N: World>(
     now: u64,
     work: Work,
 ) -> Result<StepResult, NoMemory>
-    requires ready { AreReady N.L.looks slots.old.items }
-    requires kind { MayBegin work }
+    requires { AreReady slots.old.items }
     ensures count { OnOk result (length slots.new.items ≡ length slots.old.items) }
     ensures takes { (N.seen world.new).takes ≡ (N.seen world.old).takes }
     ensures back { OnOk result ((N.seen world.new).back ≡ (N.seen world.old).back) }

@@ -10,13 +10,13 @@ use Rattle.my_link.specs.declared.link.ReadItem.{ReadItem}
 use Rattle.my_link.specs.declared.link.WriteItem.{WriteItem}
 use Rattle.my_link.specs.declared.met.Met.{Met}
 use Rattle.my_link.specs.Looks.{Looks}
-use Rattle.my_link.specs.Moves.{Stop}
+use Rattle.my_link.specs.Moves.{received_by, sent_by}
 use Rattle.my_reading.specs.declared.answer.Answer.TheVariants as answers
 use Rattle.my_reading.specs.declared.call.Call.{Call}
 use Rattle.my_reading.specs.declared.call.Call.TheVariants as calls
 use Rattle.my_reading.specs.Calls.{kind_of, is_connect}
-use Rattle.my_session.specs.History.{has_closed}
-use Rattle.my_session.specs.Steps.{is_refused}
+use Rattle.my_client.specs.Made.{has_closed}
+use Rattle.my_session.specs.Sessions.{is_refused}
 use Rattle.my_script.specs.declared.step.Step.{Step}
 use Rattle.my_script.specs.declared.step.Step.TheVariants as steps
 use Rattle.my_script.specs.declared.transcript.Outcome.{Outcome}
@@ -26,9 +26,12 @@ use Rattle.my_script.specs.Streams.{is_skip, target}
 use Rattle.my_client.specs.declared.poll.After.{After}
 use Rattle.my_client.specs.declared.poll.After.TheVariants as after
 use Rattle.my_client.specs.declared.tape.Said.{Said}
-use Rattle.my_client.specs.Causes.{PollEnds, IsPolled}
+use Rattle.my_client.specs.Ends.{kept_after}
 use Rattle.my_client.specs.Kept.{Asked, Kept, made_of, asking, asked_by, ended_by, first_asked, first_kept}
 use Rattle.my_world.specs.World.{Plans}
+use Rattle.my_client.specs.Polls.{IsPolled, moved_by}
+use Rattle.my_client.proofs.Moving.{all_pending}
+use Rattle.my_run.proofs.Polls.{all_calls, all_sent, all_taken}
 use Rattle.my_steps.specs.Grows.{Line, IsRefused, OnConnection, PolledOnce, IsClosed, Begins, BeginsOn, Calls, ConnectShows, Connects, Dials, Holds, Fails, Links, Gathers, GathersOn, Collects, CollectsOn, CollectsAt, PollsOn, PollsCall, ThenTakes, Skips, Takes, TakesOn, StreamsAt, CallsWhere, LetsGoWith, UnstreamsAt, ExecutesAt, ClosesAt, GoesOnWith, GoesOn, CancelsWith, Cancels, TellsWith, TellsFields, At, StepGrows, AreGrown, gathered, next_asked, handles_after, is_done, is_found, statements_of, skips_first}
 use Rattle.my_steps.specs.Handle.{Handle, Absent, Dialing, Joined, at_number, put_at}
 
@@ -48,14 +51,16 @@ module _ (P : Kept → Type 0)
     (followed : (k f : Kept) (sent taken : List ℕ) → f.sent ≡ k.sent ++ sent → f.taken ≡ k.taken ++ taken → f.calls ≡ k.calls → f.pending ≡ k.pending → P k → P f)
     (first : P first_kept) where
   module _ (login : Login) where
-    poll_keeps : (a : Asked) (b end : Kept) (u : Met) (st : Stop) (p : After) → b.pending ≡ Some a → P b → PollEnds login a b u st p end → P end
-    poll_keeps a b end u st after.Pending e w r = subst P (sym r.0) w
-    poll_keeps a b end u st (after.Answered answer) e w r = subst P (sym r.0) (ended b a _ e w)
-    poll_keeps a b end u st (after.Failed x) e w r = subst P (sym r.0) (ended b a _ e w)
+    poll_keeps : (a : Asked) (b : Kept) (p : After) → b.pending ≡ Some a → P b → P (kept_after b a p)
+    poll_keeps a b after.Pending e w = w
+    poll_keeps a b (after.Answered answer) e w = ended b a _ e w
+    poll_keeps a b (after.Failed x) e w = ended b a _ e w
 
     polled_keeps : (a : Asked) (k end : Kept) (x y : Looks) (u : Met) (p : After) → k.pending ≡ Some a → P k → IsPolled login a k x u p end y → P end
     polled_keeps a k end x y u p e w r =
-        poll_keeps a r.following end u r.stop p r.pending (followed k r.following r.sent r.taken r.sent_is r.taken_is r.calls (r.pending ∙ sym e) w) r.ends
+        let f : Kept = moved_by k r.moves in
+        let same : f.pending ≡ k.pending = all_pending k r.moves in
+        subst P (sym r.ends) (poll_keeps a f p (same ∙ e) (followed k f (sent_by r.moves) (received_by r.moves) (all_sent k r.moves) (all_taken k r.moves) (all_calls k r.moves) same w))
 
     -- what each step leaves at its number
     refused_keeps : (h : Handle) (o : Outcome) (us : List Use) (t : Handle) → HasAt P h → IsRefused h o us t → HasAt P t
@@ -85,21 +90,21 @@ module _ (P : Kept → Type 0)
     calls_keeps n call o us h t other = on_keeps (λ k. BeginsOn k.pending login n call k) o us h t (λ k x. begins_on k.pending n call k x o us t refl other)
 
     -- a gathering
-    gathers_on : (More : Asked → Kept → Looks → Outcome → Handle → Type 0) (us : List Use) (a : Asked) (b end : Kept) (u : Met) (st : Stop) (y : Looks) (o : Outcome) (t : Handle) (p : After) → ((c : Asked) (k : Kept) (z : Looks) → k.pending ≡ Some c → P k → More c k z o t → HasAt P t) → P end → PollEnds login a b u st p end → GathersOn More a p end y o us t → HasAt P t
-    gathers_on More us a b end u st y o t after.Pending f w e r = subst (HasAt P) (sym r.2) w
-    gathers_on More us a b end u st y o t (after.Answered answers.Ready) f w e r = subst (HasAt P) (sym r.2) w
-    gathers_on More us a b end u st y o t (after.Answered (answers.Row row)) f w e r = f (next_asked end (gathered a ++ row ∷ [])) (asking end calls.NextRow (Some (gathered a ++ row ∷ []))) y refl (begun end calls.NextRow (Some (gathered a ++ row ∷ [])) (ap (λ (k : Kept). k.pending) e.0) refl w) r
-    gathers_on More us a b end u st y o t (after.Answered answers.SetEnd) f w e r = subst (HasAt P) (sym r.2) w
-    gathers_on More us a b end u st y o t (after.Answered answers.NoSet) f w e r = subst (HasAt P) (sym r.2) w
-    gathers_on More us a b end u st y o t (after.Answered (answers.Stmt s)) f w e r = subst (HasAt P) (sym r.2) w
-    gathers_on More us a b end u st y o t (after.Answered (answers.Flag flag)) f w e r = subst (HasAt P) (sym r.2) w
-    gathers_on More us a b end u st y o t (after.Failed x) f w e r = subst (HasAt P) (sym r.2) w
+    gathers_on : (More : Asked → Kept → Looks → Outcome → Handle → Type 0) (us : List Use) (a : Asked) (b end : Kept) (y : Looks) (o : Outcome) (t : Handle) (p : After) → ((c : Asked) (k : Kept) (z : Looks) → k.pending ≡ Some c → P k → More c k z o t → HasAt P t) → P end → end ≡ kept_after b a p → GathersOn More a p end y o us t → HasAt P t
+    gathers_on More us a b end y o t after.Pending f w e r = subst (HasAt P) (sym r.2) w
+    gathers_on More us a b end y o t (after.Answered answers.Ready) f w e r = subst (HasAt P) (sym r.2) w
+    gathers_on More us a b end y o t (after.Answered (answers.Row row)) f w e r = f (next_asked end (gathered a ++ row ∷ [])) (asking end calls.NextRow (Some (gathered a ++ row ∷ []))) y refl (begun end calls.NextRow (Some (gathered a ++ row ∷ [])) (ap (λ (k : Kept). k.pending) e) refl w) r
+    gathers_on More us a b end y o t (after.Answered answers.SetEnd) f w e r = subst (HasAt P) (sym r.2) w
+    gathers_on More us a b end y o t (after.Answered answers.NoSet) f w e r = subst (HasAt P) (sym r.2) w
+    gathers_on More us a b end y o t (after.Answered (answers.Stmt s)) f w e r = subst (HasAt P) (sym r.2) w
+    gathers_on More us a b end y o t (after.Answered (answers.Flag flag)) f w e r = subst (HasAt P) (sym r.2) w
+    gathers_on More us a b end y o t (after.Failed x) f w e r = subst (HasAt P) (sym r.2) w
 
     gathers_keeps : (n : ℕ) (us : List Use) (a : Asked) (k : Kept) (x : Looks) (o : Outcome) (t : Handle) → k.pending ≡ Some a → P k → Gathers login n us a k x o t → HasAt P t
     gathers_keeps n [] a k x o t e w r = absurd r
     gathers_keeps n (u ∷ us) a k x o t e w r =
         let polled = r.3 in
-        gathers_on (Gathers login n us) us a polled.following r.1 u.met polled.stop r.2 o t r.0 (λ c m z p v g. gathers_keeps n us c m z o t p v g) (polled_keeps a k r.1 x r.2 u.met r.0 e w polled) polled.ends r.4
+        gathers_on (Gathers login n us) us a (moved_by k polled.moves) r.1 r.2 o t r.0 (λ c m z p v g. gathers_keeps n us c m z o t p v g) (polled_keeps a k r.1 x r.2 u.met r.0 e w polled) polled.ends r.4
 
     collects_by : (b : Bool) (n : ℕ) (k : Kept) (x : Looks) (o : Outcome) (us : List Use) (t : Handle) → k.pending ≡ None → P k → Collects b login n k x o us t → HasAt P t
     collects_by true n k x o us t none w r = closed_keeps k x calls.NextRow o us t none refl w r

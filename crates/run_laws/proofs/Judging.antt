@@ -5,6 +5,7 @@ pub mod Polling
 pub mod Gathering
 pub mod Stepping
 pub mod Calling
+pub mod Failing
 pub mod Streaming
 pub mod Resuming
 pub mod Running

@@ -4,5 +4,6 @@ pub mod Tapes
 pub mod Ordering
 pub mod Judging
 pub mod Planning
+pub mod Polls
 pub mod Writing
 pub mod Refuting

@@ -1,11 +1,11 @@
 -- The calls of a connection's tape stand in order.
-use Rattle.std.proofs.Common.{ℕ, ◌≡◌, ◌==◌, ◌≤◌, nat_le, List, [], ◌∷◌, ◌++◌, length, is_some, Bool, true, false, ◌&&◌, Option, Some, None, refl, sym, ap, ◌∙◌, subst, length-append, arith}
+use Rattle.std.proofs.Common.{ℕ, ◌≡◌, ◌==◌, ◌≤◌, nat_le, List, [], ◌∷◌, ◌++◌, length, is_some, true, false, ◌&&◌, Option, Some, None, refl, sym, ap, ◌∙◌, subst, length-append, arith}
 use Rattle.std.proofs.lemmas.Bool.Decides.{nat_tests}
 use Rattle.my_value.specs.RowParts.{RowParts}
 use Rattle.my_grammar.specs.declared.login.Login.{Login}
 use Rattle.my_reading.specs.declared.call.Call.{Call}
 use Rattle.my_reading.specs.Calls.{kind_of, is_connect}
-use Rattle.my_reading.specs.Order.{IsInOrder, are_in_order, begins_first, is_within, leads_to}
+use Rattle.my_reading.specs.Order.{are_in_order, begins_first, is_within, leads_to}
 use Rattle.my_reading.specs.Tape.{Tape, TapeCall}
 use Rattle.my_client.specs.declared.tape.DoneCall.{DoneCall}
 use Rattle.my_client.specs.declared.tape.Said.{Said}

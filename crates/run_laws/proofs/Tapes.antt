@@ -13,7 +13,8 @@ use Rattle.my_world.specs.World.{Plans}
 use Rattle.my_steps.specs.Grows.{Line, handles_after}
 use Rattle.my_steps.specs.Handle.{Handle, Absent, Dialing, Joined, at_number}
 use Rattle.my_run.specs.Headline.{EachExplained, IsExplained}
-use Rattle.run_laws.specs.Tapes.{HasTape, EachTapeIsRead}
+use Rattle.history_laws.proofs.Gathering.{each_is_lawful}
+use Rattle.run_laws.specs.Tapes.{HasLaw, HasTape, EachTapeIsLawful, EachTapeIsRead}
 use Rattle.run_laws.proofs.Connecting.{IsOnce, at_once, both, connects_once, grown_once, left_of, none_connects, right_of}
 use Rattle.run_laws.proofs.Growing.{HasAt}
 use Rattle.run_laws.proofs.Ordering.{IsOrdered, grown_ordered}
@@ -39,7 +40,7 @@ tape_at login plan items Absent w o e = tt
 tape_at login plan items (Dialing left) w o e = tt
 tape_at login plan items (Joined there k x) w o e = record {
   first = first_read login (tape_kept k) (calls_kept k.calls k.pending) false (first_place login) w;
-  calls = e.0.read;
+  calls = e.0;
   order = record { first = o.first (tape_kept k); order = o.order };
 }
 
@@ -47,3 +48,12 @@ pub each_tape_is_read : EachTapeIsRead
 each_tape_is_read login plans before later steps answers tapes h n =
     tape_at login (plans.reads n) (plans.dials n) (at_number (handles_after h.lines) n) (at_once login (handles_after h.lines) n (grown_once login plans h.lines h.grown))
     (grown_ordered login plans h.lines n h.grown) (explained_now login plans h.lines h.explained n)
+
+law_at : (login : Login) (h : Handle) → HasTape login h → HasLaw login h
+law_at login Absent w = tt
+law_at login (Dialing left) w = tt
+law_at login (Joined there k x) w = λ bytes. each_is_lawful login (tape_kept k) bytes w
+
+pub each_tape_is_lawful : EachTapeIsLawful
+each_tape_is_lawful login plans before later steps answers tapes h n =
+    law_at login (at_number (handles_after h.lines) n) (each_tape_is_read login plans before later steps answers tapes h n)

@@ -1,6 +1,7 @@
 -- What holds of each connection's tape in a run.
 use Rattle.std.specs.Prelude.{ℕ, List}
 use Rattle.my_grammar.specs.declared.login.Login.{Login}
+use Rattle.my_frame.specs.FrontLaws.{AreBytes}
 use Rattle.my_reading.specs.Endings.{IsTape}
 use Rattle.my_script.specs.declared.step.Step.{Step}
 use Rattle.my_script.specs.declared.transcript.StepAnswer.{StepAnswer}
@@ -11,6 +12,7 @@ use Rattle.my_steps.specs.Dialing.{Course}
 use Rattle.my_steps.specs.Grows.{handles_after}
 use Rattle.my_steps.specs.Handle.{Handle, Absent, Dialing, Joined, at_number}
 use Rattle.my_run.specs.Headline.{Headline}
+use Rattle.history_laws.specs.Lawful.{IsLawfulTape}
 
 -- what is at a number has a tape of a client that logs in so
 abbrev pub HasTape : Login → Handle → Type 0
@@ -24,3 +26,15 @@ HasTape login (Joined there k x) = IsTape login (tape_kept k)
 abbrev pub EachTapeIsRead : Type 0
 EachTapeIsRead = (login : Login) (plans : Plans) (before later : Course) (steps : List Step) (answers : List StepAnswer) (tapes : List Tape)
     → (h : Headline login plans before later steps answers tapes) → (n : ℕ) → HasTape login (at_number (handles_after h.lines) n)
+
+-- Where what was received are bytes, the tape is lawful: it has one list of exchanges and one of calls of which all
+-- laws of history_laws hold.
+abbrev pub HasLaw : Login → Handle → Type 0
+HasLaw login Absent = Unit {0}
+HasLaw login (Dialing left) = Unit {0}
+HasLaw login (Joined there k x) = AreBytes k.taken → IsLawfulTape login (tape_kept k)
+
+abbrev pub EachTapeIsLawful : Type 0
+EachTapeIsLawful = (login : Login) (plans : Plans) (before later : Course) (steps : List Step)
+    (answers : List StepAnswer) (tapes : List Tape) → (h : Headline login plans before later steps answers tapes)
+    → (n : ℕ) → HasLaw login (at_number (handles_after h.lines) n)

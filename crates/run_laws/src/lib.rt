@@ -4,7 +4,7 @@
 
 ghost use Rattle.run_laws.specs.Accepts.{EachRefusalRefutes, EachRunIsRight};
 ghost use Rattle.run_laws.specs.Planned.{EachPlannedRefusalRefutes, EachPlannedRunIsRight, MemoryTells};
-ghost use Rattle.run_laws.specs.Tapes.{EachTapeIsRead};
+ghost use Rattle.run_laws.specs.Tapes.{EachTapeIsLawful, EachTapeIsRead};
 ghost use Rattle.run_laws.specs.Texts.{OneTextOneTranscript};
 ghost use Rattle.run_laws.specs.WrongStatements.{AreNoStatements};
 ghost use Rattle.run_laws.specs.WrongStreams.{AreNoStreams};
@@ -17,6 +17,13 @@ ghost use Rattle.run_laws.specs.Written.{ReadsAsItself};
 /// tape's end, and only the newest may be open.
 pub fn each_tape_is_read()
     ensures { EachTapeIsRead }
+{}
+
+/// So each of them is lawful: its exchanges began by the command table and are of its calls, what was sent and received
+/// is theirs, a connection that was made was set up, and callers were given what the grammar finds in the bytes that
+/// were received, with each error.
+pub fn each_tape_is_lawful()
+    ensures { EachTapeIsLawful }
 {}
 
 /// No run has one of these transcripts: a row, an end or an error that the bytes don't hold, an answer that comes too

@@ -1,6 +1,5 @@
-//! Talks with a server, as rows of text: what a session answers and sends, and what the bytes of a stream are cut into. Each talk is
-//! played over both sessions. The expected values are those of the public pages of the protocol and of worked conversations. This
-//! crate has tests alone.
+//! Talks with a server, as rows of text: what a session answers and sends, and what the bytes of a stream are cut into. The
+//! expected values are those of the public pages of the protocol and of worked conversations. This crate has tests alone.
 #![tactic(auto)]
 
 #[cfg(test)]

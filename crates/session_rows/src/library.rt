@@ -1,8 +1,5 @@
 //! A session used as a library: the caller carries the bytes.
 
-ghost use Rattle.std.specs.Prelude.{◌≡◌, true};
-ghost use Rattle.my_session.specs.Tasks.{is_open};
-
 use crate::given::{login, options, usual};
 use my_frame::{MemSink, MemSource, NoMemory, Sink, SinkStep, Source, SourceStep};
 use my_reading::{Answer, Call, Error};
@@ -17,16 +14,19 @@ fn carry<S: Source, K: Sink>(
     server: &mut S,
     out: &mut K,
     now: u64,
-) -> Result<Answer, Error>
-    requires { is_open session.old.seen.task ≡ true }
-{
+) -> Result<Answer, Error> {
     let mut buf = [0u8; 4096];
     'steps: for _ in 0..u64::MAX {
         match session.step(alloc, now) {
-            SessionStep::Send => match out.write(session.owed()) {
-                SinkStep::Took(count) => session.sent(count),
-                SinkStep::Failed => session.fail(LinkFault::Link),
-            },
+            SessionStep::Send => {
+                if session.owed().is_empty() {
+                    return Err(Error::NoMemory);
+                }
+                match out.write(session.owed()) {
+                    SinkStep::Took(count) => session.sent(count),
+                    SinkStep::Failed => session.fail(LinkFault::Link),
+                }
+            }
             SessionStep::Need => match server.read(&mut buf) {
                 SourceStep::Got(count) => session.take(&buf[..count])?,
                 SourceStep::End => session.end(),

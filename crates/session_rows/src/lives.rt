@@ -8,7 +8,6 @@ use my_params::Params;
 use my_reading::{Answer, Call};
 use my_session::{Session, SessionStep};
 use my_statements::Statement;
-use my_thin_session::Session as ThinSession;
 use my_value::Value;
 use std::alloc::Global;
 use std::fmt::Write;
@@ -87,11 +86,6 @@ fn lived_new<P: Peer>(alloc: Global) -> Result<String, NoMemory> {
 #[test]
 fn sessions_know_when_they_read_last(rt: HostRuntime) -> Result<(), Fail> {
     let text = lived_new::<Session>(rt.alloc())?;
-    assert!(rt;
-        text.as_str() == "0 5 true true s5 010000000e n5 r8 -8 4096 4096 7",
-        "{text}"
-    );
-    let text = lived_new::<ThinSession>(rt.alloc())?;
     assert!(rt;
         text.as_str() == "0 5 true true s5 010000000e n5 r8 -8 16384 16384 7",
         "{text}"
@@ -199,7 +193,6 @@ fn kept_new<P: Peer>(alloc: Global) -> Result<u32, NoMemory> {
 #[test]
 fn three_of_300_statements_are_kept(rt: HostRuntime) -> Result<(), Fail> {
     assert!(rt; kept_new::<Session>(rt.alloc())? == 301);
-    assert!(rt; kept_new::<ThinSession>(rt.alloc())? == 301);
     Ok(())
 }
 
@@ -256,6 +249,5 @@ fn sends_ahead_new<P: Peer>(alloc: Global) -> Result<bool, NoMemory> {
 #[test]
 fn a_long_value_is_sent_ahead(rt: HostRuntime) -> Result<(), Fail> {
     assert!(rt; sends_ahead_new::<Session>(rt.alloc())?);
-    assert!(rt; sends_ahead_new::<ThinSession>(rt.alloc())?);
     Ok(())
 }

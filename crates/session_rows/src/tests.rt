@@ -1,4 +1,4 @@
-//! The tests of talks, each over both sessions.
+//! The tests of talks.
 
 use crate::play::fault_of_talk;
 use crate::rows::changes::CHANGES;
@@ -9,19 +9,16 @@ use crate::rows::talks::TALKS;
 use crate::rows::transactions::TRANSACTIONS;
 use my_frame::NoMemory;
 use my_session::Session;
-use my_thin_session::Session as ThinSession;
 use std::alloc::Global;
 use std::process::Abort;
 use std::test::Fail;
 
-// Plays each talk over both, and returns how many there are.
+// Plays each talk, and returns how many there are.
 fn played(rt: &impl Abort, alloc: Global, talks: &str) -> Result<u64, NoMemory> {
     let mut count = 0u64;
     for talk in talks.split("\n\n") {
         let fault = fault_of_talk::<Session>(alloc, talk)?;
         assert!(rt; fault.is_empty(), "{talk}\n{fault}");
-        let fault = fault_of_talk::<ThinSession>(alloc, talk)?;
-        assert!(rt; fault.is_empty(), "thin: {talk}\n{fault}");
         count = count.wrapping_add(1);
     }
     Ok(count)

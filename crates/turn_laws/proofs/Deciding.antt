@@ -21,15 +21,14 @@ use Rattle.my_reading.specs.Place.{Place, first_place, with_bytes}
 use Rattle.my_reading.specs.Reading.{halt_of, is_closing, read_calls, reading}
 use Rattle.my_reading.specs.Tape.{Span, spans}
 use Rattle.my_reading.specs.Told.{Told, ToldReady, ToldRow, ToldEnd, ToldNone, ToldStatement, ToldFlag, ToldError, ToldPassed, Dropped, told}
-use Rattle.my_session.specs.Machine.{refused_by}
-use Rattle.my_session.proofs.Refusals.{begin_own, values_own}
+use Rattle.turn_laws.proofs.Refusing.{begin_own, refused_by, values_own}
 use Rattle.my_client.specs.declared.poll.After.{After}
 use Rattle.my_client.specs.declared.poll.After.TheVariants.{Pending, Answered, Failed}
-use Rattle.my_client.specs.Drives.{kept_after}
+use Rattle.my_client.specs.Ends.{kept_after}
 use Rattle.my_client.specs.Kept.{Asked, Kept}
 use Rattle.my_client.specs.Reads.{facts_kept, newest_stop, stop_kept, tape_kept}
-use Rattle.my_thin_client.specs.Polls.{comes_at, comes_to, if_full, met_in, moved_by, told_of, IsPolled}
-use Rattle.my_thin_client.proofs.Stopping.{AreTold, StopsSo, TellsSo, run_tells, step_stops}
+use Rattle.my_client.specs.Polls.{comes_at, comes_to, if_full, met_in, moved_by, told_of, IsPolled}
+use Rattle.my_client.proofs.Stopping.{AreTold, StopsSo, TellsSo, run_tells, step_stops}
 use Rattle.turn_laws.specs.Decided.{EachCallReturns, EachErrorIsOwn, EachHasCause, EachIsAnswer, EachIsDecided, EachIsReturned, EachStepReturns, IsBecause, IsFailed, IsPending, IsPollError, IsPollIo, IsPollKind, IsReadError, IsReadIo, IsReadKind, IsReadTold}
 
 -- a result is told by one value alone

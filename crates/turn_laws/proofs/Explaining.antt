@@ -24,17 +24,17 @@ use Rattle.my_client.specs.declared.poll.After.{After}
 use Rattle.my_client.specs.declared.poll.After.TheVariants.{Pending, Answered, Failed}
 use Rattle.my_client.specs.declared.tape.Said.{Said}
 use Rattle.my_client.specs.declared.tape.Said.TheVariants as says
-use Rattle.my_client.specs.Drives.{kept_after}
+use Rattle.my_client.specs.Ends.{kept_after}
 use Rattle.my_client.specs.Kept.{Asked, Kept, asking, ended_by, told_by}
 use Rattle.my_client.specs.Reads.{ComesTo, EndedRead, IsWaiting, calls_kept, facts_kept, place_kept, spans_to, stop_kept, tape_kept}
 use Rattle.my_client.proofs.TapeRead.{ended_more, no_bytes, span_open}
 use Rattle.my_client.proofs.TapeRead.Lists.{spans_at_rest}
 use Rattle.my_client.proofs.TapeRead.Stopping.{place_open, stop_open}
-use Rattle.my_thin_client.specs.Polls.{AreInTurn, IsInTurn, moved_by, moved_on}
-use Rattle.my_thin_client.specs.Stands.{IsSaid}
-use Rattle.my_thin_client.proofs.Ending.{broken_read, cancelled_read, cut_read, no_return, place_is, returned_read, same_stop, waiting_read}
-use Rattle.my_thin_client.proofs.Moving.{all_pending, bytes_on, only_sent, only_taken, started, started_on}
-use Rattle.my_thin_client.proofs.Stopping.{awaits_here, both_lead, owes_here}
+use Rattle.my_client.specs.Polls.{AreInTurn, IsInTurn, moved_by, moved_on}
+use Rattle.my_client.specs.Stands.{IsSaid}
+use Rattle.my_client.proofs.Ending.{broken_read, cancelled_read, cut_read, no_return, place_is, returned_read, same_stop, waiting_read}
+use Rattle.my_client.proofs.Moving.{all_pending, bytes_on, only_sent, only_taken, started, started_on}
+use Rattle.my_client.proofs.Stopping.{awaits_here, both_lead, owes_here}
 use Rattle.history_laws.proofs.Keeping.{calls_keep}
 use Rattle.turn_laws.specs.Decided.{IsBecause, IsFailed}
 use Rattle.turn_laws.specs.Explained.{BegunIsExplained, CancelledIsExplained, IsExplained, IsExplainedBy, IsRest, IsSoFar, NothingIsExplained, PolledIsExplained, RestIsRead, WaitingIsRead}

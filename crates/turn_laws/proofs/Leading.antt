@@ -12,7 +12,7 @@ use Rattle.my_reading.specs.Leads.{Leads, Here, Then}
 use Rattle.my_reading.specs.Place.{Place, begins_with, client_side, exchanges, with_exchange, with_talk}
 use Rattle.my_machine.proofs.Shrinking.{size, size_of, step_size}
 use Rattle.history_laws.proofs.Moving.{Moved, Alters, Takes, Begins, IsAlike, place_of, step_moves}
-use Rattle.my_thin_client.specs.Stands.{IsSaid}
+use Rattle.my_client.specs.Stands.{IsSaid}
 
 -- the steps of a call lead to one that stops
 pub record Led (login : Login) (call : Call) (parts : List Part) (p : Place) : Type 0 where

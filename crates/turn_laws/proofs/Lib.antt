@@ -1,5 +1,6 @@
 pub mod Deciding
 pub mod Explaining
 pub mod Leading
+pub mod Refusing
 pub mod Standing
 pub mod Turning

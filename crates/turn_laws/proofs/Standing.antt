@@ -7,13 +7,13 @@ use Rattle.my_machine.specs.Runs.{parts_left}
 use Rattle.my_reading.proofs.Leading.{leads_to_course}
 use Rattle.my_reading.specs.Course.{Halt, course, halt, parts_of}
 use Rattle.my_reading.specs.Place.{with_bytes}
-use Rattle.my_thin_session.specs.Sessions.{Seen}
+use Rattle.my_session.specs.Sessions.{Seen}
 use Rattle.my_client.specs.Kept.{Asked, Kept}
 use Rattle.my_client.proofs.TapeRead.{no_bytes}
 use Rattle.my_client.proofs.TapeRead.Stopping.{place_open}
-use Rattle.my_thin_client.specs.Stands.{IsSaid, StandsAt, StandsClosed, StandsIdle, StandsOpen}
-use Rattle.my_thin_client.proofs.Moving.{said_at, started}
-use Rattle.my_thin_client.proofs.Stopping.{both_lead}
+use Rattle.my_client.specs.Stands.{IsSaid, StandsAt, StandsClosed, StandsIdle, StandsOpen}
+use Rattle.my_client.proofs.Moving.{said_at, started}
+use Rattle.my_client.proofs.Stopping.{both_lead}
 use Rattle.turn_laws.specs.Explained.{IsExplainedBy, IsRest, IsSoFar, StandsIsExplained}
 use Rattle.turn_laws.proofs.Leading.{Led, Sound, led, led_sound}
 

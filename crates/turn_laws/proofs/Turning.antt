@@ -17,7 +17,7 @@ use Rattle.my_link.specs.declared.link.ReadItem.TheVariants.{Bytes, Turn}
 use Rattle.my_link.specs.Moves.{Move, Received, Sent, ReadHold}
 use Rattle.my_client.specs.Kept.{Kept, first_kept}
 use Rattle.my_client.specs.Reads.{stop_kept}
-use Rattle.my_thin_client.specs.Polls.{AreInTurn, IsInTurn}
+use Rattle.my_client.specs.Polls.{AreInTurn, IsInTurn}
 use Rattle.reading_laws.specs.Bytes.{root, greeting, response, rolls_back, pings}
 use Rattle.turn_laws.specs.Turns.{NoEarlyPing, PingInTurn, NoEarlyLogin, NoFaultOutOfTurn, NoReadingOn, RightLogin, planned, forgot}
 

@@ -23,7 +23,7 @@ use Rattle.my_client.specs.declared.poll.After.{After}
 use Rattle.my_client.specs.declared.poll.After.TheVariants.{Pending, Answered, Failed}
 use Rattle.my_client.specs.Kept.{Asked, Kept}
 use Rattle.my_client.specs.Reads.{ComesTo, facts_kept, stop_kept}
-use Rattle.my_thin_client.specs.Polls.{comes_at, moved_by, told_of, IsPolled}
+use Rattle.my_client.specs.Polls.{comes_at, moved_by, told_of, IsPolled}
 
 -- Two polls with the same moves that stopped alike met the same, returned the same, and it is kept alike.
 abbrev pub EachIsDecided : Type 0

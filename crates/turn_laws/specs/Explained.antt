@@ -12,9 +12,9 @@ use Rattle.my_client.specs.declared.poll.After.{After}
 use Rattle.my_client.specs.declared.tape.Said.TheVariants.{Cancelled}
 use Rattle.my_client.specs.Kept.{Asked, Kept, asking, ended_by, nothing_kept}
 use Rattle.my_client.specs.Reads.{EndedRead, IsRead, IsWaiting, place_kept}
-use Rattle.my_thin_client.specs.Polls.{IsPolled}
-use Rattle.my_thin_session.specs.Sessions.{Seen}
-use Rattle.my_thin_client.specs.Stands.{IsSaid, Stands}
+use Rattle.my_client.specs.Polls.{IsPolled}
+use Rattle.my_session.specs.Sessions.{Seen}
+use Rattle.my_client.specs.Stands.{IsSaid, Stands}
 
 -- The calls that ended are as the reading says. No call is open, and each byte that was sent is one of the exchanges.
 pub record IsRest (login : Login) (k : Kept) : Type 0 where

@@ -17,7 +17,7 @@ use Rattle.my_client.specs.declared.tape.DoneCall.{DoneCall}
 use Rattle.my_client.specs.declared.tape.Said.TheVariants as says
 use Rattle.my_client.specs.Kept.{Asked, Kept, first_asked, first_kept}
 use Rattle.my_client.specs.Reads.{stop_kept}
-use Rattle.my_thin_client.specs.Polls.{moved_by, AreInTurn, comes_to, IsPolled}
+use Rattle.my_client.specs.Polls.{moved_by, AreInTurn, comes_to, IsPolled}
 use Rattle.reading_laws.specs.Bytes.{root, greeting, response, fine, starts, rolls_back, pings}
 
 -- a transaction was given up, and a ping begins

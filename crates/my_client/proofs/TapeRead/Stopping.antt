@@ -1,20 +1,17 @@
--- Where the newest call of what was kept stops, and where its reading stands.
-use Rattle.std.proofs.Common.{◌≡◌, ◌≢◌, ℕ, List, [], ◌∷◌, ◌++◌, Bool, true, false, ◌||◌, Some, None, inl, inr, refl, sym, ap, ◌∙◌}
+-- Where the reading of a tape stops, and what closes it.
+use Rattle.std.proofs.Common.{◌≡◌, ℕ, List, [], ◌∷◌, ◌++◌, Bool, true, false, ◌||◌, Some, refl, sym, ap, ◌∙◌}
 use Rattle.my_grammar.specs.declared.login.Login.{Login}
-use Rattle.my_reading.specs.Course.{Part, Stop, Owes, Awaits, Returns, Stops, Halt, step}
-use Rattle.my_reading.specs.Leads.{Leads}
-use Rattle.my_reading.specs.Place.{Place, first_place, facts_at}
+use Rattle.my_reading.specs.Course.{Stop, Returns, Halt}
+use Rattle.my_reading.specs.Place.{Place, first_place}
 use Rattle.my_reading.specs.Calls.{kind_of}
 use Rattle.my_reading.specs.Told.{closes}
-use Rattle.my_reading.specs.Reading.{ReadCall, Reading, read_calls, reading, halt_of, closed_answer}
-use Rattle.my_reading.specs.Tape.{Span, spans_from}
-use Rattle.my_session.specs.Seen.{Seen}
-use Rattle.my_session.specs.History.{Made, has_closed}
+use Rattle.my_reading.specs.Reading.{ReadCall, Reading, read_calls, halt_of, closed_answer}
 use Rattle.my_client.specs.declared.tape.DoneCall.{DoneCall}
 use Rattle.my_client.specs.Kept.{Asked, Kept, made_of, told_by}
-use Rattle.my_client.specs.Reads.{calls_kept, tape_kept, place_kept, facts_kept, newest_stop, stop_kept, IsWaiting, AsksAt, spans_to, EndedRead, RestRead, OpenRead, StoppedRead}
-use Rattle.my_client.proofs.TapeRead.{course_is, open_halt, open_reading, reading_before, span_open, stopped_course}
-use Rattle.my_client.proofs.TapeRead.Lists.{one_read, spans_at_rest}
+use Rattle.my_client.specs.Made.{Made, has_closed}
+use Rattle.my_client.specs.Reads.{place_kept, newest_stop, stop_kept, spans_to, EndedRead}
+use Rattle.my_client.proofs.TapeRead.{open_halt, open_reading, reading_before, span_open}
+use Rattle.my_client.proofs.TapeRead.Lists.{one_read}
 
 newest_more : (cs : List ReadCall) (c : ReadCall) → newest_stop (cs ++ c ∷ []) ≡ Some c.halt.stop
 newest_more [] c = refl
@@ -31,44 +28,6 @@ module _ (login : Login) (k : Kept) (a : Asked) (closed : Bool) (before : Place)
 
   pub place_open : place_kept login k ≡ (halt_of login closed (span_open k a) before).place
   place_open = ap (λ (r : Reading). r.place) (open_reading login k a pending) ∙ ap (λ (h : Halt). h.place) (open_halt login k a closed before w)
-
--- by the steps that lead to its stop
-pub stop_led : (login : Login) (s : Seen) (k : Kept) (a : Asked) (o : OpenRead login s k a) (rest : List Part) (r q : Place) (stop : Stop) → k.pending ≡ Some a
-    → Leads login a.call o.parts o.place rest r → step login a.call rest r ≡ Stops q stop → stop_kept login k ≡ Some stop
-stop_led login s k a o rest r q stop pending l e =
-    stop_open login k a false o.before o.ended pending ∙ ap (λ (h : Halt). Some h.stop) (course_is login s k a o rest r q stop l e)
-
--- the call stopped for bytes
-module _ (login : Login) (s : Seen) (k : Kept) (a : Asked) (w : StoppedRead login s k a) (pending : k.pending ≡ Some a) where
-  stop_here : stop_kept login k ≡ Some w.stop
-  stop_here = stop_open login k a false w.so_far.before w.so_far.ended pending ∙ ap (λ (h : Halt). Some h.stop) (stopped_course login s k a w)
-
-  pub place_here : place_kept login k ≡ w.so_far.place
-  place_here = place_open login k a false w.so_far.before w.so_far.ended pending ∙ ap (λ (h : Halt). h.place) (stopped_course login s k a w)
-
-  pub owes_kept : s.owed ≢ [] → stop_kept login k ≡ Some Owes
-  owes_kept some = by_stop w.stop w.asks stop_here
-    where
-      by_stop : (stop : Stop) → AsksAt s stop → stop_kept login k ≡ Some stop → stop_kept login k ≡ Some Owes
-      by_stop Owes asks e = e
-      by_stop Awaits asks e = absurd (some asks)
-      by_stop (Returns t) asks e = absurd asks
-
-  pub awaits_kept : s.owed ≡ [] → stop_kept login k ≡ Some Awaits
-  awaits_kept none = by_stop w.stop w.asks stop_here
-    where
-      by_stop : (stop : Stop) → AsksAt s stop → stop_kept login k ≡ Some stop → stop_kept login k ≡ Some Awaits
-      by_stop Owes asks e = absurd (asks none)
-      by_stop Awaits asks e = e
-      by_stop (Returns t) asks e = absurd asks
-
-  pub waits_kept : IsWaiting login k
-  waits_kept = by_stop w.stop w.asks stop_here
-    where
-      by_stop : (stop : Stop) → AsksAt s stop → stop_kept login k ≡ Some stop → IsWaiting login k
-      by_stop Owes asks e = inl e
-      by_stop Awaits asks e = inr e
-      by_stop (Returns t) asks e = absurd asks
 
 or_or : (a b c : Bool) → (a || b) || c ≡ a || (b || c)
 or_or true b c = refl
@@ -106,15 +65,3 @@ stop_closed login k a pending shut =
     ap (λ (x : Reading). newest_stop x.calls) (open_reading login k a pending)
     ∙ newest_more r.calls (one_read login r (span_open k a))
     ∙ ap (λ b. Some (halt_of login b (span_open k a) r.place).stop) (spans_closed login k.sent k.taken k.calls a.sent_from a.taken_from false (first_place login) ∙ shut)
-
--- at rest the session knows what the server said
-pub place_rest : (login : Login) (s : Seen) (k : Kept) → k.pending ≡ None → (w : RestRead login s k) → place_kept login k ≡ w.place
-unfolding reading
-place_rest login s k none w =
-    ap (λ (ss : List Span). (read_calls login ss false (first_place login)).place)
-    (ap (λ p. spans_from (tape_kept k) (calls_kept k.calls p)) none ∙ spans_at_rest k.sent k.taken (tape_kept k) refl refl k.calls)
-    ∙ w.ended.place_is
-
-pub facts_rest : (login : Login) (s : Seen) (k : Kept) → k.pending ≡ None → s.login ≡ login → RestRead login s k → s.facts ≡ facts_kept login k
-facts_rest login s k none log w =
-    w.at.mirrors.facts_are ∙ ap (λ l. facts_at l w.place) log ∙ ap (λ (p : Place). facts_at login p) (sym (place_rest login s k none w))

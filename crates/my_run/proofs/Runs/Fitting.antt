@@ -11,7 +11,7 @@ use Rattle.my_link.specs.declared.dialer.DialItem.{DialItem}
 use Rattle.my_link.specs.declared.dialer.DialItem.TheVariants.{Wait}
 use Rattle.my_link.specs.Link.{Told}
 use Rattle.my_link.specs.Looks.{Looks}
-use Rattle.my_link.specs.Moves.{Stop, IsUsed}
+use Rattle.my_link.specs.Moves.{Stop, IsUsed, received_by, sent_by}
 use Rattle.my_link.specs.Spent.{Whole, HasGot, ReadsSpent, IsSpent, FaultsSpent}
 use Rattle.my_link.proofs.Spending.{used_spent}
 use Rattle.my_reading.specs.declared.answer.Answer.TheVariants as answers
@@ -25,12 +25,13 @@ use Rattle.my_script.specs.declared.step.Step.TheVariants as steps
 use Rattle.my_script.specs.declared.transcript.Outcome.{Outcome}
 use Rattle.my_script.specs.declared.transcript.Use.{Use}
 use Rattle.my_script.specs.Streams.{is_skip}
-use Rattle.my_client.specs.Causes.{IsPolled, PollEnds}
 use Rattle.my_client.specs.Kept.{Asked, Kept, asking, asked_by}
 use Rattle.my_world.specs.World.{Plans, HeldBy, IsFresh}
+use Rattle.my_client.specs.Polls.{IsPolled}
 use Rattle.my_steps.specs.Grows.{IsRefused, OnConnection, PolledOnce, IsClosed, Begins, BeginsOn, Calls, ConnectShows, Connects, HasPlan, IsNew, Dials, Holds, Fails, Links, Gathers, GathersOn, Collects, CollectsOn, CollectsAt, PollsOn, PollsCall, ThenTakes, Skips, Takes, TakesOn, StreamsAt, CallsWhere, LetsGoWith, UnstreamsAt, ExecutesAt, ClosesAt, GoesOnWith, GoesOn, CancelsWith, Cancels, TellsWith, TellsFields, At, StepGrows, is_done, skips_first}
 use Rattle.my_steps.specs.Handle.{Handle, Absent, Dialing, Joined, at_number, put_at}
 use Rattle.my_run.specs.Headline.{FitsLink, HasWaited, waits}
+use Rattle.my_run.proofs.Polls.{sent_so, taken_so, used_so}
 
 -- what is at a number fits its link's plan, and the items for its dials
 abbrev pub IsFit : Option (List ReadItem) → Option (List DialItem) → Handle → Type 0
@@ -69,18 +70,11 @@ module _ (plan : Option (List ReadItem)) (items : Option (List DialItem)) where
       let v = used_spent plan None x y sent taken out came stop 0 u s in
       record { got = v.got; reads = v.reads }
 
-  -- what a poll came to keeps the bytes
-  ends_fits : (login : Login) (a : Asked) (k end : Kept) (y : Looks) (u : Met) (stop : Stop) (p : After) → PollEnds login a k u stop p end → FitsLink plan y k.sent k.taken → FitsLink plan y end.sent end.taken
-  ends_fits login a k end y u stop after.Pending e f = subst (λ (m : Kept). FitsLink plan y m.sent m.taken) (sym e.0) f
-  ends_fits login a k end y u stop (after.Answered answer) e f = subst (λ (m : Kept). FitsLink plan y m.sent m.taken) (sym e.0) f
-  ends_fits login a k end y u stop (after.Failed x) e f = subst (λ (m : Kept). FitsLink plan y m.sent m.taken) (sym e.0) f
-
   polled_fits : (login : Login) (a : Asked) (k end : Kept) (x y : Looks) (u : Met) (p : After) → IsPolled login a k x u p end y → FitsLink plan x k.sent k.taken → FitsLink plan y end.sent end.taken
   polled_fits login a k end x y u p w f =
-      ends_fits login a w.following end y u w.stop p w.ends
-      (subst (λ (bs : List ℕ). FitsLink plan y bs w.following.taken) (sym w.sent_is)
-      (subst (λ (bs : List ℕ). FitsLink plan y (k.sent ++ w.sent) bs) (sym w.taken_is)
-      (fits_used x y k.sent k.taken w.sent w.taken w.stop w.used f)))
+      subst (λ (bs : List ℕ). FitsLink plan y bs end.taken) (sym (sent_so login a k x u p end y w))
+      (subst (λ (bs : List ℕ). FitsLink plan y (k.sent ++ sent_by w.moves) bs) (sym (taken_so login a k x u p end y w))
+      (fits_used x y k.sent k.taken (sent_by w.moves) (received_by w.moves) w.stop (used_so login a k x u p end y w) f))
 
   once_fits : (login : Login) (n : ℕ) (a : Asked) (k : Kept) (x : Looks) (o : Outcome) (us : List Use) (t : Handle) → FitsLink plan x k.sent k.taken → PolledOnce login n a k x o us t → IsFit plan items t
   once_fits login n a k x o us t f r = subst (IsFit plan items) (sym r.left) (polled_fits login a k r.end x r.link r.used.met r.after r.polled f)

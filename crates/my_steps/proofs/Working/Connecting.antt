@@ -25,28 +25,25 @@ use Rattle.my_client.specs.Drives.{Drives}
 use Rattle.my_steps.specs.Grows.{ConnectShows, Connects, HasPlan, IsNew, Dials, Holds, Fails, Links, DialsNext}
 use Rattle.my_client.specs.Kept.{Asked, Kept, first_asked, first_kept}
 use Rattle.my_world.specs.World.{Plans, SameAt, SameBut, SameLink, HeldBy, FailedBy, GivenBy, IsFresh, DialCounts}
-use Rattle.my_client.specs.Ready.{StandsBy}
-use Rattle.my_steps.specs.Keeps.{IsStood, AreStood, AreAwaited}
+use Rattle.my_steps.specs.Keeps.{StandsBy, IsStood, AreStood, AreAwaited}
 use Rattle.my_link.specs.Looks.{Looks}
 use Rattle.my_handshake.specs.Version.{version_of}
 use Rattle.my_reading.specs.declared.facts.Facts.{Facts}
-use Rattle.my_link.specs.Moves.{Stop}
-use Rattle.my_client.specs.Causes.{PollEnds}
-use Rattle.my_client.specs.Reads.{ReadsAs}
-use Rattle.my_client.proofs.TapeRead.Stopping.{facts_rest}
-use Rattle.my_client.specs.Rests.{Rests}
+use Rattle.my_client.specs.Reads.{place_kept}
 use Rattle.my_client.specs.Conn.{kept_of}
+use Rattle.my_client.proofs.Resting.{at_facts, rests_at}
 use Rattle.my_steps.specs.Slot.{HasLink, handle_with, handle_of, handles_in}
 use Rattle.my_steps.proofs.Working.Awaiting.{link_trans, link_at, awaited_on, linked_awaited, linked_handle, awaited_end, awaited_push, handles_length, handles_push}
+use Rattle.my_steps.proofs.Working.Standing.{rests_after}
 
 -- the handshake was polled
-shows : {L : Type 0} (look : L → Looks) (login : Login) (n : ℕ) (c : TapedConn L) (after : After) (slot : Slot L) (o : Outcome) (a : Asked) (k : Kept) (u : Met) (stop : Stop) → PollEnds login a k u stop after (kept_of c) → Rests login c.session.seen (kept_of c) → Settles c n after slot o → ConnectShows login n after (kept_of c) (look c.link) o (handle_of look slot)
-shows look login n c after.Pending slot o a k u stop ends w s = (s.1, ap (handle_of look) s.0)
-shows look login n c (after.Answered answer) slot o a k u stop ends w s =
-    let none : (kept_of c).pending ≡ None = ap (λ (x : Kept). x.pending) ends.0 in
-    let facts = facts_rest login c.session.seen (kept_of c) none w.heard.login_is (subst (ReadsAs login c.session.seen (kept_of c)) none w.read) in
-    (s.1 ∙ ap (λ (x : Facts). Connected n x.connection (version_of x.version)) facts, ap (handle_of look) s.0)
-shows look login n c (after.Failed x) slot o a k u stop ends w s = (s.1, ap (handle_of look) s.0)
+shows : {L : Type 0} (look : L → Looks) (login : Login) (n : ℕ) (a : Asked) (k : Kept) (x : Looks) (c : TapedConn L) (met : Met) (after : After) (slot : Slot L) (o : Outcome) → Drives login a c.session.seen x (look c.link) k (kept_of c) met after → Settles c n after slot o → ConnectShows login n after (kept_of c) (look c.link) o (handle_of look slot)
+shows look login n a k x c met after.Pending slot o w s = (s.1, ap (handle_of look) s.0)
+shows look login n a k x c met (after.Answered answer) slot o w s =
+    let none : (kept_of c).pending ≡ None = ap (λ (q : Kept). q.pending) w.polled.ends in
+    let facts = sym (at_facts login (place_kept login (kept_of c)) c.session.seen.stand (rests_at login c.session.seen (kept_of c) w.stands none)) in
+    (s.1 ∙ ap (λ (f : Facts). Connected n f.connection (version_of f.version)) facts, ap (handle_of look) s.0)
+shows look login n a k x c met (after.Failed e) slot o w s = (s.1, ap (handle_of look) s.0)
 
 slot_is : {L : Type 0} (P : Slot L → Type 0) (c : TapedConn L) (n : ℕ) (after : After) (slot : Slot L) (o : Outcome) → Settles c n after slot o → P (There c) → P (Ended c) → P slot
 slot_is P c n after.Pending slot o s p q = subst P (sym s.0) p
@@ -55,12 +52,12 @@ slot_is P c n (after.Failed e) slot o s p q = subst P (sym s.0) q
 
 pub joins : {L : Type 0} (look : L → Looks) (login : Login) (n : ℕ) (a : Asked) (k : Kept) (x : Looks) (c : TapedConn L) (met : Met) (p : After) (slot : Slot L) (o : Outcome) → Drives login a c.session.seen x (look c.link) k (kept_of c) met p → Settles c n p slot o → Joins look login n a k x slot o (use_of n met)
 joins {L} look login n a k x c met p slot o w s =
-    let stands : StandsBy login c = record { rests = w.rests; stepped = w.stepped } in
+    let stands : StandsBy login c = rests_after login a c.session.seen x (look c.link) k (kept_of c) met p w in
     record {
       stood = slot_is (IsStood login) c n p slot o s stands stands;
       linked = slot_is HasLink c n p slot o s tt tt;
       number = refl;
-      does = record { number = refl; after = p; end = kept_of c; link = look c.link; polled = w.polled; shows = shows look login n c p slot o a w.polled.following met w.polled.stop w.polled.ends w.rests s };
+      does = record { number = refl; after = p; end = kept_of c; link = look c.link; polled = w.polled; shows = shows look login n a k x c met p slot o w s };
     }
 
 -- a slot more

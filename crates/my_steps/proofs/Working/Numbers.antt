@@ -1,5 +1,5 @@
 -- What a step at one number does to all numbers.
-use Rattle.std.proofs.Common.{ℕ, ◌≡◌, ◌&&◌, ◌+◌, ◌<◌, false, ◌≤◌, zero, suc, List, [], ◌∷◌, length, map, get_or, slice_set, Result, Ok, Err, IfOk, OnOk, refl, sym, ap, ◌∙◌, subst, arith}
+use Rattle.std.proofs.Common.{ℕ, ◌≡◌, ◌&&◌, ◌+◌, ◌<◌, false, ◌≤◌, zero, suc, List, [], ◌∷◌, length, get_or, slice_set, Result, Ok, Err, IfOk, OnOk, refl, sym, ap, ◌∙◌, subst, arith}
 use Rattle.my_grammar.specs.declared.login.Login.{Login}
 use Rattle.my_steps.specs.declared.slot.Slot.{Slot}
 use Rattle.my_script.specs.declared.transcript.Outcome.{Outcome}
@@ -38,11 +38,6 @@ stood_set : {L : Type 0} (login : Login) (ss : List (Slot L)) (n : ℕ) (y : Slo
 stood_set login [] n y w st = tt
 stood_set login (s ∷ ss) zero y w st = (w, st.1)
 stood_set login (s ∷ ss) (suc n) y w st = (st.0, stood_set login ss n y w st.1)
-
-pub handle_got : {L : Type 0} (look : L → Looks) (ss : List (Slot L)) (n : ℕ) (d : Slot L) → n < length ss → at_number (map (handle_of look) ss) n ≡ handle_of look (get_or ss n d)
-handle_got look [] n d h = absurd (omega (arith, h))
-handle_got look (s ∷ ss) zero d h = refl
-handle_got look (s ∷ ss) (suc n) d h = handle_got look ss n d (omega (arith, h))
 
 length_set : {L : Type 0} (ss : List (Slot L)) (n : ℕ) (y : Slot L) → length (slice_set ss n y) ≡ length ss
 length_set [] n y = refl

@@ -62,37 +62,9 @@ carried login plans false named (steps.ForgetTransaction n) hs o us ts w = w
 
 -- an order may be carried out
 pub may_carry : (takes found : Bool) (named : Option StatementView) (step : Step) → may_stand takes step ≡ true → MayCarry takes (order_of found named step)
-may_carry takes found named steps.Conn e = tt
-may_carry takes found named (steps.Query n text) e = refl
-may_carry takes found named (steps.Prepare n text) e = refl
-may_carry takes found (Some s) (steps.Execute n number params) e = refl
-may_carry takes found None (steps.Execute n number params) e = tt
-may_carry takes found (Some s) (steps.CloseStatement n number) e = refl
-may_carry takes found None (steps.CloseStatement n number) e = tt
-may_carry takes found named (steps.Next n) e = refl
-may_carry takes found named (steps.Collect n) e = tt
-may_carry takes found named (steps.Drop n) e = refl
-may_carry takes found named (steps.Ping n) e = refl
-may_carry takes found named (steps.Reset n) e = refl
-may_carry takes found named (steps.User n change) e = refl
-may_carry takes found named (steps.Begin n opts) e = refl
-may_carry takes found named (steps.Quit n) e = refl
-may_carry takes found named (steps.Stream n) e = tt
-may_carry takes found named (steps.Fields n) e = tt
-may_carry takes found named (steps.Poll n) e = tt
-may_carry takes found named (steps.Cancel n) e = tt
 may_carry takes found named (steps.Advance by) e = (e, tt)
 may_carry takes found named (steps.Random word) e = (e, tt)
-may_carry takes true named (steps.Item n) e = refl
-may_carry takes false named (steps.Item n) e = tt
-may_carry takes true named (steps.Unstream n) e = tt
-may_carry takes false named (steps.Unstream n) e = tt
-may_carry takes true named (steps.Commit n) e = refl
-may_carry takes false named (steps.Commit n) e = tt
-may_carry takes true named (steps.Rollback n) e = refl
-may_carry takes false named (steps.Rollback n) e = tt
-may_carry takes true named (steps.ForgetTransaction n) e = refl
-may_carry takes false named (steps.ForgetTransaction n) e = tt
+may_carry takes found named _ e = tt
 
 and_false : (b : Bool) → b && false ≡ false
 and_false true = refl

@@ -2,39 +2,33 @@
 use Rattle.std.proofs.Common.{ℕ, ◌≡◌, List, [], ◌∷◌, Option, Some, None, is_some, Bool, true, false, refl, sym, subst}
 use Rattle.my_value.specs.RowParts.{RowParts}
 use Rattle.my_grammar.specs.declared.login.Login.{Login}
+use Rattle.my_link.specs.Looks.{Looks}
 use Rattle.my_reading.specs.Calls.{kind_of, is_connect}
-use Rattle.my_script.specs.Streams.{is_skip}
-use Rattle.my_session.specs.Tasks.{is_open}
-use Rattle.my_client.specs.declared.conn.TapedConn.{TapedConn}
-use Rattle.my_steps.specs.declared.slot.Slot.{Slot}
-use Rattle.my_steps.specs.declared.slot.Slot.TheVariants.{Held, There}
 use Rattle.my_script.specs.declared.transcript.Outcome.{Outcome}
 use Rattle.my_script.specs.declared.transcript.Outcome.TheVariants.{NoSuchHandle}
 use Rattle.my_script.specs.declared.transcript.Use.{Use}
+use Rattle.my_script.specs.Streams.{is_skip}
+use Rattle.my_world.specs.World.{Plans, SameLink}
+use Rattle.my_client.specs.Kept.{Asked}
+use Rattle.my_client.specs.declared.conn.TapedConn.{TapedConn}
+use Rattle.my_client.specs.Conn.{kept_of}
+use Rattle.my_steps.specs.declared.slot.Slot.{Slot}
+use Rattle.my_steps.specs.declared.slot.Slot.TheVariants.{Held, There}
 use Rattle.my_steps.specs.Connecting.{Joins, Dialed}
 use Rattle.my_steps.specs.Did.{Did, DidAt, OpenPolled, untold}
 use Rattle.my_steps.specs.Gathering.{GatherDid}
 use Rattle.my_steps.specs.Grows.{GoesOn, GoesOnWith, PollsOn, PollsCall}
 use Rattle.my_steps.specs.Handle.{Joined}
-use Rattle.my_client.specs.Ready.{StandsBy}
-use Rattle.my_client.specs.Kept.{Asked}
-use Rattle.my_link.specs.Looks.{Looks}
-use Rattle.my_world.specs.World.{Plans, SameLink}
-use Rattle.my_client.specs.Rests.{IsAsked}
+use Rattle.my_steps.specs.Keeps.{StandsBy}
 use Rattle.my_steps.specs.Slot.{handle_of}
-use Rattle.my_client.specs.Conn.{kept_of}
-use Rattle.my_client.proofs.Hearing.Beginning.{is_asked, is_idle}
 use Rattle.my_steps.proofs.Working.Awaiting.{awaited_on}
 use Rattle.my_steps.proofs.Working.Cancelling.{same_did}
-
--- what is open there
-pub open_asked : {L : Type 0} (login : Login) (c : TapedConn L) → is_open c.session.seen.task ≡ true → StandsBy login c → (a : Asked) × IsAsked login c.session.seen (kept_of c) a
-open_asked login c op w = let a = is_asked login c.session.seen (kept_of c) op w.rests.heard in (a.0, record { rests = w.rests; asked = a.1 })
+use Rattle.my_steps.proofs.Working.Standing.{none_asked}
 
 -- nothing is open there
-pub not_resumed : {L : Type 0} (look : L → Looks) (login : Login) (n : ℕ) (c : TapedConn L) (o : Outcome) (us : List Use) → is_open c.session.seen.task ≡ false → o ≡ NoSuchHandle → us ≡ [] → StandsBy login c → Did look login (GoesOn login untold n) o us (There c) (There c)
+pub not_resumed : {L : Type 0} (look : L → Looks) (login : Login) (n : ℕ) (c : TapedConn L) (o : Outcome) (us : List Use) → c.session.seen.opened ≡ None → o ≡ NoSuchHandle → us ≡ [] → StandsBy login c → Did look login (GoesOn login untold n) o us (There c) (There c)
 not_resumed look login n c o us idle e f w = same_did look login (GoesOn login untold n) o us (There c) w
-    (subst (λ (p : Option Asked). GoesOnWith p login n (kept_of c) (look c.link) o us (Joined true (kept_of c) (look c.link))) (sym (is_idle login c.session.seen (kept_of c) idle w.rests.heard)) (record { outcome = e; uses = f; same = refl }))
+    (subst (λ (p : Option Asked). GoesOnWith p login n (kept_of c) (look c.link) o us (Joined true (kept_of c) (look c.link))) (sym (none_asked login c.session.seen (kept_of c) w.stands idle)) (record { outcome = e; uses = f; same = refl }))
 
 -- the handshake is polled
 pub connect_resumed : {L : Type 0} (look : L → Looks) (login : Login) (n : ℕ) (c : TapedConn L) (a : Asked) (slot : Slot L) (o : Outcome) (us : List Use) (u : Use) → is_connect (kind_of a.call) ≡ true → (kept_of c).pending ≡ Some a → us ≡ u ∷ [] → Joins look login n a (kept_of c) (look c.link) slot o u → Did look login (GoesOn login untold n) o us (There c) slot
@@ -50,7 +44,7 @@ no_rows (Some rows) e = cc
 -- another call is polled
 pub call_resumed : {L : Type 0} (look : L → Looks) (login : Login) (n : ℕ) (c d : TapedConn L) (a : Asked) (o : Outcome) (us : List Use) → is_connect (kind_of a.call) ≡ false → is_some a.rows ≡ false → is_skip (kind_of a.call) ≡ false → (kept_of c).pending ≡ Some a → OpenPolled login n a d.session.seen (look c.link) (look d.link) (kept_of c) (kept_of d) o us → Did look login (GoesOn login untold n) o us (There c) (There d)
 call_resumed look login n c d a o us kind rows other asked w = record {
-  stood = record { rests = w.rests; stepped = w.stepped };
+  stood = w.rests;
   does = subst (λ (p : Option Asked). GoesOnWith p login n (kept_of c) (look c.link) o us (Joined true (kept_of d) (look d.link))) (sym asked) (subst (λ (b : Bool). PollsOn b a.rows login n a (kept_of c) (look c.link) o us (Joined true (kept_of d) (look d.link))) (sym kind) (subst (λ (r : Option (List RowParts)). PollsOn false r login n a (kept_of c) (look c.link) o us (Joined true (kept_of d) (look d.link))) (sym (no_rows a.rows rows)) (subst (λ (b : Bool). PollsCall b login n a (kept_of c) (look c.link) o us (Joined true (kept_of d) (look d.link))) (sym other) w.once)));
 }
 
@@ -71,6 +65,6 @@ pub gathering_resumed : {L : Type 0} (look : L → Looks) (login : Login) (n : �
 gathering_resumed look login n c d a o us kind rows asked w =
     let some = some_rows a.rows rows in
     record {
-      stood = record { rests = w.rests; stepped = w.stepped };
+      stood = w.rests;
       does = subst (λ (p : Option Asked). GoesOnWith p login n (kept_of c) (look c.link) o us (Joined true (kept_of d) (look d.link))) (sym asked) (subst (λ (b : Bool). PollsOn b a.rows login n a (kept_of c) (look c.link) o us (Joined true (kept_of d) (look d.link))) (sym kind) (subst (λ (r : Option (List RowParts)). PollsOn false r login n a (kept_of c) (look c.link) o us (Joined true (kept_of d) (look d.link))) (sym some.1) w.gathers));
     }

@@ -147,7 +147,7 @@ all_for : (login : Login) (plan : Option (List ReadItem)) (items : Option (List 
 unfolding reading read_calls
 all_for login plan items Absent e = tt
 all_for login plan items (Dialing left) e = tt
-all_for login plan items (Joined there k x) e = e.0.read
+all_for login plan items (Joined there k x) e = e.0
 
 over_placed : (login : Login) (hs : List Handle) (n : ℕ) (w : Walk) → AreCalls login (reading login (tape_for (at_number hs n))).calls → Placed login (tape_for (at_number hs n)) n hs w
     → IsOver login (shown_tape (tape_for (at_number hs n))) w w.spot.status
@@ -186,7 +186,7 @@ each_run_is_right login plans before later steps answers tapes h = record {
     lines_at n =
         let last = at_number (handles_after h.lines) n in
         let all = all_for login (plans.reads n) (plans.dials n) last (explained_at login plans h.lines h.explained n) in
-        let r : RanSo login plans (tape_for last) all n h.lines = ran login plans (tape_for last) all n h.lines h.grown (has_for last) in
+        let r : RanSo login plans (tape_for last) all n h.lines = ran login plans (tape_for last) all n h.lines h.grown h.explained (has_for last) in
         let shown = r.reaches [] [] (over_placed login (handles_after h.lines) n r.walk all r.placed) in
         shown_lines login n (shown_tape (tape_for last)) 0 nothing_made (start login n) steps answers
         (subst (λ vs. AreShown login n (shown_tape (tape_for last)) 0 nothing_made (start login n) steps vs) (append-nil (answers_of h.lines) ∙ sym h.answered)

@@ -16,8 +16,8 @@ use Rattle.my_reading.specs.Errors.{connection_closed}
 use Rattle.my_reading.specs.Place.{Place, facts_at}
 use Rattle.my_reading.specs.Reading.{reading}
 use Rattle.my_reading.specs.Tape.{Tape}
-use Rattle.my_session.specs.History.{has_closed}
-use Rattle.my_session.specs.Steps.{is_refused}
+use Rattle.my_client.specs.Made.{has_closed}
+use Rattle.my_session.specs.Sessions.{is_refused}
 use Rattle.my_script.specs.declared.step.Step.{Step}
 use Rattle.my_script.specs.Streams.{is_skip, target}
 use Rattle.my_script.specs.declared.step.Step.TheVariants as steps
@@ -119,7 +119,7 @@ module _ (login : Login) (t : Tape) (all : AreCalls login (reading login t).call
         closed_so login t all n statement step w.named call k x made o us none has r (λ v at. w.begun _)
         (λ v at e is. w.idle v.closed v.spot.next (outcomes.Failed connection_closed) 0 ∙ ap (λ b. asked (is_refused b (kind_of call)) (outcomes.Failed connection_closed) 0) at.closed_is ∙ ap (λ b. asked b (outcomes.Failed connection_closed) 0) shut)
     begins_so false k x made o us none shut has r =
-        let s : OnceSo login t all n statement step w.named (asking k call None) made o us = once_so login t all n statement step w.named (asking k call None) (asked_by k call) x made o us refl refl has r (may_end (shown r.after) call w.plain) in
+        let s : OnceSo login t all n statement step w.named (asking k call None) made o us = once_so login t all n statement step w.named (asking k call None) (asked_by k call) x made o us refl shut refl has r (may_end (shown r.after) call w.plain) in
         record {
           back = (s.back.0, before_begin t k call None s.back.0 none s.back.1);
           forth = λ v tied.
@@ -172,7 +172,7 @@ module _ (login : Login) (t : Tape) (all : AreCalls login (reading login t).call
   collects_by false k x made o [] none shut has r = absurd r
   collects_by false k x made o (u ∷ us) none shut has r =
       let f = asking k calls.NextRow (Some []) in
-      let s : GathersSo login t all n (u ∷ us) (next_asked k []) [] f o made = gathers login t all n (u ∷ us) (next_asked k []) [] f x o made refl refl has r in
+      let s : GathersSo login t all n (u ∷ us) (next_asked k []) [] f o made = gathers login t all n (u ∷ us) (next_asked k []) [] f x o made refl shut refl has r in
       record {
         back = (s.back.0, before_begin t k calls.NextRow (Some []) s.back.0 none s.back.1);
         forth = λ w tied.

@@ -1,5 +1,5 @@
 -- The polls of a line that gathers rows.
-use Rattle.std.proofs.Common.{◌≡◌, ◌≤◌, inl, inr, ℕ, ◌+◌, List, [], ◌∷◌, ◌++◌, length, Bool, true, false, Some, None, Ok, unwrap_or, refl, sym, ap, ◌∙◌, subst, arith, if◌then◌else◌}
+use Rattle.std.proofs.Common.{◌≡◌, ◌≤◌, inl, inr, ℕ, ◌+◌, List, [], ◌∷◌, ◌++◌, length, Bool, true, false, ◌||◌, Some, None, Ok, unwrap_or, refl, sym, ap, ◌∙◌, subst, arith, if◌then◌else◌}
 use Rattle.my_value.specs.RowParts.{RowParts}
 use Rattle.my_grammar.specs.declared.login.Login.{Login}
 use Rattle.my_link.specs.Looks.{Looks}
@@ -11,8 +11,10 @@ use Rattle.my_reading.specs.Calls.{kind_of}
 use Rattle.my_script.specs.Streams.{is_skip}
 use Rattle.my_reading.specs.declared.error.Error.{Error}
 use Rattle.my_reading.specs.Endings.{AreCalls}
-use Rattle.my_reading.specs.Told.{told}
+use Rattle.my_reading.specs.Told.{closes, told}
 use Rattle.my_session.specs.Fits.{may_be}
+use Rattle.my_client.specs.Made.{has_closed}
+use Rattle.my_session.specs.Sessions.{is_refused}
 use Rattle.my_reading.specs.Reading.{reading}
 use Rattle.my_reading.specs.Tape.{Tape}
 use Rattle.my_script.specs.declared.transcript.Outcome.{Outcome}
@@ -26,14 +28,14 @@ use Rattle.my_acts.specs.Acts.{gathering}
 use Rattle.my_client.specs.declared.poll.After.{After}
 use Rattle.my_client.specs.declared.poll.After.TheVariants as after
 use Rattle.my_client.specs.declared.tape.Said.TheVariants as says
-use Rattle.my_client.specs.Causes.{IsPolled}
-use Rattle.my_client.specs.Kept.{Asked, Kept, asking}
+use Rattle.my_client.specs.Kept.{Asked, Kept, asking, made_of}
 use Rattle.my_steps.specs.Grows.{Gathers, GathersOn, gathered, next_asked, rows_shown}
 use Rattle.my_steps.specs.Handle.{Handle, Absent, Dialing, Joined}
 use Rattle.my_run_judge.specs.Lines.{AreRows, ArePolled, IsToldBy, after_last, after_last_poll, IsShown, after_polls, calls_before, is_pending}
 use Rattle.my_run_judge.specs.Walks.{Walk, ended, with_taken}
+use Rattle.run_laws.proofs.Polls.{Polled, polled_of}
 use Rattle.run_laws.proofs.Judging.Going.{before_begin, shown_tape}
-use Rattle.run_laws.proofs.Judging.Tying.{AtWalk, at_begin}
+use Rattle.run_laws.proofs.Judging.Tying.{AtWalk, at_begin, closed_more}
 use Rattle.run_laws.proofs.Judging.Meeting.{ShownBy, met_at_stop}
 use Rattle.run_laws.proofs.Judging.Polling.{HasRest, LastSo, after_so, before_more, begins_here, call_so, ended_so, fits, last_poll, may_end, next_so, poll_back}
 
@@ -74,8 +76,8 @@ module _ (login : Login) (t : Tape) (all : AreCalls login (reading login t).call
     pub forth : (w : Walk) → AtWalk login k w → a.call ≡ calls.NextRow → (first : ℕ) → first ≤ w.spot.next → AreRows rows (calls_before (shown_tape t) first w.spot.next) → Forth us o first h w
 
   -- what the last poll leaves
-  module _ (a : Asked) (rows : List RowParts) (k end : Kept) (x y : Looks) (u : Use) (p : After) (o : Outcome) (h : Handle) (kp : k.pending ≡ Some a) (rs : a.rows ≡ Some rows)
-      (polled : IsPolled login a k x u.met p end y) (left : h ≡ Joined true end y) (has : HasTape t h) (number : u.number ≡ n) where
+  module _ (a : Asked) (rows : List RowParts) (k end : Kept) (y : Looks) (u : Use) (p : After) (o : Outcome) (h : Handle) (kp : k.pending ≡ Some a) (live : has_closed (made_of k.calls) ≡ false) (rs : a.rows ≡ Some rows)
+      (polled : Polled login a k u.met p end) (left : h ≡ Joined true end y) (has : HasTape t h) (number : u.number ≡ n) where
     abbrev hask : HasRest t end
     hask = subst (HasTape t) left has
 
@@ -85,9 +87,9 @@ module _ (login : Login) (t : Tape) (all : AreCalls login (reading login t).call
         → ((facts : Facts) → IsToldBy facts o)
         → GathersSo (u ∷ []) a rows k o h
     last_gathers shows state acts told = record {
-      back = poll_back login t all a k end x y u p kp polled hask;
+      back = poll_back login t all a k end u p kp polled hask;
       forth = λ w at nr first low r.
-          let s : LastSo login t all a k end x y u p kp polled hask n number w at o first = last_poll login t all a k end x y u p kp polled hask n number w at o first (may_end o a.call (ap (λ c. is_skip (kind_of c)) nr)) (shows (calls_before (shown_tape t) first w.spot.next) r) in
+          let s : LastSo login t all a k end u p kp polled hask n number w at o first = last_poll login t all a k end u p kp polled hask n number w at (ap (λ b. is_refused b (kind_of a.call)) live) o first (may_end o a.call (ap (λ c. is_skip (kind_of c)) nr)) (shows (calls_before (shown_tape t) first w.spot.next) r) in
           record {
             polls = s.right;
             to = record {
@@ -122,27 +124,27 @@ module _ (login : Login) (t : Tape) (all : AreCalls login (reading login t).call
   rows_case (outcomes.Failed x) xs e before r = cc
   rows_case outcomes.NoSuchHandle xs e before r = cc
 
-  module _ (a : Asked) (rows : List RowParts) (k end : Kept) (x y : Looks) (u : Use) (o : Outcome) (h : Handle) (kp : k.pending ≡ Some a) (rs : a.rows ≡ Some rows) (has : HasTape t h) (number : u.number ≡ n) where
+  module _ (a : Asked) (rows : List RowParts) (k end : Kept) (y : Looks) (u : Use) (o : Outcome) (h : Handle) (kp : k.pending ≡ Some a) (live : has_closed (made_of k.calls) ≡ false) (rs : a.rows ≡ Some rows) (has : HasTape t h) (number : u.number ≡ n) where
     got : gathered a ≡ rows
     got = ap (λ q. unwrap_or q []) rs
 
-    held_gathers : IsPolled login a k x u.met after.Pending end y → o ≡ outcomes.Pending → h ≡ Joined true end y → GathersSo (u ∷ []) a rows k o h
+    held_gathers : Polled login a k u.met after.Pending end → o ≡ outcomes.Pending → h ≡ Joined true end y → GathersSo (u ∷ []) a rows k o h
     held_gathers polled is left =
         subst (λ (z : Outcome). GathersSo (u ∷ []) a rows k z h) (sym is)
-        (last_gathers a rows k end x y u after.Pending outcomes.Pending h kp rs polled left has number (λ before r. refl)
+        (last_gathers a rows k end y u after.Pending outcomes.Pending h kp live rs polled left has number (λ before r. refl)
         (λ nr first next r. (a, ap (λ (z : Kept). z.pending) polled.ends.0 ∙ polled.pending, record { call = nr; low = (r refl).0; rows = rows; rows_are = rs; returned = (r refl).1 }))
         (λ first. refl) (λ facts. tt))
 
-    ready_gathers : IsPolled login a k x u.met (after.Answered answers.Ready) end y → o ≡ outcomes.Done → h ≡ Joined true end y → GathersSo (u ∷ []) a rows k o h
+    ready_gathers : Polled login a k u.met (after.Answered answers.Ready) end → o ≡ outcomes.Done → h ≡ Joined true end y → GathersSo (u ∷ []) a rows k o h
     ready_gathers polled is left =
         subst (λ (z : Outcome). GathersSo (u ∷ []) a rows k z h) (sym is)
-        (last_gathers a rows k end x y u (after.Answered answers.Ready) outcomes.Done h kp rs polled left has number (λ before r. (refl, refl))
+        (last_gathers a rows k end y u (after.Answered answers.Ready) outcomes.Done h kp live rs polled left has number (λ before r. (refl, refl))
         (λ nr first next r. ap (λ (z : Kept). z.pending) polled.ends.0) (λ first. refl) (λ facts. tt))
 
-    failed_gathers : (e : Error) → IsPolled login a k x u.met (after.Failed e) end y → o ≡ outcomes.Failed e → h ≡ Joined true end y → GathersSo (u ∷ []) a rows k o h
+    failed_gathers : (e : Error) → Polled login a k u.met (after.Failed e) end → o ≡ outcomes.Failed e → h ≡ Joined true end y → GathersSo (u ∷ []) a rows k o h
     failed_gathers e polled is left =
         subst (λ (z : Outcome). GathersSo (u ∷ []) a rows k z h) (sym is)
-        (last_gathers a rows k end x y u (after.Failed e) (outcomes.Failed e) h kp rs polled left has number (λ before r. (refl, refl))
+        (last_gathers a rows k end y u (after.Failed e) (outcomes.Failed e) h kp live rs polled left has number (λ before r. (refl, refl))
         (λ nr first next r. ap (λ (z : Kept). z.pending) polled.ends.0) (λ first. refl) (λ facts. tt))
 
     abbrev case : (before : List ShownCall) → AreRows rows before → rows_shown o ≡ Some (gathered a)
@@ -173,27 +175,27 @@ module _ (login : Login) (t : Tape) (all : AreCalls login (reading login t).call
     state_idle : (b : Bool) (first next : ℕ) → b ≡ false → end.pending ≡ None → GatherState t b end first next
     state_idle b first next is e = subst (λ c. GatherState t c end first next) (sym is) e
 
-    end_gathers : IsPolled login a k x u.met (after.Answered answers.SetEnd) end y → rows_shown o ≡ Some (gathered a) → h ≡ Joined true end y → GathersSo (u ∷ []) a rows k o h
+    end_gathers : Polled login a k u.met (after.Answered answers.SetEnd) end → rows_shown o ≡ Some (gathered a) → h ≡ Joined true end y → GathersSo (u ∷ []) a rows k o h
     end_gathers polled shows left =
         let told = rows_told shows in
-        last_gathers a rows k end x y u (after.Answered answers.SetEnd) o h kp rs polled left has number (λ before r. ((case before r shows).0, (case before r shows).1))
+        last_gathers a rows k end y u (after.Answered answers.SetEnd) o h kp live rs polled left has number (λ before r. ((case before r shows).0, (case before r shows).1))
         (λ nr first next r. state_idle (is_pending o) first next told.0 (ap (λ (z : Kept). z.pending) polled.ends.0)) (λ first. acts_idle (is_pending o) first told.0 (told.1 first)) told.2
 
-    none_gathers : IsPolled login a k x u.met (after.Answered answers.NoSet) end y → rows_shown o ≡ Some (gathered a) → h ≡ Joined true end y → GathersSo (u ∷ []) a rows k o h
+    none_gathers : Polled login a k u.met (after.Answered answers.NoSet) end → rows_shown o ≡ Some (gathered a) → h ≡ Joined true end y → GathersSo (u ∷ []) a rows k o h
     none_gathers polled shows left =
         let told = rows_told shows in
-        last_gathers a rows k end x y u (after.Answered answers.NoSet) o h kp rs polled left has number (λ before r. ((case before r shows).0, (case before r shows).2))
+        last_gathers a rows k end y u (after.Answered answers.NoSet) o h kp live rs polled left has number (λ before r. ((case before r shows).0, (case before r shows).2))
         (λ nr first next r. state_idle (is_pending o) first next told.0 (ap (λ (z : Kept). z.pending) polled.ends.0)) (λ first. acts_idle (is_pending o) first told.0 (told.1 first)) told.2
 
     -- a call that asks for a row isn't answered by a statement, nor by a flag
-    other_gathers : (answer : Answer) (us : List Use) → may_be (kind_of calls.NextRow) (told answer) ≡ false → IsPolled login a k x u.met (after.Answered answer) end y → h ≡ Joined true end y → GathersSo (u ∷ us) a rows k o h
+    other_gathers : (answer : Answer) (us : List Use) → may_be (kind_of calls.NextRow) (told answer) ≡ false → Polled login a k u.met (after.Answered answer) end → h ≡ Joined true end y → GathersSo (u ∷ us) a rows k o h
     other_gathers answer us never polled left = record {
-      back = poll_back login t all a k end x y u (after.Answered answer) kp polled (subst (HasTape t) left has);
+      back = poll_back login t all a k end u (after.Answered answer) kp polled (subst (HasTape t) left has);
       forth = λ w at nr first low r. absurd (let no : may_be (kind_of calls.NextRow) (told answer) ≡ true = subst (λ c. may_be (kind_of c) (told answer) ≡ true) nr polled.ends.2 in cc);
     }
 
     -- a row came, and the next one is asked for
-    row_gathers : (row : RowParts) (v : Use) (us : List Use) → IsPolled login a k x u.met (after.Answered (answers.Row row)) end y
+    row_gathers : (row : RowParts) (v : Use) (us : List Use) → Polled login a k u.met (after.Answered (answers.Row row)) end
         → GathersSo (v ∷ us) (next_asked end (rows ++ row ∷ [])) (rows ++ row ∷ []) (asking end calls.NextRow (Some (rows ++ row ∷ []))) o h → GathersSo (u ∷ v ∷ us) a rows k o h
     row_gathers row v us polled more =
         let next = asking end calls.NextRow (Some (rows ++ row ∷ [])) in
@@ -202,34 +204,41 @@ module _ (login : Login) (t : Tape) (all : AreCalls login (reading login t).call
         let has_end : HasRest t end = (more.back.0, before_begin t end calls.NextRow (Some (rows ++ row ∷ [])) more.back.0 none more.back.1) in
         let said = says.Answered (answers.Row row) in
         record {
-          back = poll_back login t all a k end x y u (after.Answered (answers.Row row)) kp polled has_end;
+          back = poll_back login t all a k end u (after.Answered (answers.Row row)) kp polled has_end;
           forth = λ w at nr first low r.
               let e = polled.ends.0 in
               let w2 = with_taken u.met.taken w in
               let shut = ended login (shown_tape t) false w2 in
-              let is_so = ended_so login t all a k end x y u (after.Answered (answers.Row row)) kp polled has_end n number w at said tt e in
-              let at_end : AtWalk login end shut = after_so login t all a k end x y u (after.Answered (answers.Row row)) kp polled has_end n number w at said tt e in
-              let count : w.spot.next + 1 ≡ length end.calls = next_so login t all a k end x y u (after.Answered (answers.Row row)) kp polled has_end n number w at said tt e in
+              let is_so = ended_so login t all a k end u (after.Answered (answers.Row row)) kp polled has_end n number w at said tt e in
+              let at_end : AtWalk login end shut = after_so login t all a k end u (after.Answered (answers.Row row)) kp polled has_end n number w at said tt e in
+              let count : w.spot.next + 1 ≡ length end.calls = next_so login t all a k end u (after.Answered (answers.Row row)) kp polled has_end n number w at said tt e in
               let same : shut.spot.next ≡ w.spot.next + 1 = at_end.next_is ∙ sym count in
-              let here = call_so login t all a k end x y u (after.Answered (answers.Row row)) kp polled has_end n number w at said tt e in
+              let here = call_so login t all a k end u (after.Answered (answers.Row row)) kp polled has_end n number w at said tt e in
               let f : Forth (v ∷ us) o first h shut = more.forth shut (at_begin login end calls.NextRow (Some (rows ++ row ∷ [])) shut none at_end) refl first (omega arith)
               (subst (λ m. AreRows (rows ++ row ∷ []) (calls_before (shown_tape t) first m)) (sym same) (before_more t first w.spot.next rows row _ low here refl r)) in
               record {
-                polls = ((fits login t all a k end x y u (after.Answered (answers.Row row)) kp polled has_end n number w at, (polled.within, met_at_stop u.met polled.stop polled.taken polled.of_call polled.met NoStop polled.ends.3), (begins_here t next asked (w.spot.next + 1) count refl more.back, is_so)), f.polls);
+                polls = ((fits login t all a k end u (after.Answered (answers.Row row)) kp polled has_end n number w at, (polled.within, met_at_stop u.met polled.stop polled.met NoStop polled.ends.3), (begins_here t next asked (w.spot.next + 1) count refl more.back, is_so)), f.polls);
                 to = f.to;
                 told = f.told;
               };
         }
 
-    by_row : (row : RowParts) (vs : List Use) → IsPolled login a k x u.met (after.Answered (answers.Row row)) end y
+    -- a row doesn't close
+    after_row : (row : RowParts) → Polled login a k u.met (after.Answered (answers.Row row)) end → has_closed (made_of end.calls) ≡ false
+    after_row row polled =
+        ap (λ (z : Kept). has_closed (made_of z.calls)) polled.ends.0
+        ∙ closed_more polled.following.calls (record { call = a.call; sent_from = a.sent_from; taken_from = a.taken_from; said = says.Answered (answers.Row row) })
+        ∙ ap (λ b. b || closes (told (answers.Row row)) (kind_of a.call)) (ap (λ ds. has_closed (made_of ds)) polled.calls ∙ live)
+
+    by_row : (row : RowParts) (vs : List Use) → Polled login a k u.met (after.Answered (answers.Row row)) end
         → Gathers login n vs (next_asked end (rows ++ row ∷ [])) (asking end calls.NextRow (Some (rows ++ row ∷ []))) y o h
         → GathersSo vs (next_asked end (rows ++ row ∷ [])) (rows ++ row ∷ []) (asking end calls.NextRow (Some (rows ++ row ∷ []))) o h → GathersSo (u ∷ vs) a rows k o h
     by_row row [] polled g m = absurd g
     by_row row (v ∷ vs) polled g m = row_gathers row v vs polled m
 
     -- one poll, by what it came to; the polls after a row gather the others
-    gathers_by : (us : List Use) (p : After) → IsPolled login a k x u.met p end y → GathersOn (Gathers login n us) a p end y o us h
-        → ((row : RowParts) → Gathers login n us (next_asked end (rows ++ row ∷ [])) (asking end calls.NextRow (Some (rows ++ row ∷ []))) y o h
+    gathers_by : (us : List Use) (p : After) → Polled login a k u.met p end → GathersOn (Gathers login n us) a p end y o us h
+        → ((row : RowParts) → has_closed (made_of end.calls) ≡ false → Gathers login n us (next_asked end (rows ++ row ∷ [])) (asking end calls.NextRow (Some (rows ++ row ∷ []))) y o h
         → GathersSo us (next_asked end (rows ++ row ∷ [])) (rows ++ row ∷ []) (asking end calls.NextRow (Some (rows ++ row ∷ []))) o h)
         → GathersSo (u ∷ us) a rows k o h
     gathers_by us after.Pending polled on more = subst (λ (vs : List Use). GathersSo (u ∷ vs) a rows k o h) (sym on.1) (held_gathers polled on.0 on.2)
@@ -241,11 +250,11 @@ module _ (login : Login) (t : Tape) (all : AreCalls login (reading login t).call
     gathers_by us (after.Failed e) polled on more = subst (λ (vs : List Use). GathersSo (u ∷ vs) a rows k o h) (sym on.1) (failed_gathers e polled on.0 on.2)
     gathers_by us (after.Answered (answers.Row row)) polled on more =
         let g = subst (λ (zs : List RowParts). Gathers login n us (next_asked end (zs ++ row ∷ [])) (asking end calls.NextRow (Some (zs ++ row ∷ []))) y o h) got on in
-        by_row row us polled g (more row g)
+        by_row row us polled g (more row (after_row row polled) g)
 
-  pub gathers : (us : List Use) (a : Asked) (rows : List RowParts) (k : Kept) (x : Looks) (o : Outcome) (h : Handle) → k.pending ≡ Some a → a.rows ≡ Some rows → HasTape t h
+  pub gathers : (us : List Use) (a : Asked) (rows : List RowParts) (k : Kept) (x : Looks) (o : Outcome) (h : Handle) → k.pending ≡ Some a → has_closed (made_of k.calls) ≡ false → a.rows ≡ Some rows → HasTape t h
       → Gathers login n us a k x o h → GathersSo us a rows k o h
-  gathers [] a rows k x o h kp rs has r = absurd r
-  gathers (u ∷ us) a rows k x o h kp rs has (p, end, y, polled, on, number) =
-      gathers_by a rows k end x y u o h kp rs has number us p polled on
-      (λ row g. gathers us (next_asked end (rows ++ row ∷ [])) (rows ++ row ∷ []) (asking end calls.NextRow (Some (rows ++ row ∷ []))) y o h refl refl has g)
+  gathers [] a rows k x o h kp live rs has r = absurd r
+  gathers (u ∷ us) a rows k x o h kp live rs has (p, end, y, polled, on, number) =
+      gathers_by a rows k end y u o h kp live rs has number us p (polled_of kp polled) on
+      (λ row still g. gathers us (next_asked end (rows ++ row ∷ [])) (rows ++ row ∷ []) (asking end calls.NextRow (Some (rows ++ row ∷ []))) y o h refl still refl has g)

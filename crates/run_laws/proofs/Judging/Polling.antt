@@ -2,7 +2,6 @@
 use Rattle.std.proofs.Common.{◌≡◌, ◌≤◌, ℕ, zero, suc, ◌+◌, ◌-◌, List, [], ◌∷◌, ◌++◌, length, map, take, drop, slice_get, true, false, Some, Ok, refl, sym, ap, ◌∙◌, subst, arith, length-append}
 use Rattle.my_value.specs.RowParts.{RowParts}
 use Rattle.my_grammar.specs.declared.login.Login.{Login}
-use Rattle.my_link.specs.Looks.{Looks}
 use Rattle.my_reading.specs.declared.answer.Answer.TheVariants as answers
 use Rattle.my_reading.specs.Endings.{AreCalls}
 use Rattle.my_reading.specs.declared.call.Call.{Call}
@@ -18,11 +17,13 @@ use Rattle.my_client.specs.declared.poll.After.{After}
 use Rattle.my_client.specs.declared.poll.After.TheVariants as after
 use Rattle.my_client.specs.declared.tape.Said.{Said}
 use Rattle.my_client.specs.declared.tape.Said.TheVariants as says
-use Rattle.my_client.specs.Causes.{IsPolled, PollEnds}
-use Rattle.my_client.specs.Kept.{Asked, Kept, ended_by, told_by}
+use Rattle.my_client.specs.Made.{has_closed}
+use Rattle.my_client.specs.Kept.{Asked, Kept, made_of, ended_by, told_by}
+use Rattle.my_session.specs.Sessions.{is_refused}
 use Rattle.my_run_judge.specs.Lines.{AreRows, Fits, IsBegun, IsShown, IsShownAt, LastPoll, LastRight, MayEnd, after_last, after_last_poll, calls_before, is_pending}
 use Rattle.my_run_judge.specs.Meets.{LastMet}
 use Rattle.my_run_judge.specs.Walks.{Walk, IsEnded, ended, with_taken}
+use Rattle.run_laws.proofs.Polls.{PollEnds, Polled}
 use Rattle.run_laws.proofs.Judging.Going.{Begins, GoesOn, answer_of, own_span, before_end, before_move, call_here, call_of, done_by, shown_call, shown_said, shown_tape}
 use Rattle.run_laws.proofs.Judging.Meeting.{ShownBy, shown_met}
 use Rattle.run_laws.proofs.Judging.Tying.{AtWalk, SaidSo, at_end, at_move, is_ended}
@@ -65,7 +66,7 @@ module _ (login : Login) (t : Tape) (all : AreCalls login (reading login t).call
       let h : HasRest t (ended_by f a (says.Failed x)) = subst (HasRest t) e.0 has in
       (call_of (done_by a (says.Failed x)) ∷ h.0, before_end t f a (says.Failed x) h.0 fp h.1)
 
-  module _ (a : Asked) (k end : Kept) (x y : Looks) (u : Use) (p : After) (kp : k.pending ≡ Some a) (polled : IsPolled login a k x u.met p end y) (has : HasRest t end) where
+  module _ (a : Asked) (k end : Kept) (u : Use) (p : After) (kp : k.pending ≡ Some a) (polled : Polled login a k u.met p end) (has : HasRest t end) where
     abbrev f : Kept
     f = polled.following
 
@@ -80,13 +81,13 @@ module _ (login : Login) (t : Tape) (all : AreCalls login (reading login t).call
       w2 = with_taken u.met.taken w
 
       at_f : AtWalk login f w2
-      at_f = at_move login k f a polled.sent polled.taken u.met.taken w polled.sent_is polled.taken_is polled.calls polled.pending kp polled.met.taken at
+      at_f = at_move login k f a polled.sent polled.taken u.met.taken w polled.sent_is polled.taken_is polled.calls polled.pending kp polled.count at
 
       pub fits : Fits n (shown_tape t) w.spot u
       fits =
           let whole : length t.taken ≡ length f.taken + length has_f.1.taken_more = ap length has_f.1.taken ∙ length-append f.taken has_f.1.taken_more in
           let grown : length f.taken ≡ length k.taken + length polled.taken = ap length polled.taken_is ∙ length-append k.taken polled.taken in
-          let count : u.met.taken ≡ length polled.taken = polled.met.taken in
+          let count : u.met.taken ≡ length polled.taken = polled.count in
           let start : w.spot.taken ≡ length k.taken = at.taken_is in
           (number, omega (arith, whole, grown, count, start))
 
@@ -112,8 +113,13 @@ module _ (login : Login) (t : Tape) (all : AreCalls login (reading login t).call
         pub right : LastPoll login n (shown_tape t) o first u w
         pub after_is : AtWalk login end (after_last_poll login (shown_tape t) o u w)
 
-      met_so : (o : Outcome) (before : List ShownCall) (q : After) → PollEnds login a f u.met polled.stop q end → ShownBy o before q → LastMet o u.met
-      met_so o before q e s = (polled.within, shown_met u.met polled.stop polled.taken polled.of_call polled.met login a f end o before q e s)
+      -- a call that isn't refused
+      abbrev IsLive : Type 0
+      IsLive = is_refused (has_closed (made_of k.calls)) (kind_of a.call) ≡ false
+
+      met_so : IsLive → (o : Outcome) (before : List ShownCall) (q : After) → PollEnds login a f u.met polled.stop q end → ShownBy o before q → LastMet o u.met
+      met_so live o before q e s =
+          (polled.within, shown_met u.met polled.stop polled.met login a f end polled.pending (ap (λ ds. is_refused (has_closed (made_of ds)) (kind_of a.call)) polled.calls ∙ live) o before q e s)
 
       held_so : (o : Outcome) (first : ℕ) → LastMet o u.met → end ≡ f → is_pending o ≡ true → LastSo o first
       held_so o first m e is = record {
@@ -133,14 +139,14 @@ module _ (login : Login) (t : Tape) (all : AreCalls login (reading login t).call
         after_is = subst (λ b. AtWalk login end (after_last login (shown_tape t) w2 b)) (sym is) (after_so said so e);
       }
 
-      last_of : (o : Outcome) (first : ℕ) (q : After) → MayEnd o a.call → PollEnds login a f u.met polled.stop q end → ShownBy o (calls_before (shown_tape t) first w.spot.next) q → LastSo o first
-      last_of o first after.Pending may e s = held_so o first (met_so o (calls_before (shown_tape t) first w.spot.next) after.Pending e s) e.0 s
-      last_of o first (after.Answered answer) may e s = done_so o first may (met_so o (calls_before (shown_tape t) first w.spot.next) (after.Answered answer) e s) (says.Answered answer) tt e.0 s.0
+      last_of : IsLive → (o : Outcome) (first : ℕ) (q : After) → MayEnd o a.call → PollEnds login a f u.met polled.stop q end → ShownBy o (calls_before (shown_tape t) first w.spot.next) q → LastSo o first
+      last_of live o first after.Pending may e s = held_so o first (met_so live o (calls_before (shown_tape t) first w.spot.next) after.Pending e s) e.0 s
+      last_of live o first (after.Answered answer) may e s = done_so o first may (met_so live o (calls_before (shown_tape t) first w.spot.next) (after.Answered answer) e s) (says.Answered answer) tt e.0 s.0
           (subst (λ x. IsShown o x (calls_before (shown_tape t) first w.spot.next)) (shown_said (says.Answered answer)) s.1)
-      last_of o first (after.Failed x) may e s = done_so o first may (met_so o (calls_before (shown_tape t) first w.spot.next) (after.Failed x) e s) (says.Failed x) tt e.0 s.0 s.1
+      last_of live o first (after.Failed x) may e s = done_so o first may (met_so live o (calls_before (shown_tape t) first w.spot.next) (after.Failed x) e s) (says.Failed x) tt e.0 s.0 s.1
 
-      pub last_poll : (o : Outcome) (first : ℕ) → MayEnd o a.call → ShownBy o (calls_before (shown_tape t) first w.spot.next) p → LastSo o first
-      last_poll o first may s = last_of o first p may polled.ends s
+      pub last_poll : IsLive → (o : Outcome) (first : ℕ) → MayEnd o a.call → ShownBy o (calls_before (shown_tape t) first w.spot.next) p → LastSo o first
+      last_poll live o first may s = last_of live o first p may polled.ends s
 
 -- rows and the calls that returned them
 rows_more : (rows : List RowParts) (cs : List ShownCall) (row : RowParts) (c : ShownCall) → AreRows rows cs → c.answer ≡ Some (Ok (answers.Row row)) → AreRows (rows ++ row ∷ []) (cs ++ c ∷ [])

@@ -38,8 +38,9 @@ use Rattle.my_world.specs.World.{Plans}
 use Rattle.my_client.specs.declared.poll.After.TheVariants as after
 use Rattle.my_client.specs.declared.tape.DoneCall.{DoneCall}
 use Rattle.my_client.specs.declared.tape.Said.TheVariants as says
-use Rattle.my_client.specs.Causes.{IsPolled}
-use Rattle.my_client.specs.Kept.{Asked, Kept, nothing_kept, ended_by, first_asked, first_kept, told_by}
+use Rattle.my_client.specs.Made.{has_closed}
+use Rattle.my_client.specs.Kept.{Asked, Kept, nothing_kept, made_of, ended_by, first_asked, first_kept, told_by}
+use Rattle.my_session.specs.Sessions.{is_refused}
 use Rattle.my_client.specs.Reads.{calls_kept, facts_kept, place_kept}
 use Rattle.my_steps.specs.Grows.{Cancels as CancelsAt, CancelsWith, ConnectShows, Connects as ConnectsTo, Dials, Gathers, GoesOn, GoesOnWith, IsCancelled, IsDropped, PollsCall, PolledOnce, PollsOn, shown}
 use Rattle.my_steps.specs.Grows as grows
@@ -49,6 +50,8 @@ use Rattle.run_laws.proofs.Connecting.{IsOnce, connects_once, kept_calls, left_o
 use Rattle.my_run_judge.specs.declared.walk.Spot.{Spot}
 use Rattle.my_run_judge.specs.Lines.{AreRows, IsToldBy, LastPoll, after_last_poll, calls_before, first_of, is_unanswered}
 use Rattle.my_run_judge.specs.Walks.{Walk, ended, with_status}
+use Rattle.run_laws.proofs.Polls.{Polled, polled_of}
+use Rattle.run_laws.proofs.Judging.Failing.{IsLive}
 use Rattle.run_laws.proofs.Judging.Going.{before_end, call_here, call_of, done_by, own_span, shown_tape}
 use Rattle.run_laws.proofs.Judging.Tying.{AtWalk, at_begin, at_end, is_ended, place_at_rest, place_open, same_halt}
 use Rattle.run_laws.proofs.Judging.Polling.{HasRest, LastSo, begins_here, last_poll, may_end, poll_back}
@@ -119,17 +122,20 @@ module _ (login : Login) (t : Tape) (all : AreCalls login (reading login t).call
     pub back : HasRest t k
     pub forth : (w : Walk) → AtWalk login k w → a.rows ≡ None → (first : ℕ) → Joins o used made w first
 
-  module _ (k : Kept) (a : Asked) (x : Looks) (made : Handle) (o : Outcome) (used : Use) (end : Kept) (link : Looks) (kp : k.pending ≡ Some a) (con : a.call ≡ calls.Connect) (has : HasTape t made) (number : used.number ≡ n) where
+  module _ (k : Kept) (a : Asked) (made : Handle) (o : Outcome) (used : Use) (end : Kept) (link : Looks) (kp : k.pending ≡ Some a) (live : has_closed (made_of k.calls) ≡ false) (con : a.call ≡ calls.Connect) (has : HasTape t made) (number : used.number ≡ n) where
     has_end : (p : After) → ConnectShows login n p end link o made → HasRest t end
     has_end after.Pending s = subst (HasTape t) s.1 has
     has_end (after.Answered answer) s = subst (HasTape t) s.1 has
     has_end (after.Failed e) s = subst (HasTape t) s.1 has
 
-    joined_by : (p : After) → IsPolled login a k x used.met p end link → ConnectShows login n p end link o made → JoinsSo k a made o used
+    abbrev unrefused : is_refused (has_closed (made_of k.calls)) (kind_of a.call) ≡ false
+    unrefused = ap (λ b. is_refused b (kind_of a.call)) live
+
+    joined_by : (p : After) → Polled login a k used.met p end → ConnectShows login n p end link o made → JoinsSo k a made o used
     joined_by after.Pending polled s = let h = has_end after.Pending s in record {
-      back = poll_back login t all a k end x link used after.Pending kp polled h;
+      back = poll_back login t all a k end used after.Pending kp polled h;
       forth = λ w at nr first. subst (λ (z : Outcome). Joins z used made w first) (sym s.0) (subst (λ (z : Handle). Joins outcomes.Pending used z w first) (sym s.1)
-          (let l : LastSo login t all a k end x link used after.Pending kp polled h n number w at outcomes.Pending first = last_poll login t all a k end x link used after.Pending kp polled h n number w at outcomes.Pending first tt refl in
+          (let l : LastSo login t all a k end used after.Pending kp polled h n number w at outcomes.Pending first = last_poll login t all a k end used after.Pending kp polled h n number w at unrefused outcomes.Pending first tt refl in
           record {
             right = l.right;
             told = tt;
@@ -143,14 +149,14 @@ module _ (login : Login) (t : Tape) (all : AreCalls login (reading login t).call
           }));
     }
     joined_by (after.Answered answer) polled s = let h = has_end (after.Answered answer) s in record {
-      back = poll_back login t all a k end x link used (after.Answered answer) kp polled h;
+      back = poll_back login t all a k end used (after.Answered answer) kp polled h;
       forth = λ w at nr first.
           let facts = facts_kept login end in
           let z : Outcome = outcomes.Connected n facts.connection (version_of facts.version) in
           let none : end.pending ≡ None = ap (λ (y : Kept). y.pending) polled.ends.0 in
           let ready : answer ≡ answers.Ready = made_ready answer (subst (λ c. may_be (kind_of c) (told answer) ≡ true) con polled.ends.2) in
           subst (λ (y : Outcome). Joins y used made w first) (sym s.0) (subst (λ (y : Handle). Joins z used y w first) (sym s.1)
-          (let l : LastSo login t all a k end x link used (after.Answered answer) kp polled h n number w at z first = last_poll login t all a k end x link used (after.Answered answer) kp polled h n number w at z first tt (refl, ap (λ y. Some (Ok y)) ready) in
+          (let l : LastSo login t all a k end used (after.Answered answer) kp polled h n number w at z first = last_poll login t all a k end used (after.Answered answer) kp polled h n number w at unrefused z first tt (refl, ap (λ y. Some (Ok y)) ready) in
           let here : place_kept login end ≡ (after_last_poll login (shown_tape t) z used w).place = place_at_rest login end _ (after_last_poll login (shown_tape t) z used w).place none l.after_is.reads in
           record {
             right = l.right;
@@ -161,11 +167,11 @@ module _ (login : Login) (t : Tape) (all : AreCalls login (reading login t).call
           }));
     }
     joined_by (after.Failed e) polled s = let h = has_end (after.Failed e) s in record {
-      back = poll_back login t all a k end x link used (after.Failed e) kp polled h;
+      back = poll_back login t all a k end used (after.Failed e) kp polled h;
       forth = λ w at nr first.
           let none : end.pending ≡ None = ap (λ (y : Kept). y.pending) polled.ends.0 in
           subst (λ (y : Outcome). Joins y used made w first) (sym s.0) (subst (λ (y : Handle). Joins (outcomes.Failed e) used y w first) (sym s.1)
-          (let l : LastSo login t all a k end x link used (after.Failed e) kp polled h n number w at (outcomes.Failed e) first = last_poll login t all a k end x link used (after.Failed e) kp polled h n number w at (outcomes.Failed e) first tt (refl, refl) in
+          (let l : LastSo login t all a k end used (after.Failed e) kp polled h n number w at (outcomes.Failed e) first = last_poll login t all a k end used (after.Failed e) kp polled h n number w at unrefused (outcomes.Failed e) first tt (refl, refl) in
           record {
             right = l.right;
             told = tt;
@@ -175,8 +181,8 @@ module _ (login : Login) (t : Tape) (all : AreCalls login (reading login t).call
           }));
     }
 
-  connect_so : (k : Kept) (a : Asked) (x : Looks) (made : Handle) (o : Outcome) (used : Use) → k.pending ≡ Some a → a.call ≡ calls.Connect → HasTape t made → ConnectsTo login n a k x o used made → JoinsSo k a made o used
-  connect_so k a x made o used kp con has r = joined_by k a x made o used r.end r.link kp con has r.number r.after r.polled r.shows
+  connect_so : (k : Kept) (a : Asked) (x : Looks) (made : Handle) (o : Outcome) (used : Use) → k.pending ≡ Some a → has_closed (made_of k.calls) ≡ false → a.call ≡ calls.Connect → HasTape t made → ConnectsTo login n a k x o used made → JoinsSo k a made o used
+  connect_so k a x made o used kp live con has r = joined_by k a made o used r.end r.link kp live con has r.number r.after (polled_of kp r.polled) r.shows
 
   -- a dial, and the handshake over its link
   pub dials_so : (step : Step) (plan : Option (List ReadItem)) (rules : Option (List WriteItem)) (items : Option (List DialItem)) (made : Handle) (o : Outcome) (us : List Use) → HasTape t made → Dials login plan rules items n o us made
@@ -188,7 +194,7 @@ module _ (login : Login) (t : Tape) (all : AreCalls login (reading login t).call
       subst (λ (z : Handle). LineSo login t n statement z step o us w) (sym g) (subst (λ (vs : List Use). LineSo login t n statement Absent step o vs w) (sym f) (subst (λ (z : Outcome). LineSo login t n statement Absent step z (failed_use n ∷ []) w) (sym e)
       (record { act = acts.Fails; act_is = does _ 1; right = (refl, refl); tied = (refl, at) })))
   dials_so step plan rules items made o us has (grows.Links used x left e new given r) w at does =
-      let s = connect_so first_kept first_asked x made o used refl refl has r in
+      let s = connect_so first_kept first_asked x made o used refl refl refl has r in
       let first : AtWalk login first_kept w = at_begin login nothing_kept calls.Connect None w refl at in
       let j = s.forth w first refl (first_of w.spot.status w.spot.next) in
       subst (λ (vs : List Use). LineSo login t n statement made step o vs w) (sym e) (record {
@@ -199,10 +205,10 @@ module _ (login : Login) (t : Tape) (all : AreCalls login (reading login t).call
       })
 
   -- the open call goes on
-  polls_on : (b : Bool) (k : Kept) (a : Asked) (x : Looks) (made : Handle) (o : Outcome) (us : List Use) → k.pending ≡ Some a → connects_once (kept_calls k) ≡ true → is_connect (kind_of a.call) ≡ b
+  polls_on : (b : Bool) (k : Kept) (a : Asked) (x : Looks) (made : Handle) (o : Outcome) (us : List Use) → k.pending ≡ Some a → has_closed (made_of k.calls) ≡ false → connects_once (kept_calls k) ≡ true → is_connect (kind_of a.call) ≡ b
       → (rows : Option (List RowParts)) → a.rows ≡ rows → HasTape t made → PollsOn b rows login n a k x o us made → StepSo login t n statement (Joined true k x) made (steps.Poll n) o us
-  polls_on true k a x made o us kp once con rows rs has r =
-      let s = connect_so k a x made o r.0 kp (is_connecting a.call con) has r.2 in
+  polls_on true k a x made o us kp live once con rows rs has r =
+      let s = connect_so k a x made o r.0 kp live (is_connecting a.call con) has r.2 in
       record {
         back = s.back;
         forth = λ w tied. by_rows a.rows refl w (subst (λ q. Spotted t true q w.spot) kp tied.0) tied.1 s;
@@ -242,7 +248,7 @@ module _ (login : Login) (t : Tape) (all : AreCalls login (reading login t).call
           not_next calls.CleanForPool e f = cc
           not_next calls.ResetForPool e f = cc
           not_next calls.Quit e f = cc
-  polls_on false k a x made o us kp once con None rs has r = by_skip (is_skip (kind_of a.call)) refl r
+  polls_on false k a x made o us kp live once con None rs has r = by_skip (is_skip (kind_of a.call)) refl r
     where
       opened : (w : Walk) → Tied login t (Joined true k x) w → w.spot.status ≡ status.Open
       opened w tied = subst (λ (z : Option (List RowParts)). OpenAs t a z w.spot) rs (subst (λ q. Spotted t true q w.spot) kp tied.0)
@@ -257,19 +263,19 @@ module _ (login : Login) (t : Tape) (all : AreCalls login (reading login t).call
 
       by_skip : (b : Bool) → is_skip (kind_of a.call) ≡ b → PollsCall b login n a k x o us made → StepSo login t n statement (Joined true k x) made (steps.Poll n) o us
       by_skip true e g =
-          let s : SkipsSo login t all n statement (steps.Poll n) refl k made o us = skips_so login t all n statement (steps.Poll n) refl k a x made o us kp rs (skip_call a.call e) has g in
+          let s : SkipsSo login t all n statement (steps.Poll n) refl k made o us = skips_so login t all n statement (steps.Poll n) refl k a x made o us kp (ap (λ b. is_refused b (kind_of a.call)) live) rs (skip_call a.call e) has g in
           record {
             back = s.back;
             forth = λ w tied. s.forth w tied.1 (acts w tied outcomes.Pending 1) (λ x. acts w tied (outcomes.Failed x) 1) (λ z. acts w tied z 2) tt;
           }
       by_skip false e g =
-          let s : OnceSo login t all n statement (steps.Poll n) refl k made o us = once_so login t all n statement (steps.Poll n) refl k a x made o us kp rs has g (may_end (shown g.after) a.call e) in
+          let s : OnceSo login t all n statement (steps.Poll n) refl k made o us = once_so login t all n statement (steps.Poll n) refl k a x made o us kp (ap (λ b. is_refused b (kind_of a.call)) live) rs has g (may_end (shown g.after) a.call e) in
           record {
             back = s.back;
             forth = λ w tied. s.forth w tied.1 (acts w tied o 1) tt;
           }
-  polls_on false k a x made o us kp once con (Some rows) rs has r =
-      let s : GathersSo login t all n us a rows k o made = gathers login t all n us a rows k x o made kp rs has r in
+  polls_on false k a x made o us kp live once con (Some rows) rs has r =
+      let s : GathersSo login t all n us a rows k o made = gathers login t all n us a rows k x o made kp live rs has r in
       record {
         back = s.back;
         forth = λ w tied.
@@ -288,19 +294,19 @@ module _ (login : Login) (t : Tape) (all : AreCalls login (reading login t).call
       some_gathered [] g first = absurd g
       some_gathered (v ∷ vs) g first = let c : length (v ∷ vs) == 0 ≡ false = grind (arith, nat_tests) in ap (λ b. if b then Wrong else gathering first o) c
 
-  goes_on_with : (q : Option Asked) (k : Kept) (x : Looks) (made : Handle) (o : Outcome) (us : List Use) → k.pending ≡ q → connects_once (kept_calls k) ≡ true → HasTape t made → GoesOnWith q login n k x o us made
+  goes_on_with : (q : Option Asked) (k : Kept) (x : Looks) (made : Handle) (o : Outcome) (us : List Use) → k.pending ≡ q → IsLive (Joined true k x) → connects_once (kept_calls k) ≡ true → HasTape t made → GoesOnWith q login n k x o us made
       → StepSo login t n statement (Joined true k x) made (steps.Poll n) o us
-  goes_on_with None k x made o us e once has r = idle_so login t all n statement (steps.Poll n) refl k x made o us e (λ closed next. refl) has r
-  goes_on_with (Some a) k x made o us e once has r = polls_on (is_connect (kind_of a.call)) k a x made o us e once refl a.rows refl has r
+  goes_on_with None k x made o us e live once has r = idle_so login t all n statement (steps.Poll n) refl k x made o us e (λ closed next. refl) has r
+  goes_on_with (Some a) k x made o us e live once has r = polls_on (is_connect (kind_of a.call)) k a x made o us e (live a e) once refl a.rows refl has r
 
-  pub goes_on_so : (plans : Plans) (h made : Handle) (o : Outcome) (us : List Use) → IsOnce h → HasTape t made → GoesOn login plans n h o us made → StepSo login t n statement h made (steps.Poll n) o us
-  goes_on_so plans Absent made o us once has r = absent_so login t all n statement (steps.Poll n) refl made o us has r
-  goes_on_so plans (Dialing left) made o us once has r = record {
+  pub goes_on_so : (plans : Plans) (h made : Handle) (o : Outcome) (us : List Use) → IsLive h → IsOnce h → HasTape t made → GoesOn login plans n h o us made → StepSo login t n statement h made (steps.Poll n) o us
+  goes_on_so plans Absent made o us live once has r = absent_so login t all n statement (steps.Poll n) refl made o us has r
+  goes_on_so plans (Dialing left) made o us live once has r = record {
     back = tt;
     forth = λ w tied. dials_so (steps.Poll n) (plans.reads n) (plans.writes n) left made o us has r w tied.1 (λ z uses. here_act status.Dialing w.spot.status n w.spot.next w.closed (steps.Poll n) z uses refl tied.0 refl);
   }
-  goes_on_so plans (Joined false k x) made o us once has r = gone_so login t all n statement (steps.Poll n) refl k x made o us has r
-  goes_on_so plans (Joined true k x) made o us once has r = goes_on_with k.pending k x made o us refl once has r
+  goes_on_so plans (Joined false k x) made o us live once has r = gone_so login t all n statement (steps.Poll n) refl k x made o us has r
+  goes_on_so plans (Joined true k x) made o us live once has r = goes_on_with k.pending k x made o us refl live once has r
 
   -- the open call is cancelled
   spot_cancelled : (b : Bool) (s : Spot) → Spotted t (not b) None (record { status = (if b then status.Absent else status.Idle); next = s.next; from = s.from; taken = s.taken })

@@ -34,6 +34,7 @@ use Rattle.run_laws.proofs.Judging.Gathering.{HasTape}
 use Rattle.run_laws.proofs.Judging.Stepping.{LineSo, OpenAs, Spotted, StepSo, Tied, is_there, same_number}
 use Rattle.run_laws.proofs.Judging.Calling.{Asks, asks_begin, asks_close, asks_commit, asks_drop, asks_execute, asks_forget, asks_item, asks_next, asks_ping, asks_prepare, asks_query, asks_quit, asks_reset, asks_user, asks_rollback, calls_so, collects_so, tells_so}
 use Rattle.run_laws.proofs.Judging.Streaming.{lets_go_so, streams_so}
+use Rattle.run_laws.proofs.Judging.Failing.{IsLive}
 use Rattle.run_laws.proofs.Judging.Resuming.{cancels_so, dials_so, goes_on_so}
 
 -- tests on numbers
@@ -394,40 +395,40 @@ module _ (login : Login) (t : Tape) (all : AreCalls login (reading login t).call
   unprepared_line found m step named plain second hs ts o us r has = missed_line found None m step named (λ e. record { beside = plain found; statements = second ∙ e }) (unprepared found m step named plain second) hs ts o us r has
 
   -- each step
-  pub line_so : (here found : Bool) (statement : Option StatementView) (plans : Plans) (hs ts : List Handle) (step : Step) (o : Outcome) (us : List Use) → (target step ≡ Some n → found ≡ here) → AreOnce hs → StepGrows login plans found statement hs step o us ts → HasTape t (at_number ts n)
+  pub line_so : (here found : Bool) (statement : Option StatementView) (plans : Plans) (hs ts : List Handle) (step : Step) (o : Outcome) (us : List Use) → (target step ≡ Some n → found ≡ here) → ((m : ℕ) → IsLive (at_number hs m)) → AreOnce hs → StepGrows login plans found statement hs step o us ts → HasTape t (at_number ts n)
       → RunsSo login t n here statement hs ts step o us
-  line_so here found statement plans hs ts steps.Conn o us same once r has = conn_line here statement plans hs ts o us r has
-  line_so here found statement plans hs ts (steps.Query m text) o us same once r has = asked_line here statement m (steps.Query m text) (calls.Query text) (asks_query m statement text) (always n here (is_some statement) (steps.Query m text) refl refl refl refl) hs ts o us r has
-  line_so here found statement plans hs ts (steps.Prepare m text) o us same once r has = asked_line here statement m (steps.Prepare m text) (calls.Prepare text) (asks_prepare m statement text) (always n here (is_some statement) (steps.Prepare m text) refl refl refl refl) hs ts o us r has
-  line_so here found (Some prepared) plans hs ts (steps.Execute m number params) o us same once r has = asked_line here (Some prepared) m (steps.Execute m number params) (calls.Execute prepared params) (asks_execute m prepared number params) (record { beside = either (λ b. is_missing n b (steps.Execute m number params)) refl refl here; statements = refl }) hs ts o us r has
-  line_so here found None plans hs ts (steps.Execute m number params) o us same once r has = unprepared_line here m (steps.Execute m number params) refl (either (λ b. is_missing n b (steps.Execute m number params)) refl refl) refl hs ts o us r has
-  line_so here found (Some prepared) plans hs ts (steps.CloseStatement m number) o us same once r has = asked_line here (Some prepared) m (steps.CloseStatement m number) (calls.CloseStmt prepared.inner.id) (asks_close m prepared number) (record { beside = either (λ b. is_missing n b (steps.CloseStatement m number)) refl refl here; statements = refl }) hs ts o us r has
-  line_so here found None plans hs ts (steps.CloseStatement m number) o us same once r has = unprepared_line here m (steps.CloseStatement m number) refl (either (λ b. is_missing n b (steps.CloseStatement m number)) refl refl) refl hs ts o us r has
-  line_so here found statement plans hs ts (steps.Next m) o us same once r has = asked_line here statement m (steps.Next m) calls.NextRow (asks_next m statement) (always n here (is_some statement) (steps.Next m) refl refl refl refl) hs ts o us r has
-  line_so here found statement plans hs ts (steps.Collect m) o us same once r has = named_line here statement m _ (steps.Collect m) (always n here (is_some statement) (steps.Collect m) refl refl refl refl) refl (λ z vs made e. e) hs ts o us
+  line_so here found statement plans hs ts steps.Conn o us same live once r has = conn_line here statement plans hs ts o us r has
+  line_so here found statement plans hs ts (steps.Query m text) o us same live once r has = asked_line here statement m (steps.Query m text) (calls.Query text) (asks_query m statement text) (always n here (is_some statement) (steps.Query m text) refl refl refl refl) hs ts o us r has
+  line_so here found statement plans hs ts (steps.Prepare m text) o us same live once r has = asked_line here statement m (steps.Prepare m text) (calls.Prepare text) (asks_prepare m statement text) (always n here (is_some statement) (steps.Prepare m text) refl refl refl refl) hs ts o us r has
+  line_so here found (Some prepared) plans hs ts (steps.Execute m number params) o us same live once r has = asked_line here (Some prepared) m (steps.Execute m number params) (calls.Execute prepared params) (asks_execute m prepared number params) (record { beside = either (λ b. is_missing n b (steps.Execute m number params)) refl refl here; statements = refl }) hs ts o us r has
+  line_so here found None plans hs ts (steps.Execute m number params) o us same live once r has = unprepared_line here m (steps.Execute m number params) refl (either (λ b. is_missing n b (steps.Execute m number params)) refl refl) refl hs ts o us r has
+  line_so here found (Some prepared) plans hs ts (steps.CloseStatement m number) o us same live once r has = asked_line here (Some prepared) m (steps.CloseStatement m number) (calls.CloseStmt prepared.inner.id) (asks_close m prepared number) (record { beside = either (λ b. is_missing n b (steps.CloseStatement m number)) refl refl here; statements = refl }) hs ts o us r has
+  line_so here found None plans hs ts (steps.CloseStatement m number) o us same live once r has = unprepared_line here m (steps.CloseStatement m number) refl (either (λ b. is_missing n b (steps.CloseStatement m number)) refl refl) refl hs ts o us r has
+  line_so here found statement plans hs ts (steps.Next m) o us same live once r has = asked_line here statement m (steps.Next m) calls.NextRow (asks_next m statement) (always n here (is_some statement) (steps.Next m) refl refl refl refl) hs ts o us r has
+  line_so here found statement plans hs ts (steps.Collect m) o us same live once r has = named_line here statement m _ (steps.Collect m) (always n here (is_some statement) (steps.Collect m) refl refl refl refl) refl (λ z vs made e. e) hs ts o us
       (λ made h d e. subst (λ z. StepSo login t z statement (at_number hs m) made (steps.Collect m) o us) e (collects_so login t all m statement (at_number hs m) made o us h d)) r has
-  line_so here found statement plans hs ts (steps.Drop m) o us same once r has = asked_line here statement m (steps.Drop m) calls.DropResult (asks_drop m statement) (always n here (is_some statement) (steps.Drop m) refl refl refl refl) hs ts o us r has
-  line_so here found statement plans hs ts (steps.Ping m) o us same once r has = asked_line here statement m (steps.Ping m) calls.Ping (asks_ping m statement) (always n here (is_some statement) (steps.Ping m) refl refl refl refl) hs ts o us r has
-  line_so here found statement plans hs ts (steps.Reset m) o us same once r has = asked_line here statement m (steps.Reset m) calls.Reset (asks_reset m statement) (always n here (is_some statement) (steps.Reset m) refl refl refl refl) hs ts o us r has
-  line_so here found statement plans hs ts (steps.User m change) o us same once r has = asked_line here statement m (steps.User m change) (calls.ChangeUser change) (asks_user m statement change) (always n here (is_some statement) (steps.User m change) refl refl refl refl) hs ts o us r has
-  line_so here found statement plans hs ts (steps.Begin m opts) o us same once r has = asked_line here statement m (steps.Begin m opts) (calls.Begin opts) (asks_begin m statement opts) (always n here (is_some statement) (steps.Begin m opts) refl refl refl refl) hs ts o us r has
-  line_so here found statement plans hs ts (steps.Commit m) o us same once r has = where_found here found statement m (steps.Commit m) calls.Commit (asks_commit m statement) refl refl (either (λ b. is_unprepared n b (steps.Commit m)) refl refl) same hs ts o us r has
-  line_so here found statement plans hs ts (steps.Rollback m) o us same once r has = where_found here found statement m (steps.Rollback m) calls.Rollback (asks_rollback m statement) refl refl (either (λ b. is_unprepared n b (steps.Rollback m)) refl refl) same hs ts o us r has
-  line_so here found statement plans hs ts (steps.ForgetTransaction m) o us same once r has = where_found here found statement m (steps.ForgetTransaction m) calls.ForgetTransaction (asks_forget m statement) refl refl (either (λ b. is_unprepared n b (steps.ForgetTransaction m)) refl refl) same hs ts o us r has
-  line_so here found statement plans hs ts (steps.Quit m) o us same once r has = asked_line here statement m (steps.Quit m) calls.Quit (asks_quit m statement) (always n here (is_some statement) (steps.Quit m) refl refl refl refl) hs ts o us r has
-  line_so here found statement plans hs ts (steps.Stream m) o us same once r has = named_line here statement m _ (steps.Stream m) (always n here (is_some statement) (steps.Stream m) refl refl refl refl) refl (λ z vs made e. e) hs ts o us
+  line_so here found statement plans hs ts (steps.Drop m) o us same live once r has = asked_line here statement m (steps.Drop m) calls.DropResult (asks_drop m statement) (always n here (is_some statement) (steps.Drop m) refl refl refl refl) hs ts o us r has
+  line_so here found statement plans hs ts (steps.Ping m) o us same live once r has = asked_line here statement m (steps.Ping m) calls.Ping (asks_ping m statement) (always n here (is_some statement) (steps.Ping m) refl refl refl refl) hs ts o us r has
+  line_so here found statement plans hs ts (steps.Reset m) o us same live once r has = asked_line here statement m (steps.Reset m) calls.Reset (asks_reset m statement) (always n here (is_some statement) (steps.Reset m) refl refl refl refl) hs ts o us r has
+  line_so here found statement plans hs ts (steps.User m change) o us same live once r has = asked_line here statement m (steps.User m change) (calls.ChangeUser change) (asks_user m statement change) (always n here (is_some statement) (steps.User m change) refl refl refl refl) hs ts o us r has
+  line_so here found statement plans hs ts (steps.Begin m opts) o us same live once r has = asked_line here statement m (steps.Begin m opts) (calls.Begin opts) (asks_begin m statement opts) (always n here (is_some statement) (steps.Begin m opts) refl refl refl refl) hs ts o us r has
+  line_so here found statement plans hs ts (steps.Commit m) o us same live once r has = where_found here found statement m (steps.Commit m) calls.Commit (asks_commit m statement) refl refl (either (λ b. is_unprepared n b (steps.Commit m)) refl refl) same hs ts o us r has
+  line_so here found statement plans hs ts (steps.Rollback m) o us same live once r has = where_found here found statement m (steps.Rollback m) calls.Rollback (asks_rollback m statement) refl refl (either (λ b. is_unprepared n b (steps.Rollback m)) refl refl) same hs ts o us r has
+  line_so here found statement plans hs ts (steps.ForgetTransaction m) o us same live once r has = where_found here found statement m (steps.ForgetTransaction m) calls.ForgetTransaction (asks_forget m statement) refl refl (either (λ b. is_unprepared n b (steps.ForgetTransaction m)) refl refl) same hs ts o us r has
+  line_so here found statement plans hs ts (steps.Quit m) o us same live once r has = asked_line here statement m (steps.Quit m) calls.Quit (asks_quit m statement) (always n here (is_some statement) (steps.Quit m) refl refl refl refl) hs ts o us r has
+  line_so here found statement plans hs ts (steps.Stream m) o us same live once r has = named_line here statement m _ (steps.Stream m) (always n here (is_some statement) (steps.Stream m) refl refl refl refl) refl (λ z vs made e. e) hs ts o us
       (λ made h d e. subst (λ z. StepSo login t z statement (at_number hs m) made (steps.Stream m) o us) e (streams_so login t all m statement (at_number hs m) made o us h d)) r has
-  line_so here found statement plans hs ts (steps.Item m) o us same once r has = where_found here found statement m (steps.Item m) calls.NextRow (asks_item m statement) refl refl (either (λ b. is_unprepared n b (steps.Item m)) refl refl) same hs ts o us r has
-  line_so here true statement plans hs ts (steps.Unstream m) o us same once r has = named_line here statement m _ (steps.Unstream m) (record { beside = found_there (λ b. is_missing n b (steps.Unstream m)) m refl refl here same; statements = either (λ b. is_unprepared n b (steps.Unstream m)) refl refl (is_some statement) }) refl (λ z vs made e. e) hs ts o us
+  line_so here found statement plans hs ts (steps.Item m) o us same live once r has = where_found here found statement m (steps.Item m) calls.NextRow (asks_item m statement) refl refl (either (λ b. is_unprepared n b (steps.Item m)) refl refl) same hs ts o us r has
+  line_so here true statement plans hs ts (steps.Unstream m) o us same live once r has = named_line here statement m _ (steps.Unstream m) (record { beside = found_there (λ b. is_missing n b (steps.Unstream m)) m refl refl here same; statements = either (λ b. is_unprepared n b (steps.Unstream m)) refl refl (is_some statement) }) refl (λ z vs made e. e) hs ts o us
       (λ made h d e. subst (λ z. StepSo login t z statement (at_number hs m) made (steps.Unstream m) o us) e (lets_go_so login t all m statement (at_number hs m) made o us h d)) r has
-  line_so here false statement plans hs ts (steps.Unstream m) o us same once r has = missed_line here statement m (steps.Unstream m) refl
+  line_so here false statement plans hs ts (steps.Unstream m) o us same live once r has = missed_line here statement m (steps.Unstream m) refl
       (λ other. record { beside = either (λ b. is_missing n b (steps.Unstream m)) refl other here; statements = either (λ b. is_unprepared n b (steps.Unstream m)) refl refl (is_some statement) })
       (not_found here (is_some statement) m (steps.Unstream m) refl refl same) hs ts o us r has
-  line_so here found statement plans hs ts (steps.Fields m) o us same once r has = named_line here statement m _ (steps.Fields m) (always n here (is_some statement) (steps.Fields m) refl refl refl refl) refl (λ z vs made e. e) hs ts o us
+  line_so here found statement plans hs ts (steps.Fields m) o us same live once r has = named_line here statement m _ (steps.Fields m) (always n here (is_some statement) (steps.Fields m) refl refl refl refl) refl (λ z vs made e. e) hs ts o us
       (λ made h d e. subst (λ z. StepSo login t z statement (at_number hs m) made (steps.Fields m) o us) e (tells_so login t all m statement (at_number hs m) made o us h d)) r has
-  line_so here found statement plans hs ts (steps.Poll m) o us same once r has = named_line here statement m _ (steps.Poll m) (always n here (is_some statement) (steps.Poll m) refl refl refl refl) refl (λ z vs made e. e) hs ts o us
-      (λ made h d e. subst (λ z. StepSo login t z statement (at_number hs m) made (steps.Poll m) o us) e (goes_on_so login t all m statement plans (at_number hs m) made o us (at_once login hs m once) h d)) r has
-  line_so here found statement plans hs ts (steps.Cancel m) o us same once r has = named_line here statement m _ (steps.Cancel m) (always n here (is_some statement) (steps.Cancel m) refl refl refl refl) refl (λ z vs made e. e) hs ts o us
+  line_so here found statement plans hs ts (steps.Poll m) o us same live once r has = named_line here statement m _ (steps.Poll m) (always n here (is_some statement) (steps.Poll m) refl refl refl refl) refl (λ z vs made e. e) hs ts o us
+      (λ made h d e. subst (λ z. StepSo login t z statement (at_number hs m) made (steps.Poll m) o us) e (goes_on_so login t all m statement plans (at_number hs m) made o us (live m) (at_once login hs m once) h d)) r has
+  line_so here found statement plans hs ts (steps.Cancel m) o us same live once r has = named_line here statement m _ (steps.Cancel m) (always n here (is_some statement) (steps.Cancel m) refl refl refl refl) refl (λ z vs made e. e) hs ts o us
       (λ made h d e. subst (λ z. StepSo login t z statement (at_number hs m) made (steps.Cancel m) o us) e (cancels_so login t all m statement (at_number hs m) made o us (at_once login hs m once) h d)) r has
-  line_so here found statement plans hs ts (steps.Advance by) o us same once r has = moved_line here statement hs ts (steps.Advance by) o us refl r has
-  line_so here found statement plans hs ts (steps.Random word) o us same once r has = moved_line here statement hs ts (steps.Random word) o us refl r has
+  line_so here found statement plans hs ts (steps.Advance by) o us same live once r has = moved_line here statement hs ts (steps.Advance by) o us refl r has
+  line_so here found statement plans hs ts (steps.Random word) o us same live once r has = moved_line here statement hs ts (steps.Random word) o us refl r has

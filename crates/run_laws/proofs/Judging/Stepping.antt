@@ -11,6 +11,7 @@ use Rattle.my_link.specs.Moves.{Stop as LinkStop}
 use Rattle.my_reading.specs.declared.answer.Answer.TheVariants as answers
 use Rattle.my_reading.specs.declared.call.Call.{Call}
 use Rattle.my_reading.specs.declared.facts.Facts.{Facts}
+use Rattle.my_reading.specs.Calls.{kind_of}
 use Rattle.my_reading.specs.Endings.{AreCalls}
 use Rattle.my_reading.specs.Errors.{connection_closed}
 use Rattle.my_reading.specs.Place.{facts_at}
@@ -30,13 +31,15 @@ use Rattle.my_acts.specs.Acts.{act_here, act_of, act_there, at_dialing, at_gathe
 use Rattle.my_client.specs.declared.poll.After.{After}
 use Rattle.my_client.specs.declared.poll.After.TheVariants as after
 use Rattle.my_client.specs.declared.tape.Said.TheVariants as says
-use Rattle.my_client.specs.Causes.{PollEnds}
-use Rattle.my_client.specs.Kept.{Asked, Kept, nothing_kept, asking, asked_by, ended_by}
+use Rattle.my_client.specs.Made.{has_closed}
+use Rattle.my_client.specs.Kept.{Asked, Kept, nothing_kept, made_of, asking, asked_by, ended_by}
+use Rattle.my_session.specs.Sessions.{is_refused}
 use Rattle.my_steps.specs.Grows.{shown, IsClosed, IsRefused, PolledOnce}
 use Rattle.my_steps.specs.Handle.{Handle, Absent, Dialing, Joined}
 use Rattle.my_run_judge.specs.declared.walk.Spot.{Spot}
 use Rattle.my_run_judge.specs.Lines.{ActRight, IsBegun, IsShownAt, MayEnd, after_last_poll, IsToldBy, after_act, after_polls, begun_in, first_of, is_pending}
 use Rattle.my_run_judge.specs.Walks.{Walk, with_status}
+use Rattle.run_laws.proofs.Polls.{PollEnds, Polled, polled_of}
 use Rattle.run_laws.proofs.Judging.Going.{GoesOn, before_begin, before_end, call_here, call_of, done_by, shown_call, shown_tape}
 use Rattle.run_laws.proofs.Judging.Tying.{AtWalk, at_begin, at_end, is_ended}
 use Rattle.run_laws.proofs.Judging.Meeting.{ShownBy}
@@ -218,20 +221,21 @@ module _ (login : Login) (t : Tape) (all : AreCalls login (reading login t).call
     pub forth : (w : Walk) → AtWalk login k w → act_of w.spot.status n w.spot.next w.closed step o 1 ≡ polled o
         → IsBegun (begun_in statement w step) (slice_get (map shown_call t.calls) w.spot.next) → LineSo login t n statement made step o us w
 
-  pub once_so : (k : Kept) (a : Asked) (x : Looks) (made : Handle) (o : Outcome) (us : List Use) → k.pending ≡ Some a → a.rows ≡ None → HasTape t made → (r : PolledOnce login n a k x o us made) → MayEnd (shown r.after) a.call → OnceSo k made o us
-  once_so k a x made o us kp nr has r may =
+  pub once_so : (k : Kept) (a : Asked) (x : Looks) (made : Handle) (o : Outcome) (us : List Use) → k.pending ≡ Some a → is_refused (has_closed (made_of k.calls)) (kind_of a.call) ≡ false → a.rows ≡ None → HasTape t made → (r : PolledOnce login n a k x o us made) → MayEnd (shown r.after) a.call → OnceSo k made o us
+  once_so k a x made o us kp live nr has r may =
+      let here : Polled login a k r.used.met r.after r.end = polled_of kp r.polled in
       let h : HasRest t r.end = subst (HasTape t) r.left has in
       record {
-        back = poll_back login t all a k r.end x r.link r.used r.after kp r.polled h;
+        back = poll_back login t all a k r.end r.used r.after kp here h;
         forth = λ w at acts begun.
-            let s : LastSo login t all a k r.end x r.link r.used r.after kp r.polled h n r.number w at (shown r.after) (first_of w.spot.status w.spot.next) =
-            last_poll login t all a k r.end x r.link r.used r.after kp r.polled h n r.number w at (shown r.after) (first_of w.spot.status w.spot.next) may (shown_by r.after _) in
+            let s : LastSo login t all a k r.end r.used r.after kp here h n r.number w at (shown r.after) (first_of w.spot.status w.spot.next) =
+            last_poll login t all a k r.end r.used r.after kp here h n r.number w at live (shown r.after) (first_of w.spot.status w.spot.next) may (shown_by r.after _) in
             subst (λ (z : Handle). LineSo login t n statement z step o us w) (sym r.left)
             (subst (λ (vs : List Use). LineSo login t n statement (Joined true r.end r.link) step o vs w) (sym r.uses)
             (subst (λ (z : Outcome). LineSo login t n statement (Joined true r.end r.link) step z (r.used ∷ []) w) (sym r.outcome) (record {
               act = Polls (if is_pending (shown r.after) then status.Open else status.Idle);
               act_is = subst (λ (z : Outcome). act_of w.spot.status n w.spot.next w.closed step z 1 ≡ polled z) r.outcome acts ∙ shown_acts r.after;
               right = (begun, s.right, shown_told r.after (facts_at login (after_polls login (shown_tape t) (shown r.after) (r.used ∷ []) w).place));
-              tied = (shown_spot a r.polled.following r.end r.used.met r.polled.stop r.after nr r.polled.pending r.polled.ends (after_last_poll login (shown_tape t) (shown r.after) r.used w).spot, s.after_is);
+              tied = (shown_spot a here.following r.end r.used.met here.stop r.after nr here.pending here.ends (after_last_poll login (shown_tape t) (shown r.after) r.used w).spot, s.after_is);
             })));
       }

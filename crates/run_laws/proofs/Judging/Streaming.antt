@@ -19,8 +19,8 @@ use Rattle.my_reading.specs.Told.{ToldError, ToldReady, closes, told}
 use Rattle.my_reading.specs.Course.{Returns, Stop}
 use Rattle.my_reading.specs.Errors.{connection_closed}
 use Rattle.my_session.specs.Fits.{may_be}
-use Rattle.my_session.specs.History.{has_closed}
-use Rattle.my_session.specs.Steps.{is_refused}
+use Rattle.my_client.specs.Made.{has_closed}
+use Rattle.my_session.specs.Sessions.{is_refused}
 use Rattle.my_script.specs.declared.step.Step.{Step}
 use Rattle.my_script.specs.declared.step.Step.TheVariants as steps
 use Rattle.my_script.specs.Streams.{is_skip, target}
@@ -33,17 +33,16 @@ use Rattle.my_acts.specs.Acts.{act_of, begun_by, polled, streamed, taking}
 use Rattle.my_client.specs.declared.poll.After.{After}
 use Rattle.my_client.specs.declared.poll.After.TheVariants as after
 use Rattle.my_client.specs.declared.tape.Said.TheVariants as says
-use Rattle.my_client.specs.Causes.{IsPolled, PollEnds}
 use Rattle.my_client.specs.Kept.{Asked, Kept, asked_by, asking, ended_by, made_of}
 use Rattle.my_client.specs.Reads.{ComesTo, place_kept}
 use Rattle.my_client.proofs.TapeRead.Stopping.{stop_closed}
-use Rattle.my_client.proofs.Hearing.{made_more}
 use Rattle.my_steps.specs.Grows.{Begins, BeginsOn, Calls, LetsGo, LetsGoWith, PolledOnce, Skips, StreamsAt, Takes, TakesOn, ThenTakes, is_done, shown, skips_first}
 use Rattle.my_steps.specs.Handle.{Handle, Absent, Dialing, Joined}
 use Rattle.my_run_judge.specs.Lines.{IsBegun, IsSkip, MayEnd, after_last_poll, begun_in, is_pending}
 use Rattle.my_run_judge.specs.Walks.{Walk, ended, with_status, with_taken}
+use Rattle.run_laws.proofs.Polls.{PollEnds, Polled, polled_of}
 use Rattle.run_laws.proofs.Judging.Going.{before_begin, shown_call, shown_tape}
-use Rattle.run_laws.proofs.Judging.Tying.{AtWalk, at_begin, place_at_rest}
+use Rattle.run_laws.proofs.Judging.Tying.{AtWalk, at_begin, closed_more, place_at_rest}
 use Rattle.run_laws.proofs.Judging.Meeting.{met_at_stop}
 use Rattle.run_laws.proofs.Judging.Polling.{HasRest, LastSo, after_so, begins_here, call_so, ended_so, fits, last_poll, may_end, next_so, poll_back}
 use Rattle.run_laws.proofs.Judging.Gathering.{HasTape}
@@ -121,10 +120,10 @@ module _ (login : Login) where
 -- a call that didn't close the connection
 still_open : (k b : Kept) (a : Asked) (answer : Answer) → b.calls ≡ k.calls → a.call ≡ calls.SkipTaken → answer ≡ answers.Ready → has_closed (made_of k.calls) ≡ false → has_closed (made_of (ended_by b a (says.Answered answer)).calls) ≡ false
 still_open k b a answer same skip ready alive =
-    ap has_closed (made_more b.calls (record { call = a.call; sent_from = a.sent_from; taken_from = a.taken_from; said = says.Answered answer }))
-    ∙ ap (λ c. closes (told answer) (kind_of c) || has_closed (made_of b.calls)) skip
-    ∙ ap (λ x. closes (told x) (kind_of calls.SkipTaken) || has_closed (made_of b.calls)) ready
-    ∙ ap (λ ds. has_closed (made_of ds)) same ∙ alive
+    closed_more b.calls (record { call = a.call; sent_from = a.sent_from; taken_from = a.taken_from; said = says.Answered answer })
+    ∙ ap (λ c. has_closed (made_of b.calls) || closes (told answer) (kind_of c)) skip
+    ∙ ap (λ x. has_closed (made_of b.calls) || closes (told x) (kind_of calls.SkipTaken)) ready
+    ∙ ap (λ c. c || closes (told answers.Ready) (kind_of calls.SkipTaken)) (ap (λ ds. has_closed (made_of ds)) same ∙ alive)
 
 -- a call that a closed connection refuses doesn't return that it is done
 was_open : (login : Login) (k b : Kept) (a : Asked) (answer : Answer) → b.calls ≡ k.calls → b.pending ≡ Some a → a.call ≡ calls.SkipTaken → answer ≡ answers.Ready → ComesTo login b (told answer) → has_closed (made_of k.calls) ≡ false
@@ -145,22 +144,22 @@ module _ (login : Login) (t : Tape) (all : AreCalls login (reading login t).call
         → ((z : Outcome) → act_of w.spot.status n w.spot.next w.closed step z 2 ≡ taking z TakesLine)
         → IsBegun (begun_in statement w step) (slice_get (map shown_call t.calls) w.spot.next) → LineSo login t n statement made step o us w
 
-  module _ (k : Kept) (a : Asked) (x : Looks) (made : Handle) (o : Outcome) (kp : k.pending ≡ Some a) (nr : a.rows ≡ None) (skip : a.call ≡ calls.SkipTaken) (has : HasTape t made) where
+  module _ (k : Kept) (a : Asked) (x : Looks) (made : Handle) (o : Outcome) (kp : k.pending ≡ Some a) (live : is_refused (has_closed (made_of k.calls)) (kind_of a.call) ≡ false) (nr : a.rows ≡ None) (skip : a.call ≡ calls.SkipTaken) (has : HasTape t made) where
     -- the first poll is the last one
     held : (us : List Use) (r : PolledOnce login n a k x o us made) → shown r.after ≡ outcomes.Pending → SkipsSo k made o us
     held us r is =
-        let s : OnceSo login t all n statement step named k made o us = once_so login t all n statement step named k a x made o us kp nr has r (subst (λ z. MayEnd z a.call) (sym is) tt) in
+        let s : OnceSo login t all n statement step named k made o us = once_so login t all n statement step named k a x made o us kp live nr has r (subst (λ z. MayEnd z a.call) (sym is) tt) in
         let o_is : o ≡ outcomes.Pending = r.outcome ∙ is in
         record { back = s.back; forth = λ w at pends fails twice begun. s.forth w at (subst (λ z. act_of w.spot.status n w.spot.next w.closed step z 1 ≡ polled z) (sym o_is) pends) begun }
 
     failed : (us : List Use) (e : Error) (r : PolledOnce login n a k x o us made) → shown r.after ≡ outcomes.Failed e → SkipsSo k made o us
     failed us e r is =
-        let s : OnceSo login t all n statement step named k made o us = once_so login t all n statement step named k a x made o us kp nr has r (subst (λ z. MayEnd z a.call) (sym is) tt) in
+        let s : OnceSo login t all n statement step named k made o us = once_so login t all n statement step named k a x made o us kp live nr has r (subst (λ z. MayEnd z a.call) (sym is) tt) in
         let o_is : o ≡ outcomes.Failed e = r.outcome ∙ is in
         record { back = s.back; forth = λ w at pends fails twice begun. s.forth w at (subst (λ z. act_of w.spot.status n w.spot.next w.closed step z 1 ≡ polled z) (sym o_is) (fails e)) begun }
 
     -- both calls are polled
-    module _ (end : Kept) (y : Looks) (u : Use) (polled_is : IsPolled login a k x u.met (after.Answered answers.Ready) end y) (number : u.number ≡ n) where
+    module _ (end : Kept) (y : Looks) (u : Use) (polled_is : Polled login a k u.met (after.Answered answers.Ready) end) (still : has_closed (made_of end.calls) ≡ false) (number : u.number ≡ n) where
       abbrev next : Kept
       next = asking end calls.TakeSet None
 
@@ -169,43 +168,44 @@ module _ (login : Login) (t : Tape) (all : AreCalls login (reading login t).call
 
       both : (vs : List Use) → PolledOnce login n asked next y o vs made → SkipsSo k made o (u ∷ vs)
       both vs q =
+          let last : Polled login asked next q.used.met q.after q.end = polled_of refl q.polled in
           let h : HasRest t q.end = subst (HasTape t) q.left has in
-          let more : HasRest t next = poll_back login t all asked next q.end y q.link q.used q.after refl q.polled h in
+          let more : HasRest t next = poll_back login t all asked next q.end q.used q.after refl last h in
           let none : end.pending ≡ None = ap (λ (z : Kept). z.pending) polled_is.ends.0 in
           let has_end : HasRest t end = (more.0, before_begin t end calls.TakeSet None more.0 none more.1) in
           let said = says.Answered answers.Ready in
           let p : After = after.Answered answers.Ready in
           let e = polled_is.ends.0 in
           record {
-            back = poll_back login t all a k end x y u p kp polled_is has_end;
+            back = poll_back login t all a k end u p kp polled_is has_end;
             forth = λ w at pends fails twice begun.
                 let w2 = with_taken u.met.taken w in
                 let shut = ended login (shown_tape t) false w2 in
-                let is_so = ended_so login t all a k end x y u p kp polled_is has_end n number w at said tt e in
-                let at_end : AtWalk login end shut = after_so login t all a k end x y u p kp polled_is has_end n number w at said tt e in
-                let count : w.spot.next + 1 ≡ length end.calls = next_so login t all a k end x y u p kp polled_is has_end n number w at said tt e in
-                let here = call_so login t all a k end x y u p kp polled_is has_end n number w at said tt e in
+                let is_so = ended_so login t all a k end u p kp polled_is has_end n number w at said tt e in
+                let at_end : AtWalk login end shut = after_so login t all a k end u p kp polled_is has_end n number w at said tt e in
+                let count : w.spot.next + 1 ≡ length end.calls = next_so login t all a k end u p kp polled_is has_end n number w at said tt e in
+                let here = call_so login t all a k end u p kp polled_is has_end n number w at said tt e in
                 let at_next : AtWalk login next shut = at_begin login end calls.TakeSet None shut none at_end in
                 let z : Outcome = shown q.after in
-                let s : LastSo login t all asked next q.end y q.link q.used q.after refl q.polled h n q.number shut at_next z shut.spot.next =
-                last_poll login t all asked next q.end y q.link q.used q.after refl q.polled h n q.number shut at_next z shut.spot.next (may_end z calls.TakeSet refl) (shown_by login t all n statement step named q.after _) in
+                let s : LastSo login t all asked next q.end q.used q.after refl last h n q.number shut at_next z shut.spot.next =
+                last_poll login t all asked next q.end q.used q.after refl last h n q.number shut at_next (ap (λ b. is_refused b (kind_of calls.TakeSet)) still) z shut.spot.next (may_end z calls.TakeSet refl) (shown_by login t all n statement step named q.after _) in
                 subst (λ (m : Handle). LineSo login t n statement m step o (u ∷ vs) w) (sym q.left)
                 (subst (λ (xs : List Use). LineSo login t n statement (Joined true q.end q.link) step o (u ∷ xs) w) (sym q.uses)
                 (subst (λ (v : Outcome). LineSo login t n statement (Joined true q.end q.link) step v (u ∷ q.used ∷ []) w) (sym q.outcome) (record {
                   act = TakesLine (if is_pending z then status.Open else status.Idle);
-                  act_is = twice z ∙ two_take login asked q.polled.following q.end q.used.met q.polled.stop q.after refl q.polled.ends;
+                  act_is = twice z ∙ two_take login asked last.following q.end q.used.met last.stop q.after refl last.ends;
                   right = (
                     begun,
                     (
                       (
-                        fits login t all a k end x y u p kp polled_is has_end n number w at,
-                        (polled_is.within, met_at_stop u.met polled_is.stop polled_is.taken polled_is.of_call polled_is.met NoStop polled_is.ends.3),
+                        fits login t all a k end u p kp polled_is has_end n number w at,
+                        (polled_is.within, met_at_stop u.met polled_is.stop polled_is.met NoStop polled_is.ends.3),
                         (subst IsSkip (sym here) (skip, refl), begins_here t next asked (w.spot.next + 1) count refl more, is_so),
                       ),
                       s.right,
                     ),
                   );
-                  tied = (shown_spot login t all n statement step named asked q.polled.following q.end q.used.met q.polled.stop q.after refl q.polled.pending q.polled.ends (after_last_poll login (shown_tape t) z q.used shut).spot, s.after_is);
+                  tied = (shown_spot login t all n statement step named asked last.following q.end q.used.met last.stop q.after refl last.pending last.ends (after_last_poll login (shown_tape t) z q.used shut).spot, s.after_is);
                 })));
           }
 
@@ -220,7 +220,7 @@ module _ (login : Login) (t : Tape) (all : AreCalls login (reading login t).call
   taken_open None kept x made o vs none alive r = begun_open _ kept x made o vs alive refl r
   taken_open (Some a) kept x made o vs none alive r = cc
 
-  module _ (k : Kept) (a : Asked) (x : Looks) (made : Handle) (o : Outcome) (us : List Use) (kp : k.pending ≡ Some a) (nr : a.rows ≡ None) (skip : a.call ≡ calls.SkipTaken) (has : HasTape t made) where
+  module _ (k : Kept) (a : Asked) (x : Looks) (made : Handle) (o : Outcome) (us : List Use) (kp : k.pending ≡ Some a) (live : is_refused (has_closed (made_of k.calls)) (kind_of a.call) ≡ false) (nr : a.rows ≡ None) (skip : a.call ≡ calls.SkipTaken) (has : HasTape t made) where
     only : (r : Skips (PolledOnce login n a k x) login n o us made) → (first : Outcome) → r.first ≡ first → is_done first ≡ false → (p : PolledOnce login n a k x o us made) × (p.after ≡ r.skips.after)
     only r first is done =
         let s = r.skips in
@@ -243,26 +243,27 @@ module _ (login : Login) (t : Tape) (all : AreCalls login (reading login t).call
     by_after r after.Pending is =
         let first : r.first ≡ outcomes.Pending = r.skips.outcome ∙ ap shown is in
         let p = only r outcomes.Pending first refl in
-        held k a x made o kp nr skip has us p.0 (ap shown (p.1 ∙ is))
+        held k a x made o kp live nr skip has us p.0 (ap shown (p.1 ∙ is))
     by_after r (after.Failed e) is =
         let first : r.first ≡ outcomes.Failed e = r.skips.outcome ∙ ap shown is in
         let p = only r (outcomes.Failed e) first refl in
-        failed k a x made o kp nr skip has us e p.0 (ap shown (p.1 ∙ is))
+        failed k a x made o kp live nr skip has us e p.0 (ap shown (p.1 ∙ is))
     by_after r (after.Answered answer) is =
         let s = r.skips in
-        let ends : PollEnds login a s.polled.following s.used.met s.polled.stop (after.Answered answer) s.end = subst (λ (p : After). PollEnds login a s.polled.following s.used.met s.polled.stop p s.end) is s.polled.ends in
+        let here : Polled login a k s.used.met s.after s.end = polled_of kp s.polled in
+        let ends : PollEnds login a here.following s.used.met here.stop (after.Answered answer) s.end = subst (λ (p : After). PollEnds login a here.following s.used.met here.stop p s.end) is here.ends in
         let ready : answer ≡ answers.Ready = skip_ready answer (subst (λ c. may_be (kind_of c) (told answer) ≡ true) skip ends.2) in
         let after_is : s.after ≡ after.Answered answers.Ready = is ∙ ap after.Answered ready in
         let first : is_done r.first ≡ true = ap is_done (s.outcome ∙ ap shown after_is) in
         let g : Calls login n calls.TakeSet (Joined true s.end s.link) o r.later made =
         subst (λ (h : Handle). Calls login n calls.TakeSet h o r.later made) s.left (subst (λ b. ThenTakes b login n r.first r.mid o r.later made) first r.takes) in
-        let alive : has_closed (made_of k.calls) ≡ false = was_open login k s.polled.following a answer s.polled.calls s.polled.pending skip ready ends.1 in
+        let alive : has_closed (made_of k.calls) ≡ false = was_open login k here.following a answer here.calls here.pending skip ready ends.1 in
         let none : s.end.pending ≡ None = ap (λ (z : Kept). z.pending) ends.0 in
-        let open_end : has_closed (made_of s.end.calls) ≡ false = ap (λ (z : Kept). has_closed (made_of z.calls)) ends.0 ∙ still_open k s.polled.following a answer s.polled.calls skip ready alive in
+        let open_end : has_closed (made_of s.end.calls) ≡ false = ap (λ (z : Kept). has_closed (made_of z.calls)) ends.0 ∙ still_open k here.following a answer here.calls skip ready alive in
         let q : PolledOnce login n (asked_by s.end calls.TakeSet) (asking s.end calls.TakeSet None) s.link o r.later made = taken_open s.end.pending s.end s.link made o r.later none open_end g in
-        let polled_is : IsPolled login a k x s.used.met (after.Answered answers.Ready) s.end s.link = subst (λ (p : After). IsPolled login a k x s.used.met p s.end s.link) after_is s.polled in
+        let polled_is : Polled login a k s.used.met (after.Answered answers.Ready) s.end = subst (λ (p : After). Polled login a k s.used.met p s.end) after_is here in
         subst (λ (vs : List Use). SkipsSo k made o vs) (sym (r.uses ∙ ap (λ (vs : List Use). vs ++ r.later) s.uses))
-        (both k a x made o kp nr skip has s.end s.link s.used polled_is s.number r.later q)
+        (both k a x made o kp live nr skip has s.end s.link s.used polled_is open_end s.number r.later q)
 
     pub skips_so : Skips (PolledOnce login n a k x) login n o us made → SkipsSo k made o us
     skips_so r = by_after r r.skips.after refl
@@ -302,11 +303,12 @@ module _ (login : Login) (t : Tape) (all : AreCalls login (reading login t).call
     at_once false shut first r =
         let f = asking k calls.TakeSet None in
         let a = asked_by k calls.TakeSet in
-        let s : OnceSo login t all n statement step refl f made o us = once_so login t all n statement step refl f a x made o us refl refl has r (may_end (shown r.after) calls.TakeSet refl) in
+        let here : Polled login a f r.used.met r.after r.end = polled_of refl r.polled in
+        let s : OnceSo login t all n statement step refl f made o us = once_so login t all n statement step refl f a x made o us refl (refused_by (has_closed (made_of k.calls)) ∙ shut) refl has r (may_end (shown r.after) calls.TakeSet refl) in
         record {
           back = (s.back.0, before_begin t k calls.TakeSet None s.back.0 none s.back.1);
           forth = λ w tied.
-              let once : taking o Polls ≡ polled o = subst (λ z. taking z Polls ≡ polled z) (sym r.outcome) (one_take login a r.polled.following r.end r.used.met r.polled.stop r.after refl r.polled.ends) in
+              let once : taking o Polls ≡ polled o = subst (λ z. taking z Polls ≡ polled z) (sym r.outcome) (one_take login a here.following r.end r.used.met here.stop r.after refl here.ends) in
               s.forth w (at_begin login k calls.TakeSet None w none tied.1) (acts w tied.0 tied.1 false shut o 1 ∙ once)
               (subst (λ b. IsBegun b (slice_get (map shown_call t.calls) w.spot.next)) (sym (ap (λ b. begun_by b statement step) (taken_at w tied.1 ∙ first))) (begins_here t f a w.spot.next tied.1.next_is refl s.back));
         }
@@ -337,7 +339,7 @@ module _ (login : Login) (t : Tape) (all : AreCalls login (reading login t).call
       skipping : Skips (Calls login n calls.SkipTaken (Joined true k x)) login n o us made → StepSo login t n statement (Joined true k x) made step o us
       skipping r =
           let g : Skips (PolledOnce login n a f x) login n o us made = record { first = r.first; used = r.used; mid = r.mid; skips = skip_begun k.pending r.first r.used r.mid refl r.skips; later = r.later; uses = r.uses; takes = r.takes } in
-          let s : SkipsSo login t all n statement step refl f made o us = skips_so login t all n statement step refl f a x made o us refl refl refl has g in
+          let s : SkipsSo login t all n statement step refl f made o us = skips_so login t all n statement step refl f a x made o us refl (ap (λ b. is_refused b (kind_of calls.SkipTaken)) alive) refl refl has g in
           record {
             back = (s.back.0, before_begin t k calls.SkipTaken None s.back.0 none s.back.1);
             forth = λ w tied.

@@ -12,7 +12,7 @@ use Rattle.my_reading.specs.Place.{Place, first_place}
 use Rattle.my_reading.specs.Reading.{ReadCall, read_calls, reading, halt_of, is_closing}
 use Rattle.my_reading.specs.Tape.{Span, Tape, TapeCall, between, sent_to, spans_from}
 use Rattle.my_reading.specs.Told.{Told, Dropped, closes}
-use Rattle.my_session.specs.History.{Made, has_closed}
+use Rattle.my_client.specs.Made.{Made, has_closed}
 use Rattle.my_script.specs.declared.transcript.TapeCall.{TapeCall as ShownCall}
 use Rattle.my_client.specs.declared.tape.DoneCall.{DoneCall}
 use Rattle.my_client.specs.declared.tape.Said.{Said}
@@ -163,7 +163,7 @@ closed_last : (ms : List Made) (m : Made) → has_closed (ms ++ m ∷ []) ≡ cl
 closed_last [] m = refl
 closed_last (x ∷ ms) m = ap (λ b. closes x.what (kind_of x.call) || b) (closed_last ms m) ∙ or_swap (closes x.what (kind_of x.call)) (closes m.what (kind_of m.call)) (has_closed ms)
 
-closed_more : (ds : List DoneCall) (d : DoneCall) → has_closed (made_of (ds ++ d ∷ [])) ≡ has_closed (made_of ds) || closes (told_by d.said) (kind_of d.call)
+pub closed_more : (ds : List DoneCall) (d : DoneCall) → has_closed (made_of (ds ++ d ∷ [])) ≡ has_closed (made_of ds) || closes (told_by d.said) (kind_of d.call)
 closed_more [] d = or_last (closes (told_by d.said) (kind_of d.call))
 closed_more (x ∷ ds) d =
     closed_last (made_of (ds ++ d ∷ [])) (record { call = x.call; what = told_by x.said })

@@ -21,7 +21,7 @@ use Rattle.my_judge.specs.Settled.{settled}
 use Rattle.my_world.specs.World.{Plans}
 use Rattle.my_steps.specs.Grows.{AreGrown, Line, StepGrows, beside_of, handles_after, is_found, statements_of}
 use Rattle.my_steps.specs.Handle.{Handle, Absent, Dialing, Joined, at_number}
-use Rattle.my_run.specs.Headline.{AnswerView, answer_view, answers_of, steps_of}
+use Rattle.my_run.specs.Headline.{AnswerView, EachExplained, answer_view, answers_of, steps_of}
 use Rattle.run_laws.proofs.Connecting.{grown_once}
 use Rattle.my_run_judge.specs.Lines.{ActRight, AreLines, EndsUnanswered, IsOver, after_act, is_unanswered}
 use Rattle.my_run_judge.specs.declared.made.Made.{Made}
@@ -32,6 +32,7 @@ use Rattle.run_laws.proofs.Judging.Going.{GoesOn, call_after, call_here, goes_he
 use Rattle.run_laws.proofs.Judging.Tying.{AtWalk, at_first, from_of, sent_of, step_right}
 use Rattle.run_laws.proofs.Judging.Gathering.{HasTape}
 use Rattle.run_laws.proofs.Judging.Stepping.{OpenAs, Spotted, Tied}
+use Rattle.run_laws.proofs.Judging.Failing.{lines_live}
 use Rattle.run_laws.proofs.Judging.Running.{Placed, RunsLine, RunsSo, line_so}
 
 -- the lines, by what is shown of their answers
@@ -68,8 +69,8 @@ module _ (login : Login) (plans : Plans) (t : Tape) (all : AreCalls login (readi
     pub reaches : (ss : List Step) (vs : List AnswerView) → AreShown login n (shown_tape t) (length ls) (made_of n ls) walk ss vs
         → AreShown login n (shown_tape t) 0 nothing_made (start login n) (steps_of ls ++ ss) (answers_of ls ++ vs)
 
-  pub ran : (ls : List Line) → AreGrown login plans ls → HasTape t (at_number (handles_after ls) n) → RanSo ls
-  ran [] grown has = record {
+  pub ran : (ls : List Line) → AreGrown login plans ls → EachExplained login plans ls → HasTape t (at_number (handles_after ls) n) → RanSo ls
+  ran [] grown said has = record {
     walk = start login n;
     placed = record {
       there = λ low. absurd (omega (arith, low));
@@ -77,14 +78,14 @@ module _ (login : Login) (plans : Plans) (t : Tape) (all : AreCalls login (readi
     };
     reaches = λ ss vs r. r;
   }
-  ran (l ∷ ls) grown has =
+  ran (l ∷ ls) grown said has =
       let found = finds (beside_of n ls) l.step in
       let statement = statement_for (made_of n ls) l.step in
       let grows : StepGrows login plans (is_found (target l.step) l.step ls) statement (handles_after ls) l.step l.outcome l.uses l.handles =
       grown.0.answer in
       let s : RunsSo login t n found statement (handles_after ls) l.handles l.step l.outcome l.uses =
-      line_so login t all n found (is_found (target l.step) l.step ls) statement plans (handles_after ls) l.handles l.step l.outcome l.uses (ap (λ q. is_found q l.step ls)) (grown_once login plans ls grown.1) grows has in
-      let before : RanSo ls = ran ls grown.1 s.back in
+      line_so login t all n found (is_found (target l.step) l.step ls) statement plans (handles_after ls) l.handles l.step l.outcome l.uses (ap (λ q. is_found q l.step ls)) (lines_live login plans ls said.1) (grown_once login plans ls grown.1) grows has in
+      let before : RanSo ls = ran ls grown.1 said.1 s.back in
       let line : RunsLine login t n found statement l.handles l.step l.outcome l.uses before.walk = s.forth before.walk before.placed in
       let view : AnswerView = record { number = l.number; outcome = l.outcome; uses = l.uses } in
       let count : length (l ∷ ls) ≡ length ls + 1 = omega arith in

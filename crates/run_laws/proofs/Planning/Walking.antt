@@ -6,13 +6,13 @@ use Rattle.my_link.specs.declared.link.ReadItem.{ReadItem}
 use Rattle.my_link.specs.declared.link.WriteItem.{WriteItem}
 use Rattle.my_link.specs.declared.met.Met.{Met}
 use Rattle.my_link.specs.Looks.{Looks}
-use Rattle.my_link.specs.Moves.{Stop, IsMet, IsUsed}
+use Rattle.my_link.specs.Moves.{Stop, IsMet, IsUsed, received_by, sent_by}
 use Rattle.my_link.specs.Spent.{spelled}
 use Rattle.my_client.specs.declared.poll.After.{After}
-use Rattle.my_client.specs.declared.poll.After.TheVariants as after
-use Rattle.my_client.specs.Causes.{IsPolled, PollEnds}
 use Rattle.my_client.specs.Kept.{Asked, Kept}
+use Rattle.my_client.specs.Polls.{IsPolled}
 use Rattle.my_script.specs.declared.transcript.Use.{Use}
+use Rattle.my_run.proofs.Polls.{met_so, taken_so, used_so}
 use Rattle.my_plan_judge.specs.declared.left.Left.{Left}
 use Rattle.my_plan_judge.specs.Left.{AreKept, IsKept, IsPlanned, after_met, after_use, after_uses}
 use Rattle.my_plan_judge.specs.Planned.{before_end}
@@ -28,12 +28,14 @@ pub record OnePoll (u : Met) (x : Looks) (taken : List ℕ) (y : Looks) (end : L
   pub end_is : end ≡ taken ++ came
 
 pub polled_once : (login : Login) (a : Asked) (k : Kept) (x : Looks) (u : Met) (p : After) (end : Kept) (y : Looks) → IsPolled login a k x u p end y → OnePoll u x k.taken y end.taken
-polled_once login a k x u p end y w = record { sent = w.sent; came = w.taken; stop = w.stop; used = w.used; met = w.met; end_is = same p w.ends ∙ w.taken_is }
-  where
-    same : (q : After) → PollEnds login a w.following u w.stop q end → end.taken ≡ w.following.taken
-    same after.Pending e = ap (λ (m : Kept). m.taken) e.0
-    same (after.Answered answer) e = ap (λ (m : Kept). m.taken) e.0
-    same (after.Failed error) e = ap (λ (m : Kept). m.taken) e.0
+polled_once login a k x u p end y w = record {
+  sent = sent_by w.moves;
+  came = received_by w.moves;
+  stop = w.stop;
+  used = used_so login a k x u p end y w;
+  met = met_so login a k x u p end y w;
+  end_is = taken_so login a k x u p end y w;
+}
 
 -- one for each use, all of connection n
 abbrev pub Walks : ℕ → List Use → Looks → List ℕ → Looks → List ℕ → Type 0

@@ -18,8 +18,8 @@ use Rattle.my_reading.specs.Reading.{reading}
 use Rattle.my_reading.specs.Tape.{Span, TapeCall, Tape as ReadTape}
 use Rattle.my_reading.specs.Told.{Told, ToldReady, ToldRow, ToldEnd, ToldNone, ToldStatement, ToldFlag, ToldError, ToldPassed, Dropped, told}
 use Rattle.my_session.specs.Fits.{may_be}
-use Rattle.my_session.specs.History.{has_closed}
-use Rattle.my_session.specs.Steps.{is_refused}
+use Rattle.my_client.specs.Made.{has_closed}
+use Rattle.my_session.specs.Sessions.{is_refused}
 use Rattle.my_handshake.specs.declared.version.ServerVersion.{ServerVersion}
 use Rattle.my_link.specs.declared.dialer.DialItem.{DialItem}
 use Rattle.my_link.specs.declared.link.ReadItem.{ReadItem}
@@ -37,7 +37,6 @@ use Rattle.my_client.specs.declared.poll.After.TheVariants as after
 use Rattle.my_client.specs.declared.tape.DoneCall.{DoneCall}
 use Rattle.my_client.specs.declared.tape.Said.{Said}
 use Rattle.my_client.specs.declared.tape.Said.TheVariants as says
-use Rattle.my_client.specs.Causes.{PollEnds}
 use Rattle.my_client.specs.Kept.{Asked, Kept, nothing_kept, told_by, made_of, asking, asked_by, ended_by, first_asked, first_kept}
 use Rattle.my_client.specs.Reads.{calls_kept, facts_kept, tape_kept}
 use Rattle.my_world.specs.World.{Plans}
@@ -51,6 +50,7 @@ use Rattle.reading_laws.specs.Bytes.{all_sent, all_taken, calls_from, tape_of}
 use Rattle.run_laws.specs.Shown.{step_of, is_stepped, outcome_of, taken_in, Shows}
 use Rattle.run_laws.specs.Tapes.{HasTape}
 use Rattle.run_laws.proofs.Connecting.{left_of, right_of}
+use Rattle.run_laws.proofs.Polls.{Polled, polled_of}
 use Rattle.run_laws.proofs.Tapes.{each_tape_is_read}
 use Rattle.run_laws.proofs.Refuting.Chain.{Chain, chain_split, grown_chain}
 
@@ -157,32 +157,31 @@ shown_by (answers.Flag flag) = refl
 once_went : (login : Login) (k : Kept) (call : Call) (x : Looks) (o : Outcome) (us : List Use) (t : Handle) → PolledOnce login 0 (asked_by k call) (asking k call None) x o us t → Went k call o (taken_in us) t
 unfolding ending_by
 once_went login k call x o us t w =
-    let a : Asked = asked_by k call in
-    let f : Kept = w.polled.following in
-    let count : length f.taken ≡ length k.taken + taken_in us =
-    let e = ap length w.polled.taken_is in
-    let l = length-append k.taken w.polled.taken in
+    let v : Polled login (asked_by k call) (asking k call None) w.used.met w.after w.end = polled_of refl w.polled in
+    let count : length v.following.taken ≡ length k.taken + taken_in us =
+    let e = ap length v.taken_is in
+    let l = length-append k.taken v.taken in
     let u : taken_in us ≡ w.used.met.taken + 0 = ap taken_in w.uses in
-    omega (arith, e, l, u, w.polled.met.taken) in
-    by_after w.after count w.polled.ends w.outcome w.left
+    omega (arith, e, l, u, v.count) in
+    by_after w.after v count w.outcome w.left
   where
-    by_after : (p : After) → length w.polled.following.taken ≡ length k.taken + taken_in us → PollEnds login (asked_by k call) w.polled.following w.used.met w.polled.stop p w.end → o ≡ shown p → t ≡ Joined true w.end w.link → Went k call o (taken_in us) t
-    by_after after.Pending count e is left = record {
-      kept = w.polled.following;
+    by_after : (p : After) (v : Polled login (asked_by k call) (asking k call None) w.used.met p w.end) → length v.following.taken ≡ length k.taken + taken_in us → o ≡ shown p → t ≡ Joined true w.end w.link → Went k call o (taken_in us) t
+    by_after after.Pending v count is left = record {
+      kept = v.following;
       link = w.link;
-      left = left ∙ ap (λ (m : Kept). Joined true m w.link) e.0;
+      left = left ∙ ap (λ (m : Kept). Joined true m w.link) v.ends.0;
       ending = None;
       ending_is = sym (ap ending_by is);
-      calls = ap (λ p. calls_kept w.polled.following.calls p) w.polled.pending ∙ ap (λ ds. calls_kept ds (Some (asked_by k call))) w.polled.calls ∙ open_last k.calls (asked_by k call);
+      calls = ap (λ p. calls_kept v.following.calls p) v.pending ∙ ap (λ ds. calls_kept ds (Some (asked_by k call))) v.calls ∙ open_last k.calls (asked_by k call);
       count = count;
       rests = λ no. cc;
     }
-    by_after (after.Answered answer) count e is left =
-        ended_went k w.polled.following (asked_by k call) (says.Answered answer) o (taken_in us) w.link t call refl refl refl w.polled.calls count
-        (left ∙ ap (λ (m : Kept). Joined true m w.link) e.0) (shown_by answer ∙ sym (ap ending_by is))
-    by_after (after.Failed x) count e is left =
-        ended_went k w.polled.following (asked_by k call) (says.Failed x) o (taken_in us) w.link t call refl refl refl w.polled.calls count
-        (left ∙ ap (λ (m : Kept). Joined true m w.link) e.0) (sym (ap ending_by is))
+    by_after (after.Answered answer) v count is left =
+        ended_went k v.following (asked_by k call) (says.Answered answer) o (taken_in us) w.link t call refl refl refl v.calls count
+        (left ∙ ap (λ (m : Kept). Joined true m w.link) v.ends.0) (shown_by answer ∙ sym (ap ending_by is))
+    by_after (after.Failed x) v count is left =
+        ended_went k v.following (asked_by k call) (says.Failed x) o (taken_in us) w.link t call refl refl refl v.calls count
+        (left ∙ ap (λ (m : Kept). Joined true m w.link) v.ends.0) (sym (ap ending_by is))
 
 none_more : (n m : ℕ) → m ≡ 0 → n ≡ n + m
 none_more n m e = omega (arith, e)
@@ -319,18 +318,19 @@ ready_answer (answers.Flag flag) e = cc
 connects_went : (login : Login) (x : Looks) (o : Outcome) (us : List Use) (used : Use) (t : Handle) (id : ℕ) (version : ServerVersion) → o ≡ Connected 0 id version → us ≡ quiet 0 ∷ used ∷ [] → Connects login 0 first_asked first_kept x o used t → Went nothing_kept calls.Connect o (taken_in us) t
 unfolding ending_by
 connects_went login x o us used t id version is uses w =
-    let count : length w.polled.following.taken ≡ 0 + taken_in us =
-    let e = ap length w.polled.taken_is in
+    let v : Polled login first_asked first_kept used.met w.after w.end = polled_of refl w.polled in
+    let count : length v.following.taken ≡ 0 + taken_in us =
+    let e = ap length v.taken_is in
     let u : taken_in us ≡ 0 + (used.met.taken + 0) = ap taken_in uses in
-    omega (arith, e, u, w.polled.met.taken) in
-    by_after w.after count w.polled.ends w.shows
+    omega (arith, e, u, v.count) in
+    by_after w.after v count w.shows
   where
-    by_after : (p : After) → length w.polled.following.taken ≡ 0 + taken_in us → PollEnds login first_asked w.polled.following used.met w.polled.stop p w.end → ConnectShows login 0 p w.end w.link o t → Went nothing_kept calls.Connect o (taken_in us) t
-    by_after after.Pending count e s = let no : Pending ≡ Connected 0 id version = sym s.0 ∙ is in cc
-    by_after (after.Answered answer) count e s =
-        ended_went nothing_kept w.polled.following first_asked (says.Answered answer) o (taken_in us) w.link t calls.Connect refl refl refl w.polled.calls count
-        (s.1 ∙ ap (λ (m : Kept). Joined true m w.link) e.0) (ap Some (ready_answer answer e.2) ∙ sym (ap ending_by is))
-    by_after (after.Failed x) count e s = let no : Failed x ≡ Connected 0 id version = sym s.0 ∙ is in cc
+    by_after : (p : After) (v : Polled login first_asked first_kept used.met p w.end) → length v.following.taken ≡ 0 + taken_in us → ConnectShows login 0 p w.end w.link o t → Went nothing_kept calls.Connect o (taken_in us) t
+    by_after after.Pending v count s = let no : Pending ≡ Connected 0 id version = sym s.0 ∙ is in cc
+    by_after (after.Answered answer) v count s =
+        ended_went nothing_kept v.following first_asked (says.Answered answer) o (taken_in us) w.link t calls.Connect refl refl refl v.calls count
+        (s.1 ∙ ap (λ (m : Kept). Joined true m w.link) v.ends.0) (ap Some (ready_answer answer v.ends.2) ∙ sym (ap ending_by is))
+    by_after (after.Failed x) v count s = let no : Failed x ≡ Connected 0 id version = sym s.0 ∙ is in cc
 
 dials_went : (login : Login) (plan : Option (List ReadItem)) (rules : Option (List WriteItem)) (items : Option (List DialItem)) (o : Outcome) (us : List Use) (t : Handle) (id : ℕ) (version : ServerVersion) → o ≡ Connected 0 id version → Dials login plan rules items 0 o us t → Went nothing_kept calls.Connect o (taken_in us) t
 dials_went login plan rules items o us t id version is (Holds left e f g h) = let no : Pending ≡ Connected 0 id version = sym e ∙ is in cc

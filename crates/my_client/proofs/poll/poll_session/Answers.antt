@@ -1,52 +1,68 @@
-use Rattle.std.proofs.Common.{refl, sym, subst, ◌∙◌, ◌≤◌, arith}
+use Rattle.std.proofs.Common.{ℕ, ◌≡◌, ◌+◌, ◌-◌, ◌≤◌, arith, subst, sym, ap, refl, ◌∙◌}
 use Rattle.my_frame.specs.declared.limits.TheConstants.{MOST_TAKEN}
+use Rattle.my_client.specs.declared.poll.Turn.{Turn}
+use Rattle.my_client.specs.Stands.{StandsAsked}
+use Rattle.my_client.specs.Turns.{EachTurn, took_by}
 use Rattle.my_link.specs.declared.met.Met.{Met}
-use Rattle.my_client.specs.Conn.{seen_with}
-use Rattle.my_client.specs.Lives.{Lives}
-use Rattle.my_client.proofs.Living.{lives_after, lives_still}
-use Rattle.my_client.proofs.Rounds.{nothing_yet}
-use Rattle.my_client.proofs.Turning.{goes_on, is_over, on_still, taken_within}
+use Rattle.my_client.proofs.Living.{lives_both, lives_still}
+use Rattle.my_client.proofs.Polling.{EachSoFar, is_over, nothing_yet, sent_on, took_on}
+use Rattle.my_client.proofs.poll.poll_session.Goals.{in-Sent, in-Took}
 use Rattle.my_client.proofs.poll.poll_session.Goals as goal
 
 pub turns-init : goal.turns-init
 turns-init g c = record {
-  is_on = c.requires;
-  within = subst (λ (m : Met). m.taken ≤ MOST_TAKEN) (sym c.nothing-met.ensures) (omega arith);
-  lives = subst (λ (m : Met). Lives c.args.now m.taken c.args.session.now c.args.session.now) (sym c.nothing-met.ensures) (lives_still c.args.now 0 c.args.session.now c.args.session.now (omega arith) refl);
+  within = omega arith;
+  lives = lives_still c.args.now 0 c.args.session.now c.args.session.now (omega arith) refl;
   made = refl;
-  so = λ k w. record {
-    following = k;
-    noted = w;
-    calls = refl;
-    pending = refl;
-    so = nothing_yet (seen_with c.args.session.now.seen (g.L.Link.looks c.args.link.now) k) c.nothing-met.result c.nothing-met.ensures;
-    rests = λ login a h. h;
-  };
+  so = nothing_yet g.T.Notes.keeps c.args.session.now.seen (g.L.Link.looks c.args.link.now) c.args.notes.now;
 }
 
-pub returns-in-Some-clause-polls : goal.returns-in-Some-clause-polls
-returns-in-Some-clause-polls g c =
-    is_over g.T.Notes.keeps c.args.session.now.seen c.turns.session.seen c.take_turn.new.session.seen _ _ _ _ _ _ c.turns.met c.in_ok-turn.turn c.turns.invariant.so c.in_ok-turn.ensures.turn c.in_ok-turn.ensures.within c.in_ok-turn.ensures.full c.in-Some.after c.met_after-met.result (sym c.in-Some.is ∙ c.after_turn.ensures) c.met_after-met.ensures
+pub overflow_add-taken : goal.overflow_add-taken
+overflow_add-taken g c =
+    let within : c.in-Took.n ≤ MOST_TAKEN - c.turns.taken = subst (λ (x : Turn). took_by x ≤ MOST_TAKEN - c.turns.taken) c.in-Took.is c.in_ok-take_turn.ensures.took in
+    omega (arith, within, c.turns.invariant.within)
+
+pub returns-in-Over-clause-polls : goal.returns-in-Over-clause-polls
+returns-in-Over-clause-polls g c =
+    is_over g.T.Notes.keeps c.args.session.now.seen c.turns.session.seen c.take_turn.new.session.seen (g.L.Link.looks c.args.link.now) (g.L.Link.looks c.turns.link) (g.L.Link.looks c.take_turn.new.link)
+    c.args.notes.now c.turns.notes c.take_turn.new.notes c.turns.taken (MOST_TAKEN - c.turns.taken) c.turns.invariant.so c.in-Over.halt c.in-Over.after c.met_at.result
+    (subst (λ (x : Turn). EachTurn StandsAsked g.T.Notes.keeps c.turns.session.seen c.take_turn.new.session.seen (g.L.Link.looks c.turns.link) (g.L.Link.looks c.take_turn.new.link) c.turns.notes c.take_turn.new.notes (MOST_TAKEN - c.turns.taken) x) c.in-Over.is c.in_ok-take_turn.ensures.turn)
+    (omega (arith, c.turns.invariant.within)) c.met_at.ensures
+
+pub returns-in-Over-clause-lives : goal.returns-in-Over-clause-lives
+returns-in-Over-clause-lives g c =
+    lives_both c.args.now c.turns.taken (took_by c.in_ok-take_turn.field-0) c.met_at.result.taken c.args.session.now c.turns.session c.take_turn.new.session
+    (omega (arith, ap (λ (m : Met). m.taken) c.met_at.ensures, ap took_by c.in-Over.is)) c.turns.invariant.lives c.in_ok-take_turn.ensures.lives
 
 pub turns-preserved : goal.turns-preserved
 turns-preserved g c =
-    let gone = sym c.in-None.is ∙ c.after_turn.ensures in
-    record {
-      is_on = on_still c.in_ok-turn.turn c.take_turn.new.session.seen gone c.in_ok-turn.ensures.on;
-      within = taken_within c.in_ok-turn.turn c.turns.met c.met_after-met.result c.met_after-met.ensures c.turns.invariant.within c.in_ok-turn.ensures.within;
-      lives = lives_after c.args.now c.in_ok-turn.turn c.turns.met c.met_after-met.result c.args.session.now c.turns.session c.take_turn.new.session c.met_after-met.ensures c.turns.invariant.lives c.in_ok-turn.ensures.lives;
-      made = c.take_turn.ensures.made ∙ c.turns.invariant.made;
-      so = goes_on g.T.Notes.keeps c.args.session.now.seen c.turns.session.seen c.take_turn.new.session.seen _ _ _ _ _ _ c.turns.met c.in_ok-turn.turn c.turns.invariant.so c.in_ok-turn.ensures.turn c.in_ok-turn.ensures.within c.in_ok-turn.ensures.full c.met_after-met.result gone c.met_after-met.ensures;
-    }
+    let each = λ (x : Turn). EachTurn StandsAsked g.T.Notes.keeps c.turns.session.seen c.take_turn.new.session.seen (g.L.Link.looks c.turns.link) (g.L.Link.looks c.take_turn.new.link) c.turns.notes c.take_turn.new.notes (MOST_TAKEN - c.turns.taken) x in
+    let far = λ (n : ℕ). EachSoFar g.T.Notes.keeps c.args.session.now.seen c.take_turn.new.session.seen (g.L.Link.looks c.args.link.now) (g.L.Link.looks c.take_turn.new.link) c.args.notes.now c.take_turn.new.notes n in
+    elim c.match-branch-2.branch [
+      | in-Sent w ↦
+          let same : c.match-branch-2.taken ≡ c.turns.taken = omega (arith, w.taken-is) in
+          record {
+            within = omega (arith, same, c.turns.invariant.within);
+            made = c.take_turn.ensures.made ∙ c.turns.invariant.made;
+            lives = lives_both c.args.now c.turns.taken (took_by c.in_ok-take_turn.field-0) c.match-branch-2.taken c.args.session.now c.turns.session c.take_turn.new.session
+                (omega (arith, same, ap took_by w.in-Sent.is)) c.turns.invariant.lives c.in_ok-take_turn.ensures.lives;
+            so = subst far (sym same)
+                (sent_on g.T.Notes.keeps c.args.session.now.seen c.turns.session.seen c.take_turn.new.session.seen (g.L.Link.looks c.args.link.now) (g.L.Link.looks c.turns.link) (g.L.Link.looks c.take_turn.new.link)
+                c.args.notes.now c.turns.notes c.take_turn.new.notes c.turns.taken (MOST_TAKEN - c.turns.taken) c.turns.invariant.so (subst each w.in-Sent.is c.in_ok-take_turn.ensures.turn));
+          }
+      | in-Took w ↦
+          let within : w.in-Took.n ≤ MOST_TAKEN - c.turns.taken = subst (λ (x : Turn). took_by x ≤ MOST_TAKEN - c.turns.taken) w.in-Took.is c.in_ok-take_turn.ensures.took in
+          let same : c.match-branch-2.taken ≡ c.turns.taken + w.in-Took.n = omega (arith, w.taken-is) in
+          record {
+            within = omega (arith, same, within, c.turns.invariant.within);
+            made = c.take_turn.ensures.made ∙ c.turns.invariant.made;
+            lives = lives_both c.args.now c.turns.taken (took_by c.in_ok-take_turn.field-0) c.match-branch-2.taken c.args.session.now c.turns.session c.take_turn.new.session
+                (omega (arith, same, ap took_by w.in-Took.is)) c.turns.invariant.lives c.in_ok-take_turn.ensures.lives;
+            so = subst far (sym same)
+                (took_on g.T.Notes.keeps c.args.session.now.seen c.turns.session.seen c.take_turn.new.session.seen (g.L.Link.looks c.args.link.now) (g.L.Link.looks c.turns.link) (g.L.Link.looks c.take_turn.new.link)
+                c.args.notes.now c.turns.notes c.take_turn.new.notes c.turns.taken (MOST_TAKEN - c.turns.taken) c.turns.invariant.so w.in-Took.n (subst each w.in-Took.is c.in_ok-take_turn.ensures.turn));
+          }
+    ]
 
-pub returns-in-Some-clause-within : goal.returns-in-Some-clause-within
-returns-in-Some-clause-within g c = taken_within c.in_ok-turn.turn c.turns.met c.met_after-met.result c.met_after-met.ensures c.turns.invariant.within c.in_ok-turn.ensures.within
-
-pub returns-in-Some-clause-lives : goal.returns-in-Some-clause-lives
-returns-in-Some-clause-lives g c = lives_after c.args.now c.in_ok-turn.turn c.turns.met c.met_after-met.result c.args.session.now c.turns.session c.take_turn.new.session c.met_after-met.ensures c.turns.invariant.lives c.in_ok-turn.ensures.lives
-
-pub returns-in-Some-clause-made : goal.returns-in-Some-clause-made
-returns-in-Some-clause-made g c = c.take_turn.ensures.made ∙ c.turns.invariant.made
-
-pub returns-in_err-turn-clause-made : goal.returns-in_err-turn-clause-made
-returns-in_err-turn-clause-made g c = c.take_turn.ensures.made ∙ c.turns.invariant.made
+pub returns-in-Over-clause-made : goal.returns-in-Over-clause-made
+returns-in-Over-clause-made g c = c.take_turn.ensures.made ∙ c.turns.invariant.made

@@ -1,46 +1,48 @@
-use Rattle.std.proofs.Common.{inr, refl, ◌∙◌}
+use Rattle.std.proofs.Common.{refl, subst, sym, ◌∙◌}
 use Rattle.std.proofs.lemmas.Result.{IfOk-weaker}
-use Rattle.my_session.proofs.Ends.{ended_fails}
-use Rattle.my_client.specs.Rests.{IsAsked, IsHeld}
-use Rattle.my_client.specs.Turns.{IsAwaiting}
-use Rattle.my_client.specs.declared.poll.Turn.TheVariants.{Full, Answered, Faulted}
-use Rattle.my_client.proofs.Hearing.Stepping.{held_send, held_need, awaits, is_answered}
-use Rattle.my_client.proofs.Hearing.Failing.{faulted_same}
-use Rattle.my_client.proofs.Turning.{behind, stays}
-use Rattle.my_client.specs.Poll.{took_by}
+use Rattle.my_reading.specs.Course.{Awaits, Owes}
+use Rattle.my_reading.specs.declared.error.Error.{Error}
+use Rattle.my_session.specs.declared.answer.SessionStep.TheVariants as steps
+use Rattle.my_session.specs.Sessions.{IsStep}
+use Rattle.my_client.specs.declared.poll.After.TheVariants.{Pending, Answered, Failed}
+use Rattle.my_client.specs.declared.poll.Halt.TheVariants as halts
+use Rattle.my_client.specs.Stands.{StandsAsked, Stopped}
+use Rattle.my_client.proofs.Polling.{answered_so, behind, failed_so, full_so, over_so}
+use Rattle.my_client.proofs.Stepping.{step_leaves}
+use Rattle.my_client.specs.Turns.{took_by}
 use Rattle.my_client.proofs.Living.{lives_by, lives_then, made_lived}
 use Rattle.my_client.proofs.poll.take_turn.Goals as goal
 
 pub returns-then-room-eq0-clause-turn : goal.returns-then-room-eq0-clause-turn
 returns-then-room-eq0-clause-turn g c =
-    stays g.T.Notes.keeps IsAsked c.args.session.now.seen c.step.new.self.seen _ _ _ Full
-    (λ r k. (inr (record { needs = c.in-Need.ensures.leaves; fails = ended_fails c.args.session.now.seen c.step.new.self.seen c.in-Need.ensures.steps }), refl, refl, refl))
-    (λ login k a w. held_need login c.args.session.now.seen c.step.new.self.seen k a w c.in-Need.ensures.leaves c.in-Need.ensures.steps c.in-Need.ensures.stands c.in-Need.ensures.reads)
+    over_so g.T.Notes.keeps StandsAsked c.args.session.now.seen c.step.new.self.seen _ _ c.args.notes.now c.args.room halts.Ready Pending refl
+    (λ login k a w. full_so login c.step.new.self.seen c.step.new.self.seen k a c.args.room c.if-room-eq0.true (step_leaves login c.args.session.now.seen c.step.new.self.seen k a steps.Need w c.in-Need.ensures.reads))
 
 pub returns-in-Send-clause-turn : goal.returns-in-Send-clause-turn
 returns-in-Send-clause-turn g c = IfOk-weaker c.send.result _ _
-    (λ turn f. behind g.T.Notes.keeps IsHeld c.args.session.now.seen c.step.new.self.seen c.send.new.session.seen _ _ _ _ turn
-    (λ login k a w. held_send login c.args.session.now.seen c.step.new.self.seen k a w c.in-Send.ensures.leaves c.in-Send.ensures.steps c.in-Send.ensures.stands c.in-Send.ensures.reads) f)
+    (λ turn f. behind g.T.Notes.keeps (Stopped Owes) c.args.session.now.seen c.step.new.self.seen c.send.new.session.seen _ _ _ _ c.args.room turn
+    (λ login k a w. step_leaves login c.args.session.now.seen c.step.new.self.seen k a steps.Send w c.in-Send.ensures.reads) (f c.args.room))
     c.send.ensures.turn
 
 pub returns-else-room-eq0-clause-turn : goal.returns-else-room-eq0-clause-turn
 returns-else-room-eq0-clause-turn g c = IfOk-weaker c.receive.result _ _
-    (λ turn f. behind g.T.Notes.keeps IsAwaiting c.args.session.now.seen c.step.new.self.seen c.receive.new.session.seen _ _ _ _ turn
-    (λ login k a w. (held_need login c.args.session.now.seen c.step.new.self.seen k a w c.in-Need.ensures.leaves c.in-Need.ensures.steps c.in-Need.ensures.stands c.in-Need.ensures.reads, awaits c.args.session.now.seen c.step.new.self.seen c.in-Need.ensures.steps)) f)
+    (λ turn f. behind g.T.Notes.keeps (Stopped Awaits) c.args.session.now.seen c.step.new.self.seen c.receive.new.session.seen _ _ _ _ c.args.room turn
+    (λ login k a w. step_leaves login c.args.session.now.seen c.step.new.self.seen k a steps.Need w c.in-Need.ensures.reads) f)
     c.receive.ensures.turn
 
 pub returns-in-Done-clause-turn : goal.returns-in-Done-clause-turn
 returns-in-Done-clause-turn g c =
-    stays g.T.Notes.keeps IsAsked c.args.session.now.seen c.step.new.self.seen _ _ _ (Answered c.in-Done.answer) (λ r k. (c.in-Done.ensures.leaves, refl, refl, refl))
-    (λ login k a w. is_answered login c.args.session.now.seen c.step.new.self.seen k a c.in-Done.answer w c.in-Done.ensures.steps c.in-Done.ensures.leaves c.in-Done.ensures.stands c.in-Done.ensures.reads)
+    over_so g.T.Notes.keeps StandsAsked c.args.session.now.seen c.step.new.self.seen _ _ c.args.notes.now c.args.room halts.Ready (Answered c.in-Done.answer) refl
+    (λ login k a w. answered_so login c.args.session.now.seen c.step.new.self.seen k a c.args.room c.in-Done.answer (step_leaves login c.args.session.now.seen c.step.new.self.seen k a (steps.Done c.in-Done.answer) w c.in-Done.ensures.reads))
 
 pub returns-in_ok-fault-in-Fault-clause-turn : goal.returns-in_ok-fault-in-Fault-clause-turn
 returns-in_ok-fault-in-Fault-clause-turn g c =
-    stays g.T.Notes.keeps IsAsked c.args.session.now.seen c.step.new.self.seen _ _ _ (Faulted c.in_ok-fault-in-Fault.field-0) (λ r k. (c.in-Fault.ensures.leaves, refl, refl, refl))
-    (λ login k a w. faulted_same login c.args.session.now.seen c.step.new.self.seen k a c.in-Fault.error c.in_ok-fault-in-Fault.field-0 c.in_ok-fault-in-Fault.ensures.value c.in_ok-fault-in-Fault.ensures.kept w c.requires c.in-Fault.ensures.steps c.in-Fault.ensures.leaves c.in-Fault.ensures.stands c.in-Fault.ensures.reads)
-
-pub receive-requires-clause-ends : goal.receive-requires-clause-ends
-receive-requires-clause-ends g c = ended_fails c.args.session.now.seen c.step.new.self.seen c.in-Need.ensures.steps
+    let e = c.in_ok-fault-in-Fault.field-0 in
+    over_so g.T.Notes.keeps StandsAsked c.args.session.now.seen c.step.new.self.seen _ _ c.args.notes.now c.args.room halts.Ready (Failed e) refl
+    (λ login k a w. failed_so login c.args.session.now.seen c.step.new.self.seen k a c.args.room e
+    (step_leaves login c.args.session.now.seen c.step.new.self.seen k a (steps.Fault e) w
+    (λ o x. subst (λ (y : Error). IsStep o c.args.session.now.seen c.step.new.self.seen (steps.Fault y)) (sym c.in_ok-fault-in-Fault.ensures.value) (c.in-Fault.ensures.reads o x))
+    c.in_ok-fault-in-Fault.ensures.kept))
 
 pub returns-then-room-eq0-clause-lives : goal.returns-then-room-eq0-clause-lives
 returns-then-room-eq0-clause-lives g c = lives_by c.args.now c.args.session.now c.step.new.self c.in-Need.ensures.shorter c.in-Need.ensures.lifetime
@@ -60,6 +62,9 @@ returns-in-Done-clause-lives g c = lives_by c.args.now c.args.session.now c.step
 
 pub returns-in_ok-fault-in-Fault-clause-lives : goal.returns-in_ok-fault-in-Fault-clause-lives
 returns-in_ok-fault-in-Fault-clause-lives g c = lives_by c.args.now c.args.session.now c.step.new.self c.in-Fault.ensures.shorter c.in-Fault.ensures.lifetime
+
+pub returns-then-room-eq0-clause-made : goal.returns-then-room-eq0-clause-made
+returns-then-room-eq0-clause-made g c = made_lived c.args.now _ _ c.args.session.now c.step.new.self c.in-Need.ensures.lifetime
 
 pub returns-in-Send-clause-made : goal.returns-in-Send-clause-made
 returns-in-Send-clause-made g c = c.send.ensures.made ∙ made_lived c.args.now _ _ c.args.session.now c.step.new.self c.in-Send.ensures.lifetime

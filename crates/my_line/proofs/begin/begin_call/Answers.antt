@@ -1,4 +1,5 @@
 use Rattle.std.proofs.Common.{◌≡◌, Some, Ok, Err, refl, sym, ap, ◌∙◌, subst}
+use Rattle.std.proofs.lemmas.Bool.{false≢true}
 use Rattle.std.proofs.lemmas.Result.{IfOk-weaker}
 use Rattle.std.specs.Result.{IfOk, OnOk}
 use Rattle.std.specs.declared.result.Result.{Result}
@@ -18,7 +19,7 @@ refused_by (Err x) N R e after none n f = tt
 
 pub returns-in-Ok-begin-clause-does : goal.returns-in-Ok-begin-clause-does
 returns-in-Ok-begin-clause-does g c = IfOk-weaker c.poll_open.result _ _
-    (λ p f. begun_call c.args.session.now.seen c.begin.new.self.seen c.poll_open.new.session.seen _ _ c.args.tape.now c.note_call.new.tape c.poll_open.new.tape c.args.call p.1 p.0 c.requires.idle c.in-Ok.ensures.noted c.in-Ok-begin.ensures.ok c.in-Ok-begin.ensures.stands f)
+    (λ p f. begun_call c.args.session.now.seen c.begin.new.self.seen c.poll_open.new.session.seen _ _ c.args.tape.now c.note_call.new.tape c.poll_open.new.tape c.args.call p.1 p.0 (λ e. false≢true (c.in-Ok-begin.ensures.refused.1 e)) c.in-Ok.ensures.noted c.in-Ok-begin.ensures.ok f)
     c.poll_open.ensures.does
 
 pub returns-in-Err-begin-clause-does : goal.returns-in-Err-begin-clause-does
@@ -26,7 +27,7 @@ returns-in-Err-begin-clause-does g c =
     let x = g.L.Link.looks c.args.link.now in
     let why = c.in-Err-begin.ensures in
     refused_by c.note_refusal.result _ (λ after m. EachCall (Some c.args.call) c.args.session.now.seen c.begin.new.self.seen x x c.args.tape.now c.note_refusal.new.tape m after) c.in-Err-begin.error c.note_refusal.ensures.after c.note_refusal.ensures.met c.note_refusal.ensures.noted
-    (λ m none noted. refused_call c.args.session.now.seen c.begin.new.self.seen x x c.args.tape.now c.note_call.new.tape c.note_refusal.new.tape c.args.call m c.in-Err-begin.error c.requires.idle c.in-Ok.ensures.noted (why.closed.0 refl) why.err why.why why.refused refl none noted)
+    (λ m none noted. refused_call c.args.session.now.seen c.begin.new.self.seen x x c.args.tape.now c.note_call.new.tape c.note_refusal.new.tape c.args.call m c.in-Err-begin.error c.in-Ok.ensures.noted (why.refused.0 refl) why.err why.why refl none noted)
 
 pub returns-in-Ok-begin-clause-leaves : goal.returns-in-Ok-begin-clause-leaves
 returns-in-Ok-begin-clause-leaves g c = IfOk-weaker c.poll_open.result _ _

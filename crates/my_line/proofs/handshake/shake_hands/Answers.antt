@@ -1,10 +1,7 @@
 use Rattle.std.proofs.Common.{inr, refl, ◌∙◌, arith}
 use Rattle.my_client.proofs.Living.{lives_on, lives_still}
-use Rattle.my_line.proofs.Shaking.{shake_begins, shake_done, shake_failed, shake_full, shake_on, shake_open}
+use Rattle.my_line.proofs.Shaking.{shake_begins, shake_done, shake_failed, shake_full, shake_on}
 use Rattle.my_line.proofs.handshake.shake_hands.Goals as goal
-
-pub poll_open-requires : goal.poll_open-requires
-poll_open-requires g c = shake_open _ _ _ _ _ _ (c.polls.invariant.so c.requires.0 c.requires.1)
 
 pub returns-in-Answered-clause-shakes : goal.returns-in-Answered-clause-shakes
 returns-in-Answered-clause-shakes g c = λ login w. shake_done _ _ _ _ _ _ _ _ _ _ _ (c.polls.invariant.so login w) c.in-Ok.ensures.does

@@ -5,15 +5,13 @@ use Rattle.my_script.specs.declared.step.Step.{Step}
 use Rattle.my_script.specs.declared.transcript.StepAnswer.{StepAnswer}
 use Rattle.my_script.specs.Script.{may_stand}
 use Rattle.my_steps.specs.Dialing.{course_of}
-use Rattle.my_steps.specs.Ready.{AllJoined}
-use Rattle.my_steps.proofs.Joining.{grown_joined}
 use Rattle.std.specs.Option.{option_copied}
 use Rattle.my_script.specs.Numbered.{named_statement, statement_named, statements_by}
 use Rattle.my_script.specs.Beside.{beside_by}
 use Rattle.my_script.specs.Streams.{target}
 use Rattle.my_run.specs.Headline.{SoFar}
 use Rattle.my_run.proofs.MadeBeside.{found_same}
-use Rattle.my_run.proofs.Runs.{all_joined, none_yet, step_on, stands_at, count_up}
+use Rattle.my_run.proofs.Runs.{none_yet, step_on, stands_at, count_up}
 use Rattle.my_run.proofs.run.run_each.Goals as goal
 
 pub loop-i-preserved : goal.loop-i-preserved
@@ -45,9 +43,7 @@ loop-i-init g c = record { so_far = λ plans same. let u = none_yet g.N.L.Link.l
 
 pub run_step-requires-clause-ready : goal.run_step-requires-clause-ready
 run_step-requires-clause-ready g c =
-    let v = c.loop-i.invariant.so_far (g.N.Dialer.seen c.args.world.now).plans (λ n. record { reads = refl; writes = refl; dials = refl }) in
-    let u = v.0 in
-    (login_of c.args.opts.now, u.stood, all_joined g.N.L.Link.looks (g.N.Dialer.seen c.loop-i.world).plans.dials 0 c.loop-i.slots.items (subst AllJoined (sym u.handles_are) (grown_joined (login_of c.args.opts.now) (g.N.Dialer.seen c.args.world.now).plans u.lines u.grown)))
+    (login_of c.args.opts.now, (c.loop-i.invariant.so_far (g.N.Dialer.seen c.args.world.now).plans (λ n. record { reads = refl; writes = refl; dials = refl })).0.stood)
 
 pub run_step-requires-clause-stands : goal.run_step-requires-clause-stands
 run_step-requires-clause-stands g c =

@@ -1,14 +1,13 @@
-use Rattle.std.proofs.Common.{◌≡◌, true, false, rules}
-use Rattle.my_session.specs.Tasks.{is_open}
+use Rattle.std.proofs.Common.{◌≡◌, true, not, None, is_none, rules}
 use Rattle.my_steps.proofs.Working.Cancelling.{cancelled, not_cancelled}
 use Rattle.my_steps.proofs.cancel.cancel_there.Goals as goal
 
 pub returns : goal.returns
 returns g c =
-    let opened : is_open c.args.conn.now.session.seen.task ≡ true = search rules in
-    λ login w. cancelled g.L.Link.looks login c.args.number c.args.conn.now c.cancel_call.new.conn c.is_connecting-connecting.result c.unused-2.result.outcome c.unused-2.result.uses.items opened c.cancel_call.ensures.seen c.cancel_call.ensures.stands c.cancel_call.ensures.link c.cancel_call.ensures.kept c.is_connecting-connecting.ensures.some c.unused-2.ensures.outcome c.unused-2.ensures.uses w
+    let opened : not (is_none c.args.conn.now.session.seen.opened) ≡ true = search rules in
+    λ login w. cancelled g.L.Link.looks login c.args.number c.args.conn.now c.cancel_call.new.conn c.is_connecting-connecting.result c.unused-2.result.outcome c.unused-2.result.uses.items opened c.cancel_call.ensures.stands c.cancel_call.ensures.link c.cancel_call.ensures.kept c.is_connecting-connecting.ensures.some c.unused-2.ensures.outcome c.unused-2.ensures.uses w
 
 pub returns-then-not-is_open : goal.returns-then-not-is_open
 returns-then-not-is_open g c =
-    let idle : is_open c.args.conn.now.session.seen.task ≡ false = search rules in
+    let idle : c.args.conn.now.session.seen.opened ≡ None = search rules in
     λ login w. not_cancelled g.L.Link.looks login c.args.number c.args.conn.now c.unused.result.outcome c.unused.result.uses.items idle c.unused.ensures.outcome c.unused.ensures.uses w

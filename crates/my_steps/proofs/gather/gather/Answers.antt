@@ -4,8 +4,8 @@ use Rattle.my_steps.specs.declared.gather.Gathering.TheVariants.{On, Over}
 use Rattle.my_steps.specs.Gathering.{Goes}
 use Rattle.my_link.specs.Looks.{Looks}
 use Rattle.my_steps.specs.Sums.{use_of}
-use Rattle.my_steps.proofs.Working.Readying.{asked_next, polled_open, polled_ready}
-use Rattle.my_steps.proofs.Working.Gathered.{gather_next, gather_done, goes_on_open}
+use Rattle.my_steps.proofs.Working.Readying.{asked_next, polled_open, polled_rests}
+use Rattle.my_steps.proofs.Working.Gathered.{gather_next, gather_done}
 use Rattle.my_steps.proofs.gather.gather.Goals as goal
 
 pub returns-in-Over : goal.returns-in-Over
@@ -21,7 +21,6 @@ rows-preserved g c =
     let more : c.push.new.self.items ≡ c.rows.uses.items ++ use_of c.args.number c.in_ok-after.met ∷ [] = search rules in
     let on : Goes c.drive.new.conn c.go_on.new.conn (option_map (λ rows. rows.items) c.in_ok-after.rows) c.in_ok-after.after On = subst (λ (x : Gathering). Goes c.drive.new.conn c.go_on.new.conn (option_map (λ rows. rows.items) c.in_ok-after.rows) c.in_ok-after.after x) c.in-On.is c.in_ok-go_on.ensures in
     record {
-      is_on = goes_on_open c.drive.new.conn c.go_on.new.conn (option_map (λ rows. rows.items) c.in_ok-after.rows) c.in_ok-after.after on;
       asked = asked_next x y c.rows.conn c.drive.new.conn c.in_ok-after.met c.in_ok-after.after c.rows.invariant.asked c.in_ok-after.ensures.drives c.go_on.new.conn (option_map (λ rows. rows.items) c.in_ok-after.rows) on;
       so = λ login a w. gather_next g.L.Link.looks login c.args.number a c.args.conn.now c.rows.conn c.drive.new.conn c.go_on.new.conn c.rows.uses.items c.push.new.self.items c.in_ok-after.met c.in_ok-after.after (option_map (λ rows. rows.items) c.in_ok-after.rows) (c.rows.invariant.so login a w) c.in_ok-after.ensures.drives c.in_ok-after.ensures.rows more on;
     }
@@ -32,8 +31,8 @@ go_on-requires-clause-alive g c =
     let y : Looks = g.L.Link.looks c.drive.new.conn.link in
     polled_open x y c.rows.conn c.drive.new.conn c.in_ok-after.met c.in_ok-after.after c.rows.invariant.asked c.in_ok-after.ensures.drives
 
-pub go_on-requires-clause-ready : goal.go_on-requires-clause-ready
-go_on-requires-clause-ready g c =
+pub go_on-requires-clause-rests : goal.go_on-requires-clause-rests
+go_on-requires-clause-rests g c =
     let x : Looks = g.L.Link.looks c.rows.conn.link in
     let y : Looks = g.L.Link.looks c.drive.new.conn.link in
-    polled_ready x y c.rows.conn c.drive.new.conn c.in_ok-after.met c.in_ok-after.after c.rows.invariant.asked c.in_ok-after.ensures.drives
+    polled_rests x y c.rows.conn c.drive.new.conn c.in_ok-after.met c.in_ok-after.after c.rows.invariant.asked c.in_ok-after.ensures.drives

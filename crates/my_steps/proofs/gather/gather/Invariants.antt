@@ -1,18 +1,16 @@
-use Rattle.std.proofs.Common.{◌≡◌, ◌-◌, ◌^◌, length, true}
+use Rattle.std.proofs.Common.{◌-◌, ◌^◌, length}
 use Rattle.my_grammar.specs.declared.login.Login.{Login}
-use Rattle.my_session.specs.Tasks.{is_open}
-use Rattle.my_steps.specs.Gathering.{GatherSoFar}
 use Rattle.my_client.specs.Kept.{Asked}
-use Rattle.my_client.specs.Ready.{AskedReady}
-use Rattle.my_client.specs.Rests.{IsAsked}
 use Rattle.my_client.specs.Conn.{kept_of}
+use Rattle.my_client.specs.Stands.{StandsAsked}
+use Rattle.my_steps.specs.Gathering.{GatherSoFar}
+use Rattle.my_steps.specs.Ready.{AskedReady}
 use Rattle.my_steps.proofs.gather.gather.Given as goal
 
 abbrev pub invariant-rows : goal.invariant-rows
 invariant-rows g l = record {
-  is_on : is_open l.conn.session.seen.task ≡ true;
   asked : AskedReady l.conn;
-  so : (login : Login) → (a : Asked) → IsAsked login l.fn.conn.session.seen (kept_of l.fn.conn) a → GatherSoFar g.L.Link.looks login l.number a l.fn.conn l.conn l.uses.items;
+  so : (login : Login) → (a : Asked) → StandsAsked login l.fn.conn.session.seen (kept_of l.fn.conn) a → GatherSoFar g.L.Link.looks login l.number a l.fn.conn l.conn l.uses.items;
 }
 
 abbrev pub decreases-rows : goal.decreases-rows

@@ -1,15 +1,7 @@
-use Rattle.std.proofs.Common.{None, ap, ◌∙◌}
+use Rattle.std.proofs.Common.{ap, ◌∙◌}
 use Rattle.my_conn.specs.Conn.{ConnSeen}
-use Rattle.my_line.proofs.Standing.{may_start}
-use Rattle.my_conn.proofs.Standing.{sound}
 use Rattle.my_conn.proofs.Cancelling.{lost_cancelled, open_cancelled, sound_cancelled}
 use Rattle.my_conn.proofs.conn.Conn.cancel_call.Goals as goal
-
-pub cancel_open-requires : goal.cancel_open-requires
-cancel_open-requires g c =
-    let v = c.self.inside in
-    let old = sound v.lost v.session.seen v.tape v.pending c.if-self.false c.self.invariant in
-    may_start c.args.kind None old.0 v.session.seen v.tape v.pending old.1 (ap (λ (s : ConnSeen g.row.L.Denot). s.pending) c.self.view_is ∙ c.requires) old.2
 
 pub invariant_of-self : goal.invariant_of-self
 invariant_of-self g c =

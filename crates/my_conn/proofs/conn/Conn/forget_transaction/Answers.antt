@@ -1,7 +1,12 @@
 use Rattle.std.proofs.Common.{ap, ◌∙◌}
 use Rattle.my_conn.specs.Conn.{ConnSeen}
-use Rattle.my_conn.proofs.Forgetting.{forget_is, sound_forgotten}
+use Rattle.my_conn.proofs.Forgetting.{forget_is, may_forget, sound_forgotten}
 use Rattle.my_conn.proofs.conn.Conn.forget_transaction.Goals as goal
+
+pub forget_open-requires : goal.forget_open-requires
+forget_open-requires g c =
+    let v = c.self.inside in
+    may_forget v.lost v.session.seen v.tape v.pending (ap (λ (s : ConnSeen g.row.L.Denot). s.pending) c.self.view_is ∙ c.requires) c.if-self.false c.self.invariant
 
 pub invariant_of-self : goal.invariant_of-self
 invariant_of-self g c =

@@ -29,7 +29,7 @@ returns-in-Ok-shake_hands g c =
     let given : Given = given_by look g.L.Link.socket c.args.link c.args.now c.args.random in
     let begun = begun_connects login _ _ c.in-Ok.ensures.asked c.in-Ok.ensures.kept in
     let first : IsFirst c.args.opts given c.in-Ok.begun.session = record {
-      unread = unread_first login _ _ c.in-Ok.ensures.asked.rests c.in-Ok.ensures.kept;
+      unread = unread_first login _ _ c.in-Ok.ensures.asked c.in-Ok.ensures.kept;
       lifetime = c.in-Ok.ensures.lifetime;
     } in
     let shaken : IsShaken login c.args.now (look c.args.link) (look c.shake_hands.new.link) c.in-Ok.begun.session c.shake_hands.new.session c.shake_hands.new.tape = subst (λ l. IsShaken login c.args.now (look l) (look c.shake_hands.new.link) c.in-Ok.begun.session c.shake_hands.new.session c.shake_hands.new.tape) c.in-Ok.ensures.link (c.in-Ok-shake_hands.ensures.shakes login begun) in

@@ -9,4 +9,4 @@ returns-clause-account g c =
 pub returns-clause-did : goal.returns-clause-did
 returns-clause-did g c =
     let v = c.self.inside in
-    rw (← c.self.view_is, c.opts.ensures) (λ alive login k w. account_by login v.session.seen v.tape v.pending k v.session.lifetime.opts w alive)
+    rw (← c.self.view_is, c.opts.ensures) (λ login k w. account_by login v.session.seen v.tape v.pending k v.session.lifetime.opts w)

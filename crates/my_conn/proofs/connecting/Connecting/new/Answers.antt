@@ -9,14 +9,14 @@ use Rattle.my_conn.proofs.connecting.Connecting.new.Goals as goal
 pub invariant_of-result : goal.invariant_of-result
 invariant_of-result g c =
     let login = login_of c.args.opts in
-    let o = c.in-Ok.begun in
-    making_begins login o.session.seen c.kept.result (subst (λ (t : Option Tape). ConnectsFor login o.session.seen t first_kept first_asked) (sym c.kept.ensures) (kept_connects login o.session.seen c.args.keep_tape o.tape c.in-Ok.ensures.asked c.in-Ok.ensures.kept))
+    let o = c.in_ok-begun.begun in
+    making_begins login o.session.seen c.kept.result (subst (λ (t : Option Tape). ConnectsFor login o.session.seen t first_kept first_asked) (sym c.kept.ensures) (kept_connects login o.session.seen c.args.keep_tape o.tape c.in_ok-begun.ensures.asked c.in_ok-begun.ensures.kept))
 
 pub returns-clause-begins : goal.returns-clause-begins
 returns-clause-begins g c =
     let login = login_of c.args.opts in
-    let o = c.in-Ok.begun in
-    subst (λ (t : Option Tape). ConnectsFor login o.session.seen t first_kept first_asked) (sym c.kept.ensures) (kept_connects login o.session.seen c.args.keep_tape o.tape c.in-Ok.ensures.asked c.in-Ok.ensures.kept)
+    let o = c.in_ok-begun.begun in
+    subst (λ (t : Option Tape). ConnectsFor login o.session.seen t first_kept first_asked) (sym c.kept.ensures) (kept_connects login o.session.seen c.args.keep_tape o.tape c.in_ok-begun.ensures.asked c.in_ok-begun.ensures.kept)
 
 pub returns-clause-tape : goal.returns-clause-tape
-returns-clause-tape g c = ap is_some c.kept.ensures ∙ keeps_by c.args.keep_tape c.in-Ok.begun.tape
+returns-clause-tape g c = ap is_some c.kept.ensures ∙ keeps_by c.args.keep_tape c.in_ok-begun.begun.tape

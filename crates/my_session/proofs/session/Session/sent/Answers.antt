@@ -1,6 +1,14 @@
-use Rattle.my_session.specs.Session.{seen}
-use Rattle.my_session.proofs.Stands.Plain.{gone_stands}
+use Rattle.std.proofs.Common.{sym, subst, ap, ◌∙◌}
+use Rattle.my_machine.specs.declared.stand.Stand.{Stand}
+use Rattle.my_machine.specs.Stands.{IsAt}
+use Rattle.my_machine.proofs.Places.{at_sent_bytes}
 use Rattle.my_session.proofs.session.Session.sent.Goals as goal
 
-pub returns-clause-stands : goal.returns-clause-stands
-returns-clause-stands c = rw (c.skip.ensures, ← c.self.view_is) (λ h st. gone_stands (seen c.self.inside) h c.args.count st)
+pub invariant_of-self : goal.invariant_of-self
+invariant_of-self c = λ alive.
+    let here = c.self.invariant alive in
+    let new_is = c.sent.ensures in
+    record {
+      at = (_, subst (IsAt c.self.inside.login _) (sym new_is) (at_sent_bytes c.self.inside.login here.at.0 c.self.inside.stand c.args.count here.at.1));
+      account = ap (λ (s : Stand). s.account) new_is ∙ here.account;
+    }

@@ -1,3 +1,0 @@
-pub mod Adopting
-pub mod Answering
-pub mod Keeping

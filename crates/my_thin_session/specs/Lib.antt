@@ -1,4 +1,0 @@
-pub mod Adopts
-pub mod Session
-pub mod Sessions
-pub mod View
