@@ -1,6 +1,7 @@
-//! Rows over my_pool_core, my_pool_parts, my_pool and my_pool_turns: a row is an event of a pool, of a heap, or of an exchange
-//! over links in memory, with what it returns (`rows.rt` and `exchanges.rt` say how it reads). Beside them many events from a
-//! seed, after each of which the pool is looked at whole. This crate has tests alone.
+//! Rows over my_pool_core, my_pool_parts, my_pool, my_pool_turns and my_pool_requests: a row is an event of a pool, of a
+//! heap, or of an exchange over links in memory, or a call of a request there, with what it returns (`rows.rt`,
+//! `exchanges.rt` and `request_rows.rt` say how it reads). Beside them many events from a seed, after each of which the
+//! pool is looked at whole. This crate has tests alone.
 #![tactic(auto)]
 
 #[cfg(test)]
@@ -21,6 +22,10 @@ mod links;
 mod play;
 #[cfg(test)]
 mod queries;
+#[cfg(test)]
+mod request_rows;
+#[cfg(test)]
+mod requests;
 #[cfg(test)]
 mod rows;
 #[cfg(test)]

@@ -79,6 +79,8 @@ fn is_there(place: Place, want: &str) -> bool {
             )
         }
         Place::Returned { marked } => is_wanted(want, "returned", &[u64::from(marked)], 0),
+        Place::Leased => want == "leased",
+        Place::Connecting => want == "connecting",
         _ => false,
     }
 }
