@@ -12,8 +12,8 @@ use Rattle.my_grammar.proofs.Growth.Known.{is_single_kind, is_then, known_single
 use Rattle.my_grammar.specs.Contexts.{is_bad}
 use Rattle.my_grammar.specs.Cut.{is_idle, is_over}
 use Rattle.my_grammar.specs.Kinds.{single_kind}
-use Rattle.my_grammar.specs.Sets.{Sets, NoSets, Lone, Failed, Heading, Headed, Begun, Ended, Broken, packets_in, spot_in}
-use Rattle.my_grammar.specs.Talk.{Talk, Start, Unwelcome, Greeted, Settled, Asked, Replied, Queried, Preparing, Silent, Fits, origin, packets_of}
+use Rattle.my_grammar.specs.Sets.{Sets, Lone, Begun, Ended, packets_in, spot_in}
+use Rattle.my_grammar.specs.Talk.{Talk, Start, Unwelcome, Greeted, Settled, Queried, Fits, origin, packets_of}
 use Rattle.my_value.specs.RowParts.{RowParts}
 use Rattle.my_reading.specs.declared.call.Call.{Call}
 use Rattle.my_reading.specs.declared.call.Call.TheVariants.{Connect}
@@ -71,18 +71,10 @@ row_asked row s e = by_stage (awaits_row s.stage)
     by_stage false = e
 
 kind_asked : (k : Kind) (row : Option RowParts) (s : Settings) → is_asked s.stage ≡ true → is_asked (settings_after k row s).stage ≡ true
-kind_asked (kinds.Greets capabilities) row s e = e
 kind_asked (kinds.Good status) row s e = good_asked s.stage s e refl
-kind_asked kinds.Failed row s e = e
-kind_asked (kinds.Count n) row s e = e
-kind_asked kinds.Column row s e = e
-kind_asked kinds.ColumnsDone row s e = e
 kind_asked kinds.Row row s e = row_asked row s e
 kind_asked (kinds.End status) row s e = end_asked s.stage s e refl
-kind_asked (kinds.Prepared params columns) row s e = e
-kind_asked kinds.Parameter row s e = e
-kind_asked kinds.Field row s e = e
-kind_asked kinds.Bad row s e = e
+kind_asked _ row s e = e
 
 packets_asked : (packets : List Packet) (f : Facts) → is_asked f.settings.stage ≡ true → is_asked (facts_by packets f).settings.stage ≡ true
 packets_asked [] f e = e
@@ -103,44 +95,25 @@ end_knows stages.Known s e is = ap is_known is
 
 -- a response that is over and accepted
 sets_know : (x : Sets) (f : Facts) → is_idle (spot_in x) ≡ true → ends_well (packets_in x) ≡ true → is_asked f.settings.stage ≡ true → is_known (facts_by (packets_in x) f).settings.stage ≡ true
-sets_know (NoSets asking) f over well asked = absurd (cc)
 sets_know (Lone older p status) f over well asked = let g = facts_by (packets_in older) f in good_knows g.settings.stage g.settings (packets_asked (packets_in older) f asked) refl
-sets_know (Failed older p) f over well asked = absurd (cc)
-sets_know (Heading older head left) f over well asked = absurd (cc)
-sets_know (Headed older head) f over well asked = absurd (cc)
-sets_know (Begun older head rows) f over well asked = absurd (cc)
 sets_know (Ended older head rows last status) f over well asked = end_known_after (packets_in (Begun older head rows)) status last f asked
   where
     end_known_after : (ps : List Packet) (s : StatusFlags) (p : List ℕ) (g : Facts) → is_asked g.settings.stage ≡ true → is_known (facts_after (kinds.End s) p (facts_by ps g)).settings.stage ≡ true
     end_known_after ps s p g e = let h = facts_by ps g in end_knows h.settings.stage h.settings (packets_asked ps g e) refl
-sets_know (Broken older head rows last) f over well asked = absurd (cc)
+sets_know _ f over well asked = absurd (cc)
 
 -- the login
 login_settled : (login : Login) (kind : Kind) (q last : List ℕ) (n : CapabilityFlags) → is_single_kind kind ≡ true → is_bad kind ≡ false → not (is_failed kind) ≡ true
     → (facts_by (record { kind = kind; payload = last } ∷ record { kind = kinds.Greets n; payload = q } ∷ []) (first_facts login)).settings ≡ settled login.packet_limit login.wait_timeout (first_settings login)
-login_settled login (kinds.Greets m) q last n i b e = absurd (cc)
 login_settled login (kinds.Good status) q last n i b e = ap (λ (s : Settings). good_settings s.stage s) (payload_settings (kinds.Greets n) q (first_facts login))
-login_settled login kinds.Failed q last n i b e = absurd (cc)
-login_settled login (kinds.Count m) q last n i b e = absurd (cc)
-login_settled login kinds.Column q last n i b e = absurd (cc)
-login_settled login kinds.ColumnsDone q last n i b e = absurd (cc)
-login_settled login kinds.Row q last n i b e = absurd (cc)
-login_settled login (kinds.End status) q last n i b e = absurd (cc)
-login_settled login (kinds.Prepared params columns) q last n i b e = absurd (cc)
-login_settled login kinds.Parameter q last n i b e = absurd (cc)
-login_settled login kinds.Field q last n i b e = absurd (cc)
-login_settled login kinds.Bad q last n i b e = absurd (cc)
+login_settled login _ q last n i b e = absurd (cc)
 
 first_settled : (login : Login) (t : Talk) → origin t ≡ Start login → Fits t → is_over t ≡ true → ends_well (packets_of t) ≡ true → (facts_by (packets_of t) (first_facts login)).settings ≡ settled login.packet_limit login.wait_timeout (first_settings login)
 first_settled login (Start l) o f over well = absurd (cc)
 first_settled login (Unwelcome l q) o f over well = absurd (cc)
 first_settled login (Greeted l q n) o f over well = absurd (cc)
 first_settled login (Settled l q n last kind) o f over well = login_settled login kind q last n (is_then is_single_kind (single_kind last) kind (known_single last) f.kinds.1) f.kinds.2 well
-first_settled login (Asked terms c) o f over well = cc
-first_settled login (Replied terms c last kind) o f over well = cc
-first_settled login (Queried terms c x) o f over well = cc
-first_settled login (Preparing terms c r) o f over well = cc
-first_settled login (Silent terms c) o f over well = cc
+first_settled login _ o f over well = cc
 
 settled_asked : (a b : Option ℕ) (s : Settings) → is_asked (settled a b s).stage ≡ true
 settled_asked None b s = refl
@@ -155,15 +128,8 @@ settled_knows (Some x) (Some y) s more e = refl
 
 -- a query
 query_knows : (t : Talk) (terms : Terms) (text : List ℕ) (f : Facts) → origin t ≡ queried terms text → is_over t ≡ true → ends_well (packets_of t) ≡ true → is_asked f.settings.stage ≡ true → is_known (facts_by (packets_of t) f).settings.stage ≡ true
-query_knows (Start l) terms text f o over well asked = cc
-query_knows (Unwelcome l q) terms text f o over well asked = cc
-query_knows (Greeted l q n) terms text f o over well asked = cc
-query_knows (Settled l q n last kind) terms text f o over well asked = cc
-query_knows (Asked ts c) terms text f o over well asked = cc
-query_knows (Replied ts c last kind) terms text f o over well asked = cc
 query_knows (Queried ts c x) terms text f o over well asked = sets_know x f over well asked
-query_knows (Preparing ts c r) terms text f o over well asked = cc
-query_knows (Silent ts c) terms text f o over well asked = cc
+query_knows _ terms text f o over well asked = cc
 
 -- what connecting begins by the table
 connect_opens : (login : Login) (terms : Terms) (c : Call) (n : ℕ) (t : Talk) → c ≡ Connect → Opens login terms c n t → (st : Statements) × (opening login terms st Connect n ≡ Some t)

@@ -12,9 +12,9 @@ use Rattle.my_grammar.specs.Growth.{grow}
 use Rattle.my_grammar.specs.declared.spot.RowFormat.TheVariants.{Text}
 use Rattle.my_grammar.specs.Kinds.{kind_by}
 use Rattle.my_grammar.specs.Prepares.{PreparedHead, Described, Reply, Unanswered, Refused, InParameters, AfterParameters, InFields, AfterFields, Complete, spot_in_reply, open_part, closed_part, with_parameters, with_head, with_parameter, with_field, with_part_end, grow_reply}
-use Rattle.my_grammar.specs.Sets.{SetHead, Sets, NoSets, Lone, Failed, Heading, Headed, Begun, Ended, Broken, grow_sets, with_column, with_column_of, with_close, with_row, with_end, spot_in}
+use Rattle.my_grammar.specs.Sets.{SetHead, Sets, NoSets, Lone, Heading, Headed, Begun, Ended, grow_sets, with_column, with_column_of, with_close, with_row, with_end, spot_in}
 use Rattle.my_grammar.specs.Sets as sets
-use Rattle.my_grammar.specs.Talk.{Talk, Start, Unwelcome, Greeted, Settled, Asked, Replied, Queried, Preparing, Silent, context_of}
+use Rattle.my_grammar.specs.Talk.{Talk, Start, Greeted, Asked, Queried, Preparing, context_of}
 use Rattle.my_reading.specs.Course.{is_greeting}
 use Rattle.history_laws.specs.Errors.{error_onto, error_of, errors_in_sets, errors_in_reply, errors_in}
 
@@ -28,86 +28,36 @@ column_blames_if false true older head left p = refl
 column_blames_if d false older head left p = refl
 
 column_blames : (d : Bool) (x : Sets) (p : List ℕ) → errors_in_sets (with_column d x p) ≡ errors_in_sets x
-column_blames d (NoSets asking) p = refl
-column_blames d (Lone older q status) p = refl
-column_blames d (Failed older q) p = refl
 column_blames d (Heading older head left) p = column_blames_if d (leb left 1) older head (left - 1) p
-column_blames d (Headed older head) p = refl
-column_blames d (Begun older head rows) p = refl
-column_blames d (Ended older head rows last status) p = refl
-column_blames d (Broken older head rows last) p = refl
+column_blames d _ p = refl
 
 close_blames : (x : Sets) (p : List ℕ) → errors_in_sets (with_close x p) ≡ errors_in_sets x
 close_blames (NoSets asking) p = refl
-close_blames (Lone older q status) p = refl
-close_blames (Failed older q) p = refl
-close_blames (Heading older head left) p = refl
-close_blames (Headed older head) p = refl
-close_blames (Begun older head rows) p = refl
-close_blames (Ended older head rows last status) p = refl
-close_blames (Broken older head rows last) p = refl
+close_blames _ p = refl
 
 row_blames : (x : Sets) (p : List ℕ) → errors_in_sets (with_row x p) ≡ errors_in_sets x
 row_blames (NoSets asking) p = refl
-row_blames (Lone older q status) p = refl
-row_blames (Failed older q) p = refl
-row_blames (Heading older head left) p = refl
-row_blames (Headed older head) p = refl
-row_blames (Begun older head rows) p = refl
-row_blames (Ended older head rows last status) p = refl
-row_blames (Broken older head rows last) p = refl
+row_blames _ p = refl
 
 end_blames : (x : Sets) (p : List ℕ) (status : StatusFlags) → errors_in_sets (with_end x p status) ≡ errors_in_sets x
 end_blames (NoSets asking) p status = refl
-end_blames (Lone older q s) p status = refl
-end_blames (Failed older q) p status = refl
-end_blames (Heading older head left) p status = refl
-end_blames (Headed older head) p status = refl
-end_blames (Begun older head rows) p status = refl
-end_blames (Ended older head rows last s) p status = refl
-end_blames (Broken older head rows last) p status = refl
+end_blames _ p status = refl
 
 sets_blame : (k : Kind) (d : Bool) (x : Sets) (p : List ℕ) → is_failed k ≡ false → errors_in_sets (grow_sets d k x p) ≡ errors_in_sets x
-sets_blame (kinds.Greets c) d x p e = refl
-sets_blame (kinds.Good status) d x p e = refl
 sets_blame kinds.Failed d x p e = cc
-sets_blame (kinds.Count n) d x p e = refl
 sets_blame kinds.Column d x p e = column_blames d x p
 sets_blame kinds.ColumnsDone d x p e = close_blames x p
 sets_blame kinds.Row d x p e = row_blames x p
 sets_blame (kinds.End status) d x p e = end_blames x p status
-sets_blame (kinds.Prepared params columns) d x p e = refl
-sets_blame kinds.Parameter d x p e = refl
-sets_blame kinds.Field d x p e = refl
-sets_blame kinds.Bad d x p e = refl
+sets_blame _ d x p e = refl
 
 one_blames : (k : Kind) (p : List ℕ) → is_failed k ≡ false → error_of k p ≡ []
-one_blames (kinds.Greets c) p e = refl
-one_blames (kinds.Good status) p e = refl
 one_blames kinds.Failed p e = cc
-one_blames (kinds.Count n) p e = refl
-one_blames kinds.Column p e = refl
-one_blames kinds.ColumnsDone p e = refl
-one_blames kinds.Row p e = refl
-one_blames (kinds.End status) p e = refl
-one_blames (kinds.Prepared params columns) p e = refl
-one_blames kinds.Parameter p e = refl
-one_blames kinds.Field p e = refl
-one_blames kinds.Bad p e = refl
+one_blames _ p e = refl
 
 start_blames : (k : Kind) (login : Login) (p : List ℕ) → is_failed k ≡ false → errors_in (grow k (Start login) p) ≡ []
-start_blames (kinds.Greets c) login p e = refl
-start_blames (kinds.Good status) login p e = refl
 start_blames kinds.Failed login p e = cc
-start_blames (kinds.Count n) login p e = refl
-start_blames kinds.Column login p e = refl
-start_blames kinds.ColumnsDone login p e = refl
-start_blames kinds.Row login p e = refl
-start_blames (kinds.End status) login p e = refl
-start_blames (kinds.Prepared params columns) login p e = refl
-start_blames kinds.Parameter login p e = refl
-start_blames kinds.Field login p e = refl
-start_blames kinds.Bad login p e = refl
+start_blames _ login p e = refl
 
 -- of the reply to a statement to prepare
 parameters_blame : (none : Bool) (h : PreparedHead) (w : Described) → errors_in_reply (cond none (Complete h w (open_part [])) (InFields h w [] h.columns)) ≡ []
@@ -120,12 +70,7 @@ head_blames Unanswered h = by_none (h.params == 0)
     by_none : (t : Bool) → errors_in_reply (cond t (with_parameters h (open_part [])) (InParameters h [] h.params)) ≡ []
     by_none true = parameters_blame (h.columns == 0) h (open_part [])
     by_none false = refl
-head_blames (Refused q) h = refl
-head_blames (InParameters head ps left) h = refl
-head_blames (AfterParameters head ps) h = refl
-head_blames (InFields head w ps left) h = refl
-head_blames (AfterFields head w ps) h = refl
-head_blames (Complete head w v) h = refl
+head_blames _ h = refl
 
 parameter_blames : (d : Bool) (r : Reply) (p : List ℕ) → errors_in_reply (with_parameter d r p) ≡ errors_in_reply r
 parameter_blames d (InParameters head ps left) p = by_last (leb left 1) d
@@ -134,12 +79,7 @@ parameter_blames d (InParameters head ps left) p = by_last (leb left 1) d
     by_last true true = parameters_blame (head.columns == 0) head (open_part (p ∷ ps))
     by_last true false = refl
     by_last false d = refl
-parameter_blames d Unanswered p = refl
-parameter_blames d (Refused q) p = refl
-parameter_blames d (AfterParameters head ps) p = refl
-parameter_blames d (InFields head w ps left) p = refl
-parameter_blames d (AfterFields head w ps) p = refl
-parameter_blames d (Complete head w v) p = refl
+parameter_blames d _ p = refl
 
 field_blames : (d : Bool) (r : Reply) (p : List ℕ) → errors_in_reply (with_field d r p) ≡ errors_in_reply r
 field_blames d (InFields head w ps left) p = by_last (leb left 1) d
@@ -148,90 +88,52 @@ field_blames d (InFields head w ps left) p = by_last (leb left 1) d
     by_last true true = refl
     by_last true false = refl
     by_last false d = refl
-field_blames d Unanswered p = refl
-field_blames d (Refused q) p = refl
-field_blames d (InParameters head ps left) p = refl
-field_blames d (AfterParameters head ps) p = refl
-field_blames d (AfterFields head w ps) p = refl
-field_blames d (Complete head w v) p = refl
+field_blames d _ p = refl
 
 part_end_blames : (r : Reply) (p : List ℕ) → errors_in_reply (with_part_end r p) ≡ errors_in_reply r
 part_end_blames (AfterParameters head ps) p = parameters_blame (head.columns == 0) head (closed_part ps p)
-part_end_blames Unanswered p = refl
-part_end_blames (Refused q) p = refl
-part_end_blames (InParameters head ps left) p = refl
-part_end_blames (InFields head w ps left) p = refl
-part_end_blames (AfterFields head w ps) p = refl
-part_end_blames (Complete head w v) p = refl
+part_end_blames _ p = refl
 
 reply_blames : (k : Kind) (d : Bool) (r : Reply) (p : List ℕ) → is_failed k ≡ false → errors_in_reply (grow_reply d k r p) ≡ errors_in_reply r
-reply_blames (kinds.Greets c) d r p e = refl
-reply_blames (kinds.Good status) d r p e = refl
 reply_blames kinds.Failed d r p e = cc
-reply_blames (kinds.Count n) d r p e = refl
-reply_blames kinds.Column d r p e = refl
 reply_blames kinds.ColumnsDone d r p e = part_end_blames r p
-reply_blames kinds.Row d r p e = refl
-reply_blames (kinds.End status) d r p e = refl
 reply_blames (kinds.Prepared params columns) d r p e = head_blames r (record { payload = p; params = params; columns = columns })
 reply_blames kinds.Parameter d r p e = parameter_blames d r p
 reply_blames kinds.Field d r p e = field_blames d r p
-reply_blames kinds.Bad d r p e = refl
+reply_blames _ d r p e = refl
 
 -- another payload than an ERR has none
 pub calm_blames : (k : Kind) (t : Talk) (p : List ℕ) → is_failed k ≡ false → errors_in (grow k t p) ≡ errors_in t
 calm_blames k (Start login) p e = start_blames k login p e
-calm_blames k (Unwelcome login q) p e = refl
 calm_blames k (Greeted login q c) p e = one_blames k p e
-calm_blames k (Settled login q c last kind) p e = refl
 calm_blames k (Asked terms c) p e = one_blames k p e
-calm_blames k (Replied terms c last kind) p e = refl
 calm_blames k (Queried terms c x) p e = sets_blame k (deprecates_eof terms.kept) x p e
 calm_blames k (Preparing terms c reply) p e = reply_blames k (deprecates_eof terms.kept) reply p e
-calm_blames k (Silent terms c) p e = refl
+calm_blames k _ p e = refl
 
 -- an ERR among sets
 failed_sets : (x : Sets) (p : List ℕ) → errors_in_sets (sets.with_error x p) ≡ error_onto (err_at false p) (errors_in_sets x)
 failed_sets (NoSets asking) p = refl
-failed_sets (Lone older q status) p = refl
-failed_sets (Failed older q) p = refl
-failed_sets (Heading older head left) p = refl
-failed_sets (Headed older head) p = refl
-failed_sets (Begun older head rows) p = refl
-failed_sets (Ended older head rows last status) p = refl
-failed_sets (Broken older head rows last) p = refl
+failed_sets _ p = refl
 
 not_greeting_if : (t : Bool) → is_greeting (cond t spots.Further spots.Idle) ≡ false
 not_greeting_if true = refl
 not_greeting_if false = refl
 
 sets_greet : (x : Sets) → is_greeting (spot_in x) ≡ false
-sets_greet (NoSets asking) = refl
 sets_greet (Lone older q status) = not_greeting_if (has_more_results status)
-sets_greet (Failed older q) = refl
-sets_greet (Heading older head left) = refl
-sets_greet (Headed older head) = refl
-sets_greet (Begun older head rows) = refl
 sets_greet (Ended older head rows last status) = not_greeting_if (has_more_results status)
-sets_greet (Broken older head rows last) = refl
+sets_greet _ = refl
 
 failed_reply : (d : Bool) (r : Reply) (p : List ℕ) → kind_by (spot_in_reply r) Text d 0 [] p ≡ kinds.Failed → error_onto (err_at false p) [] ≡ error_onto (err_at (is_greeting (spot_in_reply r)) p) (errors_in_reply r)
-failed_reply d Unanswered p e = refl
 failed_reply d (Refused q) p e = cc
-failed_reply d (InParameters head ps left) p e = refl
-failed_reply d (AfterParameters head ps) p e = refl
-failed_reply d (InFields head w ps left) p e = refl
-failed_reply d (AfterFields head w ps) p e = refl
-failed_reply d (Complete head w v) p e = refl
+failed_reply d _ p e = refl
 
 -- an ERR has its error
 pub failed_blames : (t : Talk) (p : List ℕ) → kind_of t p ≡ kinds.Failed → errors_in (grow kinds.Failed t p) ≡ error_onto (err_at (is_greeting (context_of t).spot) p) (errors_in t)
 failed_blames (Start login) p e = refl
-failed_blames (Unwelcome login q) p e = cc
 failed_blames (Greeted login q c) p e = refl
-failed_blames (Settled login q c last kind) p e = cc
 failed_blames (Asked terms c) p e = refl
-failed_blames (Replied terms c last kind) p e = cc
 failed_blames (Queried terms c x) p e = failed_sets x p ∙ ap (λ b. error_onto (err_at b p) (errors_in_sets x)) (sym (sets_greet x))
 failed_blames (Preparing terms c reply) p e = failed_reply (deprecates_eof terms.kept) reply p e
-failed_blames (Silent terms c) p e = cc
+failed_blames _ p e = cc

@@ -11,7 +11,7 @@ use Rattle.my_reading.specs.declared.error.ServerError.{ServerError}
 use Rattle.my_reading.specs.declared.transaction.TxStatus.TheVariants.{InTransaction}
 use Rattle.my_reading.specs.Calls.{asks, is_connect, kind_of, statement_in}
 use Rattle.my_reading.specs.Commands.{arranging_texts, renews_by_reset, setup_texts}
-use Rattle.my_reading.specs.Course.{Part, All, Head, Item, Set, Rest, Command, Find, Check, Run, Reply, Keep, Give, Learn, Forget, Offered, Clear, Text, Flag, Adopt, Renew, Drain, Undo, Undone, Refuse, Settle, GiveUp, Try, Back, parts_of, parts_of_batch, parts_of_lists, parts_of_queries, parts_of_texts}
+use Rattle.my_reading.specs.Course.{Part, All, Head, Item, Set, Rest, Command, Find, Check, Run, Reply, Keep, Give, Offered, Text, Flag, Renew, Drain, Undo, Refuse, Settle, Try, Back, parts_of, parts_of_batch, parts_of_lists, parts_of_queries, parts_of_texts}
 use Rattle.my_reading.specs.Endings.{closes_cancelled}
 use Rattle.my_reading.specs.Executions.{values_for}
 use Rattle.my_reading.specs.Place.{Place}
@@ -139,20 +139,7 @@ is_orderly over (Text text ∷ parts) = over && is_orderly false parts
 is_orderly over (Renew ∷ parts) = over && is_orderly false parts
 is_orderly over (Keep ∷ parts) = over && is_orderly false parts
 is_orderly over (Undo ∷ parts) = over && is_orderly false parts
-is_orderly over (Find ∷ parts) = is_orderly over parts
-is_orderly over (Check params ∷ parts) = is_orderly over parts
-is_orderly over (Give ∷ parts) = is_orderly over parts
-is_orderly over (Learn ∷ parts) = is_orderly over parts
-is_orderly over (Forget ∷ parts) = is_orderly over parts
-is_orderly over (Offered ∷ parts) = is_orderly over parts
-is_orderly over (Clear ∷ parts) = is_orderly over parts
-is_orderly over (Flag flag ∷ parts) = is_orderly over parts
-is_orderly over (Adopt change ∷ parts) = is_orderly over parts
-is_orderly over (Undone ∷ parts) = is_orderly over parts
-is_orderly over (Refuse opts ∷ parts) = is_orderly over parts
-is_orderly over (Settle status ∷ parts) = is_orderly over parts
-is_orderly over (GiveUp ∷ parts) = is_orderly over parts
-is_orderly over (Try ∷ parts) = is_orderly over parts
+is_orderly over (part ∷ parts) = is_orderly over parts
 
 texts_orderly : (over : Bool) (texts : List (List ℕ)) → is_orderly true (parts_of_texts texts) ≡ true
 texts_orderly over [] = refl
@@ -182,34 +169,19 @@ parts_orderly login c = refl
 -- a call with these parts returns only where nothing is being committed
 abbrev pub is_tried : Call → Bool → List Part → Bool
 is_tried c trying [] = not trying
-is_tried c trying (All ∷ parts) = is_tried c trying parts
-is_tried c trying (Head ∷ parts) = is_tried c trying parts
 is_tried c trying (Item ∷ parts) = not trying && is_tried c trying parts
 is_tried c trying (Set ∷ parts) = not trying && is_tried c trying parts
-is_tried c trying (Rest ∷ parts) = is_tried c trying parts
-is_tried c trying (Command ∷ parts) = is_tried c trying parts
 is_tried c trying (Find ∷ parts) = not trying && is_tried c trying parts
 is_tried c trying (Check params ∷ parts) = not trying && is_tried c trying parts
-is_tried c trying (Run params ∷ parts) = is_tried c trying parts
-is_tried c trying (Reply ∷ parts) = is_tried c trying parts
-is_tried c trying (Keep ∷ parts) = is_tried c trying parts
 is_tried c trying (Give ∷ parts) = not trying && is_tried c trying parts
-is_tried c trying (Learn ∷ parts) = is_tried c trying parts
-is_tried c trying (Forget ∷ parts) = is_tried c trying parts
 is_tried c trying (Offered ∷ parts) = not trying && is_tried c trying parts
-is_tried c trying (Clear ∷ parts) = is_tried c trying parts
-is_tried c trying (Text text ∷ parts) = is_tried c trying parts
 is_tried c trying (Flag flag ∷ parts) = not trying && is_tried c trying parts
-is_tried c trying (Adopt change ∷ parts) = is_tried c trying parts
-is_tried c trying (Renew ∷ parts) = is_tried c trying parts
 is_tried c trying (Drain ∷ parts) = passes_errors c && is_tried c trying parts
-is_tried c trying (Undo ∷ parts) = is_tried c trying parts
-is_tried c trying (Undone ∷ parts) = is_tried c trying parts
 is_tried c trying (Refuse opts ∷ parts) = not trying && is_tried c trying parts
 is_tried c trying (Settle status ∷ parts) = is_tried c false parts
-is_tried c trying (GiveUp ∷ parts) = is_tried c trying parts
 is_tried c trying (Try ∷ parts) = is_commits c && is_tried c true parts
 is_tried c trying (Back ∷ parts) = false
+is_tried c trying (part ∷ parts) = is_tried c trying parts
 
 texts_tried : (texts : List (List ℕ)) → is_tried Connect false (parts_of_texts texts) ≡ true
 texts_tried [] = refl

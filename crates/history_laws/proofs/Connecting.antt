@@ -17,7 +17,7 @@ use Rattle.my_reading.specs.declared.error.Error.TheVariants.{Server}
 use Rattle.my_reading.specs.declared.transaction.Trial.{Trial}
 use Rattle.my_reading.specs.declared.transaction.Trial.TheVariants.{Off}
 use Rattle.my_reading.specs.Commands.{arranging, arranging_texts, opening, queried}
-use Rattle.my_reading.specs.Course.{Part, All, Head, Item, Set, Rest, Command, Find, Check, Run, Reply, Keep, Give, Learn, Forget, Offered, Clear, Text, Flag, Adopt, Renew, Drain, Undo, Undone, Refuse, Settle, GiveUp, Try, Back, Step, Goes, Stops, Stop, Owes, Awaits, Returns, parts_of, parts_of_texts, refused_at, run, step, step_of, unless_owed, with_command}
+use Rattle.my_reading.specs.Course.{Part, All, Command, Step, Goes, Stops, Stop, Owes, Awaits, Returns, parts_of, parts_of_texts, refused_at, run, step, step_of, unless_owed, with_command}
 use Rattle.my_reading.specs.Errors.{server_error}
 use Rattle.my_reading.specs.Place.{Exchange, Place, connects_in, exchanges, facts_of, next_exchange, owed, terms_of, with_talk}
 use Rattle.my_reading.specs.Told.{Told, ToldReady, ToldError, closes_by}
@@ -151,32 +151,7 @@ module _ (login : Login) (p : Place) (w : JoinsAt login p) (paid : owed p ≡ []
       (w, inl (refl, record { count = counted ∙ ap suc all; over = is e; paid = paid; known = connect_known login (exchanges p) w.table (w.own, w.owns) (is e, w.fits, done) accepted (ap suc all) }))
   part_fine (All ∷ parts) over e is count = all_fine parts e count
   part_fine (Command ∷ parts) over e is count = let x = both over (is_connecting false parts) e in command_fine parts (is x.0) x.1 count
-  part_fine (Head ∷ parts) over e is count = absurd (cc)
-  part_fine (Item ∷ parts) over e is count = absurd (cc)
-  part_fine (Set ∷ parts) over e is count = absurd (cc)
-  part_fine (Rest ∷ parts) over e is count = absurd (cc)
-  part_fine (Find ∷ parts) over e is count = absurd (cc)
-  part_fine (Check params ∷ parts) over e is count = absurd (cc)
-  part_fine (Run params ∷ parts) over e is count = absurd (cc)
-  part_fine (Reply ∷ parts) over e is count = absurd (cc)
-  part_fine (Keep ∷ parts) over e is count = absurd (cc)
-  part_fine (Give ∷ parts) over e is count = absurd (cc)
-  part_fine (Learn ∷ parts) over e is count = absurd (cc)
-  part_fine (Forget ∷ parts) over e is count = absurd (cc)
-  part_fine (Offered ∷ parts) over e is count = absurd (cc)
-  part_fine (Clear ∷ parts) over e is count = absurd (cc)
-  part_fine (Text text ∷ parts) over e is count = absurd (cc)
-  part_fine (Flag flag ∷ parts) over e is count = absurd (cc)
-  part_fine (Adopt change ∷ parts) over e is count = absurd (cc)
-  part_fine (Renew ∷ parts) over e is count = absurd (cc)
-  part_fine (Drain ∷ parts) over e is count = absurd (cc)
-  part_fine (Undo ∷ parts) over e is count = absurd (cc)
-  part_fine (Undone ∷ parts) over e is count = absurd (cc)
-  part_fine (Refuse opts ∷ parts) over e is count = absurd (cc)
-  part_fine (Settle status ∷ parts) over e is count = absurd (cc)
-  part_fine (GiveUp ∷ parts) over e is count = absurd (cc)
-  part_fine (Try ∷ parts) over e is count = absurd (cc)
-  part_fine (Back ∷ parts) over e is count = absurd (cc)
+  part_fine _ over e is count = absurd (cc)
 
 step_fine : (login : Login) (parts : List Part) (p : Place) → IsFine login (Goes parts p) → IsFine login (step login Connect parts p)
 unfolding step

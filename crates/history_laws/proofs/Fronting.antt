@@ -46,14 +46,10 @@ whole_at_head d (NoSets asking) f h = tt
 whole_at_head d (Lone older p status) f h =
     let w = whole_at_head d older f.2 f.0 in
     subst (λ (gs : List Group). AreWhole gs (sets_in (Lone older p status))) (sym (stop_whole (groups older) (sets_in older) w)) (refl, refl, refl, w)
-whole_at_head d (Failed older p) f h = cc
-whole_at_head d (Heading older head left) f h = cc
-whole_at_head d (Headed older head) f h = cc
-whole_at_head d (Begun older head rows) f h = cc
 whole_at_head d (Ended older head rows last status) f h =
     let w = whole_at_head d older f.2 f.0.heading.place in
     subst (λ (gs : List Group). AreWhole gs (sets_in (Ended older head rows last status))) (sym (end_whole (format_in older) (head_columns head) rows (groups older) (sets_in older) w)) (refl, refl, refl, w)
-whole_at_head d (Broken older head rows last) f h = cc
+whole_at_head d _ f h = cc
 
 part : (g : Group) (s : Set) → g.rows ≡ s.rows → (g.ended ≡ true → s.done ≡ true) → IsPart g s
 part g s e f = record { newer = []; items = e; end = λ h. (refl, f h) }
@@ -106,34 +102,17 @@ grow_newest gs s u ss (n ∷ newer) older m d all c =
     record { newer = u ∷ newer; older = older; all = ap (λ xs. u ∷ xs) tail; covers = c }
 
 row_front : (gs : List Group) (x : Sets) (p : List ℕ) → IsFront gs (sets_in x) → IsFront gs (sets_in (with_row x p))
-row_front gs (NoSets asking) p f = f
-row_front gs (Lone older q s) p f = f
-row_front gs (Failed older q) p f = f
-row_front gs (Heading older head left) p f = f
-row_front gs (Headed older head) p f = f
 row_front gs (Begun older head rows) p f = grow_newest gs _ (record { rows = row_of (format_in older) (head_columns head) p ∷ rows_in (format_in older) (head_columns head) rows; done = false }) (sets_in older) f.newer f.older (row_of (format_in older) (head_columns head) p ∷ [], refl) refl f.all f.covers
-row_front gs (Ended older head rows last s) p f = f
-row_front gs (Broken older head rows last) p f = f
+row_front gs _ p f = f
 
 end_front : (gs : List Group) (x : Sets) (p : List ℕ) (status : StatusFlags) → IsFront gs (sets_in x) → IsFront gs (sets_in (with_end x p status))
-end_front gs (NoSets asking) p status f = f
-end_front gs (Lone older q s) p status f = f
-end_front gs (Failed older q) p status f = f
-end_front gs (Heading older head left) p status f = f
-end_front gs (Headed older head) p status f = f
 end_front gs (Begun older head rows) p status f = grow_newest gs _ (record { rows = rows_in (format_in older) (head_columns head) rows; done = true }) (sets_in older) f.newer f.older ([], refl) refl f.all f.covers
-end_front gs (Ended older head rows last s) p status f = f
-end_front gs (Broken older head rows last) p status f = f
+end_front gs _ p status f = f
 
 error_front : (gs : List Group) (x : Sets) (p : List ℕ) → IsFront gs (sets_in x) → IsFront gs (sets_in (with_error x p))
 error_front gs (NoSets asking) p f = more_set gs [] _ f
-error_front gs (Lone older q s) p f = more_set gs _ _ f
-error_front gs (Failed older q) p f = more_set gs _ _ f
-error_front gs (Heading older head left) p f = more_set gs _ _ f
-error_front gs (Headed older head) p f = more_set gs _ _ f
 error_front gs (Begun older head rows) p f = f
-error_front gs (Ended older head rows last s) p f = more_set gs _ _ f
-error_front gs (Broken older head rows last) p f = more_set gs _ _ f
+error_front gs _ p f = more_set gs _ _ f
 
 column_if : (gs : List Group) (d last : Bool) (older : Sets) (head : SetHead) (left : ℕ) (p : List ℕ) → IsFront gs (record { rows = []; done = false } ∷ sets_in older) → IsFront gs (sets_in (cond last (cond d (Begun older (with_column_of head p) []) (Headed older (with_column_of head p))) (Heading older (with_column_of head p) left)))
 column_if gs true true older head left p f = f
@@ -141,27 +120,14 @@ column_if gs false true older head left p f = f
 column_if gs d false older head left p f = f
 
 column_front : (gs : List Group) (d : Bool) (x : Sets) (p : List ℕ) → IsFront gs (sets_in x) → IsFront gs (sets_in (with_column d x p))
-column_front gs d (NoSets asking) p f = f
-column_front gs d (Lone older q s) p f = f
-column_front gs d (Failed older q) p f = f
 column_front gs d (Heading older head left) p f = column_if gs d (leb left 1) older head (left - 1) p f
-column_front gs d (Headed older head) p f = f
-column_front gs d (Begun older head rows) p f = f
-column_front gs d (Ended older head rows last s) p f = f
-column_front gs d (Broken older head rows last) p f = f
+column_front gs d _ p f = f
 
 close_front : (gs : List Group) (x : Sets) (p : List ℕ) → IsFront gs (sets_in x) → IsFront gs (sets_in (with_close x p))
 close_front gs (NoSets asking) p f = f
-close_front gs (Lone older q s) p f = f
-close_front gs (Failed older q) p f = f
-close_front gs (Heading older head left) p f = f
-close_front gs (Headed older head) p f = f
-close_front gs (Begun older head rows) p f = f
-close_front gs (Ended older head rows last s) p f = f
-close_front gs (Broken older head rows last) p f = f
+close_front gs _ p f = f
 
 grow_front : (gs : List Group) (d : Bool) (k : Kind) (x : Sets) (p : List ℕ) → IsFront gs (sets_in x) → IsFront gs (sets_in (grow_sets d k x p))
-grow_front gs d (kinds.Greets n) x p f = f
 grow_front gs d (kinds.Good status) x p f = more_set gs (sets_in x) _ f
 grow_front gs d kinds.Failed x p f = error_front gs x p f
 grow_front gs d (kinds.Count n) x p f = more_set gs (sets_in x) _ f
@@ -169,10 +135,7 @@ grow_front gs d kinds.Column x p f = column_front gs d x p f
 grow_front gs d kinds.ColumnsDone x p f = close_front gs x p f
 grow_front gs d kinds.Row x p f = row_front gs x p f
 grow_front gs d (kinds.End status) x p f = end_front gs x p status f
-grow_front gs d (kinds.Prepared params columns) x p f = f
-grow_front gs d kinds.Parameter x p f = f
-grow_front gs d kinds.Field x p f = f
-grow_front gs d kinds.Bad x p f = f
+grow_front gs d _ x p f = f
 
 grown_front : (gs : List Group) (d : Bool) (y : Sets) (ps : List Packet) → IsFront gs (sets_in y) → IsFront gs (sets_in (grown d y ps))
 grown_front gs d y [] f = f

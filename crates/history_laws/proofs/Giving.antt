@@ -12,7 +12,7 @@ use Rattle.my_grammar.specs.declared.spot.Spot.TheVariants as spots
 use Rattle.my_grammar.specs.declared.spot.Spot.{Spot}
 use Rattle.my_grammar.specs.Cut.{is_idle, is_over}
 use Rattle.my_grammar.specs.Growth.{grow}
-use Rattle.my_grammar.specs.Sets.{Sets, NoSets, Lone, Failed, Heading, Headed, Begun, Ended, Broken, grow_sets, packets_in, head_columns}
+use Rattle.my_grammar.specs.Sets.{Sets, Lone, Begun, Ended, grow_sets, packets_in, head_columns}
 use Rattle.my_grammar.specs.Talk.{Talk, Queried, context_of, packets_of, described, Fits}
 use Rattle.my_reply.specs.declared.err.ErrPacket.{ErrPacket}
 use Rattle.my_reading.proofs.Described.{at_rows}
@@ -39,13 +39,7 @@ all_given t terms command x e f = subst (IsGiven (Some (groups x))) (sym e) (x, 
 
 lone_stop : (x : Sets) → is_lone x ≡ true → with_stop (groups (known_part true x)) ≡ groups x
 lone_stop (Lone older p s) e = refl
-lone_stop (NoSets asking) e = cc
-lone_stop (Failed older p) e = cc
-lone_stop (Heading older head left) e = cc
-lone_stop (Headed older head) e = cc
-lone_stop (Begun older head rows) e = cc
-lone_stop (Ended older head rows p s) e = cc
-lone_stop (Broken older head rows p) e = cc
+lone_stop _ e = cc
 
 -- what was read is in the sets of a query
 grown_is : (t : Talk) (terms : Terms) (command : List ℕ) (x : Sets) (k : Kind) (q : List ℕ) → t ≡ Queried terms command x → grow k t q ≡ Queried terms command (grow_sets (deprecates_eof terms.kept) k x q)
@@ -134,19 +128,7 @@ module _ (c : Call) (ms : List Made) (p : Place) (o : Option (List Group)) (w : 
 -- rows are read where the exchange isn't over
 rows_open : (s : Spot) → is_rows s ≡ true → is_idle s ≡ false
 rows_open spots.Rows e = refl
-rows_open spots.Idle e = cc
-rows_open spots.Greeting e = cc
-rows_open spots.Authentication e = cc
-rows_open spots.Single e = cc
-rows_open spots.Head e = cc
-rows_open spots.Further e = cc
-rows_open (spots.Columns left) e = cc
-rows_open spots.ColumnsEnd e = cc
-rows_open spots.Prepare e = cc
-rows_open (spots.Parameters left columns) e = cc
-rows_open (spots.ParametersEnd columns) e = cc
-rows_open (spots.Fields left) e = cc
-rows_open spots.FieldsEnd e = cc
+rows_open _ e = cc
 
 -- where something is left to be read, all before it was given
 left_there : (p : Place) (o : Option (List Group)) → KeptAt p o → p.end_left ≡ false → is_over p.talk ≡ false → Left p.talk false o
@@ -174,15 +156,7 @@ module _ (login : Login) (ms : List Made) (p : Place) (o : Option (List Group)) 
   item_kind (kinds.Good s) q rest come l = let x = good_shared NextRow ms p o w l s q come in record { share = x.share; gave = x.gave; kept = λ _. inr x.left }
   item_kind (kinds.End s) q rest come l = let x = stop_shared NextRow ms p o w l s q come in record { share = x.share; gave = x.gave; kept = λ _. inr x.left }
   item_kind kinds.Row q rest come l = let x = row_shared NextRow ms p o w l login q come in record { share = x.share; gave = x.gave; kept = λ _. inr x.left }
-  item_kind (kinds.Greets n) q rest come l = (ms, NonePassed, Reading _ o refl (grown_gave false ms p o (kinds.Greets n) q come w) (inr (quiet_left NextRow ms p o w l (kinds.Greets n) q refl)))
-  item_kind kinds.Failed q rest come l = (ms, NonePassed, Reading _ o refl (grown_gave false ms p o kinds.Failed q come w) (inr (quiet_left NextRow ms p o w l kinds.Failed q refl)))
-  item_kind (kinds.Count n) q rest come l = (ms, NonePassed, Reading _ o refl (grown_gave false ms p o (kinds.Count n) q come w) (inr (quiet_left NextRow ms p o w l (kinds.Count n) q refl)))
-  item_kind kinds.Column q rest come l = (ms, NonePassed, Reading _ o refl (grown_gave false ms p o kinds.Column q come w) (inr (quiet_left NextRow ms p o w l kinds.Column q refl)))
-  item_kind kinds.ColumnsDone q rest come l = (ms, NonePassed, Reading _ o refl (grown_gave false ms p o kinds.ColumnsDone q come w) (inr (quiet_left NextRow ms p o w l kinds.ColumnsDone q refl)))
-  item_kind (kinds.Prepared m n) q rest come l = (ms, NonePassed, Reading _ o refl (grown_gave false ms p o (kinds.Prepared m n) q come w) (inr (quiet_left NextRow ms p o w l (kinds.Prepared m n) q refl)))
-  item_kind kinds.Parameter q rest come l = (ms, NonePassed, Reading _ o refl (grown_gave false ms p o kinds.Parameter q come w) (inr (quiet_left NextRow ms p o w l kinds.Parameter q refl)))
-  item_kind kinds.Field q rest come l = (ms, NonePassed, Reading _ o refl (grown_gave false ms p o kinds.Field q come w) (inr (quiet_left NextRow ms p o w l kinds.Field q refl)))
-  item_kind kinds.Bad q rest come l = (ms, NonePassed, Reading _ o refl (grown_gave false ms p o kinds.Bad q come w) (inr (quiet_left NextRow ms p o w l kinds.Bad q refl)))
+  item_kind k q rest come l = (ms, NonePassed, Reading _ o refl (grown_gave false ms p o k q come w) (inr (quiet_left NextRow ms p o w l k q refl)))
 
   pub item_fine : KeptAt p o → IsFine NextRow ms (step_of login NextRow (Item ∷ []) p)
   item_fine kept = either (IsFine NextRow ms) p.end_left _ _
@@ -204,15 +178,7 @@ module _ (login : Login) (ms : List Made) (p : Place) (o : Option (List Group)) 
   }
   set_kind (kinds.End s) q rest come l e = absurd (no_rows l.sets l.terms l.command l.talk_is e (end_rows TakeSet ms p o w l s q come))
   set_kind kinds.Row q rest come l e = absurd (no_rows l.sets l.terms l.command l.talk_is e (row_rows TakeSet ms p o w l q come))
-  set_kind (kinds.Greets n) q rest come l e = (ms, NonePassed, Taking _ o refl (grown_gave false ms p o (kinds.Greets n) q come w) (inr (quiet_left TakeSet ms p o w l (kinds.Greets n) q refl)))
-  set_kind kinds.Failed q rest come l e = (ms, NonePassed, Taking _ o refl (grown_gave false ms p o kinds.Failed q come w) (inr (quiet_left TakeSet ms p o w l kinds.Failed q refl)))
-  set_kind (kinds.Count n) q rest come l e = (ms, NonePassed, Taking _ o refl (grown_gave false ms p o (kinds.Count n) q come w) (inr (quiet_left TakeSet ms p o w l (kinds.Count n) q refl)))
-  set_kind kinds.Column q rest come l e = (ms, NonePassed, Taking _ o refl (grown_gave false ms p o kinds.Column q come w) (inr (quiet_left TakeSet ms p o w l kinds.Column q refl)))
-  set_kind kinds.ColumnsDone q rest come l e = (ms, NonePassed, Taking _ o refl (grown_gave false ms p o kinds.ColumnsDone q come w) (inr (quiet_left TakeSet ms p o w l kinds.ColumnsDone q refl)))
-  set_kind (kinds.Prepared m n) q rest come l e = (ms, NonePassed, Taking _ o refl (grown_gave false ms p o (kinds.Prepared m n) q come w) (inr (quiet_left TakeSet ms p o w l (kinds.Prepared m n) q refl)))
-  set_kind kinds.Parameter q rest come l e = (ms, NonePassed, Taking _ o refl (grown_gave false ms p o kinds.Parameter q come w) (inr (quiet_left TakeSet ms p o w l kinds.Parameter q refl)))
-  set_kind kinds.Field q rest come l e = (ms, NonePassed, Taking _ o refl (grown_gave false ms p o kinds.Field q come w) (inr (quiet_left TakeSet ms p o w l kinds.Field q refl)))
-  set_kind kinds.Bad q rest come l e = (ms, NonePassed, Taking _ o refl (grown_gave false ms p o kinds.Bad q come w) (inr (quiet_left TakeSet ms p o w l kinds.Bad q refl)))
+  set_kind k q rest come l e = (ms, NonePassed, Taking _ o refl (grown_gave false ms p o k q come w) (inr (quiet_left TakeSet ms p o w l k q refl)))
 
   neither : (a b : Bool) → (a || b) ≡ false → (a ≡ false) × (b ≡ false)
   neither true b e = cc
@@ -235,15 +201,7 @@ module _ (login : Login) (ms : List Made) (p : Place) (o : Option (List Group)) 
     pass_kind (kinds.Good s) q rest come l = passed_fine ToldEnd q rest (kinds.Good s) tt (good_shared c ms p o w l s q come)
     pass_kind (kinds.End s) q rest come l = passed_fine ToldEnd q rest (kinds.End s) tt (stop_shared c ms p o w l s q come)
     pass_kind kinds.Row q rest come l = passed_fine (row_at login p q) q rest kinds.Row tt (row_shared c ms p o w l login q come)
-    pass_kind (kinds.Greets n) q rest come l = (ms, NonePassed, Passing part _ o does (grown_gave false ms p o (kinds.Greets n) q come w) (inr (quiet_left c ms p o w l (kinds.Greets n) q refl)))
-    pass_kind kinds.Failed q rest come l = (ms, NonePassed, Passing part _ o does (grown_gave false ms p o kinds.Failed q come w) (inr (quiet_left c ms p o w l kinds.Failed q refl)))
-    pass_kind (kinds.Count n) q rest come l = (ms, NonePassed, Passing part _ o does (grown_gave false ms p o (kinds.Count n) q come w) (inr (quiet_left c ms p o w l (kinds.Count n) q refl)))
-    pass_kind kinds.Column q rest come l = (ms, NonePassed, Passing part _ o does (grown_gave false ms p o kinds.Column q come w) (inr (quiet_left c ms p o w l kinds.Column q refl)))
-    pass_kind kinds.ColumnsDone q rest come l = (ms, NonePassed, Passing part _ o does (grown_gave false ms p o kinds.ColumnsDone q come w) (inr (quiet_left c ms p o w l kinds.ColumnsDone q refl)))
-    pass_kind (kinds.Prepared m n) q rest come l = (ms, NonePassed, Passing part _ o does (grown_gave false ms p o (kinds.Prepared m n) q come w) (inr (quiet_left c ms p o w l (kinds.Prepared m n) q refl)))
-    pass_kind kinds.Parameter q rest come l = (ms, NonePassed, Passing part _ o does (grown_gave false ms p o kinds.Parameter q come w) (inr (quiet_left c ms p o w l kinds.Parameter q refl)))
-    pass_kind kinds.Field q rest come l = (ms, NonePassed, Passing part _ o does (grown_gave false ms p o kinds.Field q come w) (inr (quiet_left c ms p o w l kinds.Field q refl)))
-    pass_kind kinds.Bad q rest come l = (ms, NonePassed, Passing part _ o does (grown_gave false ms p o kinds.Bad q come w) (inr (quiet_left c ms p o w l kinds.Bad q refl)))
+    pass_kind k q rest come l = (ms, NonePassed, Passing part _ o does (grown_gave false ms p o k q come w) (inr (quiet_left c ms p o w l k q refl)))
 
     end_passed : Left p.talk true o → IsFine c ms (Goes (part ∷ []) (without_end p))
     end_passed l = let x = end_shared c ms p o w l in (returned_so c ToldEnd ms, MorePassed ms ToldEnd passes tt NonePassed, Passing part _ x.share does x.gave (inr x.left))
@@ -289,15 +247,7 @@ module _ (login : Login) (c : Call) (ms : List Made) (query : is_query c ≡ tru
   head_kind kinds.Row q rest come f e =
       let r = row_in_rows f.sets q _ (more_packets p ms None kinds.Row q f.terms f.command f.sets come w f.talk_is) in
       absurd (no_rows login ms p None w f.sets f.terms f.command f.talk_is e r)
-  head_kind (kinds.Greets n) q rest come f e = quiet_head (kinds.Greets n) q rest come refl f
-  head_kind kinds.Failed q rest come f e = quiet_head kinds.Failed q rest come refl f
-  head_kind (kinds.Count n) q rest come f e = quiet_head (kinds.Count n) q rest come refl f
-  head_kind kinds.Column q rest come f e = quiet_head kinds.Column q rest come refl f
-  head_kind kinds.ColumnsDone q rest come f e = quiet_head kinds.ColumnsDone q rest come refl f
-  head_kind (kinds.Prepared m n) q rest come f e = quiet_head (kinds.Prepared m n) q rest come refl f
-  head_kind kinds.Parameter q rest come f e = quiet_head kinds.Parameter q rest come refl f
-  head_kind kinds.Field q rest come f e = quiet_head kinds.Field q rest come refl f
-  head_kind kinds.Bad q rest come f e = quiet_head kinds.Bad q rest come refl f
+  head_kind k q rest come f e = quiet_head k q rest come refl f
 
   pub heading_fine : p.end_left ≡ false → IsFresh p.talk false → IsFine c ms (step_of login c (Head ∷ parts) p)
   heading_fine none f = either (IsFine c ms) (is_rows (context_of p.talk).spot) _ _
@@ -312,13 +262,7 @@ known_given : (t : Talk) (terms : Terms) (command : List ℕ) (x : Sets) (end : 
 known_given t terms command x false e lone f = all_given t terms command x e f
 known_given t terms command (Lone older p s) true e lone f =
     subst (IsGiven (Some (groups older))) (sym e) (older, ((let one : Packet = record { kind = kinds.Good s; payload = p } in one) ∷ [], refl), refl, (subst Fits e f).kinds.2)
-known_given t terms command (NoSets asking) true e lone f = absurd (let no : false ≡ true = lone refl in cc)
-known_given t terms command (Failed older p) true e lone f = absurd (let no : false ≡ true = lone refl in cc)
-known_given t terms command (Heading older head left) true e lone f = absurd (let no : false ≡ true = lone refl in cc)
-known_given t terms command (Headed older head) true e lone f = absurd (let no : false ≡ true = lone refl in cc)
-known_given t terms command (Begun older head rows) true e lone f = absurd (let no : false ≡ true = lone refl in cc)
-known_given t terms command (Ended older head rows p s) true e lone f = absurd (let no : false ≡ true = lone refl in cc)
-known_given t terms command (Broken older head rows p) true e lone f = absurd (let no : false ≡ true = lone refl in cc)
+known_given t terms command _ true e lone f = absurd (let no : false ≡ true = lone refl in cc)
 
 -- a query, or an execution, is answered: of its response nothing was given yet
 fresh_gave : (made : List Made) (ms : List Made) (p : Place) → given made ≡ [] ∷ given ms → IsFresh p.talk p.end_left → GaveAt false ms p None → GaveAt false made p (Some [])

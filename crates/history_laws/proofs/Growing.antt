@@ -10,8 +10,8 @@ use Rattle.my_grammar.specs.Cut.{is_over}
 use Rattle.my_grammar.specs.declared.spot.Terms.{Terms}
 use Rattle.my_grammar.specs.FitSets.{FitSets}
 use Rattle.my_grammar.specs.Growth.{grow}
-use Rattle.my_grammar.specs.Sets.{Sets, SetHead, NoSets, Lone, Failed, Heading, Headed, Begun, Ended, Broken, grow_sets, with_row, with_end, packets_in, with_column_of}
-use Rattle.my_grammar.specs.Talk.{Talk, Start, Unwelcome, Greeted, Settled, Asked, Replied, Queried, Preparing, Silent}
+use Rattle.my_grammar.specs.Sets.{Sets, SetHead, NoSets, Heading, Headed, Begun, grow_sets, with_row, with_end, packets_in, with_column_of}
+use Rattle.my_grammar.specs.Talk.{Talk, Start, Queried}
 use Rattle.history_laws.specs.Groups.{Group, groups, IsEarlier}
 use Rattle.history_laws.specs.Given.{IsGiven, ends_with_ok, sets_of}
 
@@ -24,52 +24,29 @@ is_quiet k = true
 
 error_groups : (d : Bool) (x : Sets) (p : List ℕ) → groups (grow_sets d kinds.Failed x p) ≡ groups x
 error_groups d (NoSets asking) p = refl
-error_groups d (Lone older q s) p = refl
-error_groups d (Failed older q) p = refl
-error_groups d (Heading older head left) p = refl
-error_groups d (Headed older head) p = refl
-error_groups d (Begun older head rows) p = refl
-error_groups d (Ended older head rows q s) p = refl
-error_groups d (Broken older head rows q) p = refl
+error_groups d _ p = refl
 
 column_groups : (d : Bool) (x : Sets) (p : List ℕ) → groups (grow_sets d kinds.Column x p) ≡ groups x
-column_groups d (NoSets asking) p = refl
-column_groups d (Lone older q s) p = refl
-column_groups d (Failed older q) p = refl
 column_groups d (Heading older head left) p = by_left (nat_le left 1) d
   where
     by_left : (b e : Bool) → groups (cond b (cond e (Begun older (with_column_of head p) []) (Headed older (with_column_of head p))) (Heading older (with_column_of head p) (left - 1))) ≡ groups older
     by_left true true = refl
     by_left true false = refl
     by_left false e = refl
-column_groups d (Headed older head) p = refl
-column_groups d (Begun older head rows) p = refl
-column_groups d (Ended older head rows q s) p = refl
-column_groups d (Broken older head rows q) p = refl
+column_groups d _ p = refl
 
 close_groups : (d : Bool) (x : Sets) (p : List ℕ) → groups (grow_sets d kinds.ColumnsDone x p) ≡ groups x
 close_groups d (NoSets asking) p = refl
-close_groups d (Lone older q s) p = refl
-close_groups d (Failed older q) p = refl
-close_groups d (Heading older head left) p = refl
-close_groups d (Headed older head) p = refl
-close_groups d (Begun older head rows) p = refl
-close_groups d (Ended older head rows q s) p = refl
-close_groups d (Broken older head rows q) p = refl
+close_groups d _ p = refl
 
 pub quiet_groups : (d : Bool) (k : Kind) (x : Sets) (p : List ℕ) → is_quiet k ≡ true → groups (grow_sets d k x p) ≡ groups x
-quiet_groups d (kinds.Greets n) x p e = refl
 quiet_groups d (kinds.Good s) x p e = cc
 quiet_groups d kinds.Failed x p e = error_groups d x p
-quiet_groups d (kinds.Count n) x p e = refl
 quiet_groups d kinds.Column x p e = column_groups d x p
 quiet_groups d kinds.ColumnsDone x p e = close_groups d x p
 quiet_groups d kinds.Row x p e = cc
 quiet_groups d (kinds.End s) x p e = cc
-quiet_groups d (kinds.Prepared m n) x p e = refl
-quiet_groups d kinds.Parameter x p e = refl
-quiet_groups d kinds.Field x p e = refl
-quiet_groups d kinds.Bad x p e = refl
+quiet_groups d _ x p e = refl
 
 -- a row, and an end of rows, come only after a head
 pub record InRows (x : Sets) : Type 0 where
@@ -82,53 +59,25 @@ longer : (packet : Packet) (packets : List Packet) → packets ≡ packet ∷ pa
 longer packet packets e = let more : length packets ≡ suc (length packets) = ap length e in absurd (omega arith)
 
 pub row_in_rows : (x : Sets) (p : List ℕ) (packet : Packet) → packets_in (with_row x p) ≡ packet ∷ packets_in x → InRows x
-row_in_rows (NoSets asking) p packet e = absurd (longer packet _ e)
-row_in_rows (Lone older q s) p packet e = absurd (longer packet _ e)
-row_in_rows (Failed older q) p packet e = absurd (longer packet _ e)
-row_in_rows (Heading older head left) p packet e = absurd (longer packet _ e)
-row_in_rows (Headed older head) p packet e = absurd (longer packet _ e)
 row_in_rows (Begun older head rows) p packet e = record { older = older; head = head; rows = rows; sets_are = refl }
-row_in_rows (Ended older head rows q s) p packet e = absurd (longer packet _ e)
-row_in_rows (Broken older head rows q) p packet e = absurd (longer packet _ e)
+row_in_rows _ p packet e = absurd (longer packet _ e)
 
 pub end_in_rows : (x : Sets) (p : List ℕ) (status : StatusFlags) (packet : Packet) → packets_in (with_end x p status) ≡ packet ∷ packets_in x → InRows x
-end_in_rows (NoSets asking) p status packet e = absurd (longer packet _ e)
-end_in_rows (Lone older q s) p status packet e = absurd (longer packet _ e)
-end_in_rows (Failed older q) p status packet e = absurd (longer packet _ e)
-end_in_rows (Heading older head left) p status packet e = absurd (longer packet _ e)
-end_in_rows (Headed older head) p status packet e = absurd (longer packet _ e)
 end_in_rows (Begun older head rows) p status packet e = record { older = older; head = head; rows = rows; sets_are = refl }
-end_in_rows (Ended older head rows q s) p status packet e = absurd (longer packet _ e)
-end_in_rows (Broken older head rows q) p status packet e = absurd (longer packet _ e)
+end_in_rows _ p status packet e = absurd (longer packet _ e)
 
 -- what was at some moment was so still when more was read
 start_sets : (k : Kind) (login : Login) (p : List ℕ) → (sets_of (grow k (Start login) p) ≡ sets_of (Start login)) × (ends_with_ok (grow k (Start login) p) ≡ true)
 start_sets (kinds.Greets n) login p = (refl, refl)
-start_sets (kinds.Good s) login p = (refl, refl)
-start_sets kinds.Failed login p = (refl, refl)
-start_sets (kinds.Count n) login p = (refl, refl)
-start_sets kinds.Column login p = (refl, refl)
-start_sets kinds.ColumnsDone login p = (refl, refl)
-start_sets kinds.Row login p = (refl, refl)
-start_sets (kinds.End s) login p = (refl, refl)
-start_sets (kinds.Prepared m n) login p = (refl, refl)
-start_sets kinds.Parameter login p = (refl, refl)
-start_sets kinds.Field login p = (refl, refl)
-start_sets kinds.Bad login p = (refl, refl)
+start_sets _ login p = (refl, refl)
 
 some_given : (g : List Group) (t : Talk) (k : Kind) (p : List ℕ) → IsGiven (Some g) t → IsGiven (Some g) (grow k t p)
 some_given g (Start login) k p w =
     let s = start_sets k login p in
     subst (λ (x : Sets). (y : Sets) × IsEarlier (ends_with_ok (grow k (Start login) p)) y x × (g ≡ groups y) × FitSets (ends_with_ok (grow k (Start login) p)) y) (sym s.0)
     (subst (λ (d : Bool). (y : Sets) × IsEarlier d y (sets_of (Start login)) × (g ≡ groups y) × FitSets d y) (sym s.1) w)
-some_given g (Unwelcome login q) k p w = w
-some_given g (Greeted login q c) k p w = w
-some_given g (Settled login q c last kind) k p w = w
-some_given g (Asked terms c) k p w = w
-some_given g (Replied terms c last kind) k p w = w
 some_given g (Queried terms c sets) k p w = (w.0, ((let one : Packet = record { kind = k; payload = p } in one) ∷ w.1.0, ap (λ z. grow_sets (deprecates_eof terms.kept) k z p) w.1.1), w.2, w.3)
-some_given g (Preparing terms c reply) k p w = w
-some_given g (Silent terms c) k p w = w
+some_given g _ k p w = w
 
 pub given_on : (o : Option (List Group)) (t : Talk) (k : Kind) (p : List ℕ) → IsGiven o t → IsGiven o (grow k t p)
 given_on None t k p w = tt
@@ -137,21 +86,8 @@ given_on (Some g) t k p w = some_given g t k p w
 -- an ERR ends its exchange
 error_over : (terms : Terms) (c : List ℕ) (x : Sets) (d : Bool) (p : List ℕ) → is_over (Queried terms c (grow_sets d kinds.Failed x p)) ≡ true
 error_over terms c (NoSets asking) d p = refl
-error_over terms c (Lone older q s) d p = refl
-error_over terms c (Failed older q) d p = refl
-error_over terms c (Heading older head left) d p = refl
-error_over terms c (Headed older head) d p = refl
-error_over terms c (Begun older head rows) d p = refl
-error_over terms c (Ended older head rows q s) d p = refl
-error_over terms c (Broken older head rows q) d p = refl
+error_over terms c _ d p = refl
 
 pub failed_over : (t : Talk) (p : List ℕ) → is_over (grow kinds.Failed t p) ≡ true
-failed_over (Start login) p = refl
-failed_over (Unwelcome login q) p = refl
-failed_over (Greeted login q c) p = refl
-failed_over (Settled login q c last kind) p = refl
-failed_over (Asked terms c) p = refl
-failed_over (Replied terms c last kind) p = refl
 failed_over (Queried terms c sets) p = error_over terms c sets (deprecates_eof terms.kept) p
-failed_over (Preparing terms c reply) p = refl
-failed_over (Silent terms c) p = refl
+failed_over _ p = refl

@@ -13,7 +13,7 @@ use Rattle.my_grammar.specs.Contexts.{is_bad}
 use Rattle.my_grammar.specs.Cut.{is_idle, is_over}
 use Rattle.my_grammar.specs.Growth.{grow}
 use Rattle.my_grammar.specs.Kinds.{kind_by}
-use Rattle.my_grammar.specs.Talk.{Talk, Start, Unwelcome, Greeted, Settled, Asked, Replied, Queried, Preparing, Silent, Fits, context_of, origin}
+use Rattle.my_grammar.specs.Talk.{Talk, Start, Fits, context_of, origin}
 use Rattle.my_reading.specs.declared.call.Call.{Call}
 use Rattle.my_reading.specs.declared.call.Call.TheVariants.{Commit}
 use Rattle.my_reading.specs.declared.error.ServerError.{ServerError}
@@ -34,19 +34,7 @@ use Rattle.history_laws.proofs.Phases.{reads_sets, returned_so}
 -- nothing is read of an exchange that is over
 pub idle_bad : (s : Spot) (rows : RowFormat) (d : Bool) (n : ℕ) (columns : List ColumnPacket) (q : List ℕ) (k : Kind) → kind_by s rows d n columns q ≡ k → is_bad k ≡ false → is_idle s ≡ false
 idle_bad spots.Idle rows d n columns q k e good = let bad : is_bad k ≡ true = ap is_bad (sym e) in cc
-idle_bad spots.Greeting rows d n columns q k e good = refl
-idle_bad spots.Authentication rows d n columns q k e good = refl
-idle_bad spots.Single rows d n columns q k e good = refl
-idle_bad spots.Head rows d n columns q k e good = refl
-idle_bad spots.Further rows d n columns q k e good = refl
-idle_bad (spots.Columns left) rows d n columns q k e good = refl
-idle_bad spots.ColumnsEnd rows d n columns q k e good = refl
-idle_bad spots.Rows rows d n columns q k e good = refl
-idle_bad spots.Prepare rows d n columns q k e good = refl
-idle_bad (spots.Parameters left more) rows d n columns q k e good = refl
-idle_bad (spots.ParametersEnd more) rows d n columns q k e good = refl
-idle_bad (spots.Fields left) rows d n columns q k e good = refl
-idle_bad spots.FieldsEnd rows d n columns q k e good = refl
+idle_bad _ rows d n columns q k e good = refl
 
 pub unread : (p : Place) (k : Kind) (q : List ℕ) → Comes p k q → is_over p.talk ≡ false
 unread p k q c = idle_bad (context_of p.talk).spot _ _ _ _ q k c.kind_is c.good
@@ -129,14 +117,7 @@ hushed_grown ms made p o x k q rest c says w =
 -- exchanges begin without an ERR
 origin_calm : (t : Talk) → errors_in (origin t) ≡ []
 origin_calm (Start login) = refl
-origin_calm (Unwelcome login p) = refl
-origin_calm (Greeted login p c) = refl
-origin_calm (Settled login p c last kind) = refl
-origin_calm (Asked terms c) = refl
-origin_calm (Replied terms c last kind) = refl
-origin_calm (Queried terms c sets) = refl
-origin_calm (Preparing terms c reply) = refl
-origin_calm (Silent terms c) = refl
+origin_calm _ = refl
 
 new_calm : (t : Talk) → IsNew t → errors_in t ≡ []
 new_calm t n = ap errors_in (sym n.origin_is) ∙ origin_calm t

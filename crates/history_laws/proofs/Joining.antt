@@ -32,19 +32,7 @@ use Rattle.history_laws.proofs.Tying.{Between, all_begun, calls_owned, ended_own
 
 idle_shook : (s : Spot) → is_idle s ≡ true → is_greeting s ≡ false
 idle_shook spots.Idle e = refl
-idle_shook spots.Greeting e = absurd (cc)
-idle_shook spots.Authentication e = absurd (cc)
-idle_shook spots.Single e = absurd (cc)
-idle_shook spots.Head e = absurd (cc)
-idle_shook spots.Further e = absurd (cc)
-idle_shook (spots.Columns left) e = absurd (cc)
-idle_shook spots.ColumnsEnd e = absurd (cc)
-idle_shook spots.Rows e = absurd (cc)
-idle_shook spots.Prepare e = absurd (cc)
-idle_shook (spots.Parameters left more) e = absurd (cc)
-idle_shook (spots.ParametersEnd more) e = absurd (cc)
-idle_shook (spots.Fields left) e = absurd (cc)
-idle_shook spots.FieldsEnd e = absurd (cc)
+idle_shook _ e = absurd (cc)
 
 -- it owns all exchanges
 all_own : (call : Call) (older : List Exchange) → call ≡ calls.Connect → AreConnects older → OwnsFirst calls.Connect (call ∷ calls_in older) (IsTied [])

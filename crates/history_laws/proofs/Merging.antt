@@ -4,7 +4,7 @@ use Rattle.my_reading.specs.declared.call.Call.{Call}
 use Rattle.my_reading.specs.declared.error.ServerError.{ServerError}
 use Rattle.my_reading.specs.Calls.{kind_of}
 use Rattle.my_reading.specs.Tape.{Span}
-use Rattle.my_reading.specs.Told.{Told, ToldReady, ToldRow, ToldEnd, ToldNone, ToldStatement, ToldFlag, ToldError, ToldPassed, Dropped}
+use Rattle.my_reading.specs.Told.{Told, ToldRow, ToldEnd, ToldPassed}
 use Rattle.history_laws.specs.Errors.{AreHeard, NoneHeard, OneHeard, PassedErrors, NoErrors, MoreErrors, errors_told, with_told}
 use Rattle.history_laws.specs.Given.{AreMade, NoCalls, OneCall, IsItem, Passed, NonePassed, MorePassed, with_ending}
 use Rattle.history_laws.specs.Groups.{Made, given, given_after}
@@ -19,15 +19,9 @@ record IsPlain (t : Told) (c : Call) : Type 0 where
   unmade : makes t (kind_of c) ≡ false
 
 item_plain : (t : Told) (c : Call) → IsItem t → IsPlain t c
-item_plain ToldReady c i = absurd i
 item_plain (ToldRow row) c i = record { calm = λ es. refl; lacks = refl; unmade = refl }
 item_plain ToldEnd c i = record { calm = λ es. refl; lacks = refl; unmade = refl }
-item_plain ToldNone c i = absurd i
-item_plain (ToldStatement statement) c i = absurd i
-item_plain (ToldFlag flag) c i = absurd i
-item_plain (ToldError e) c i = absurd i
-item_plain (ToldPassed e) c i = absurd i
-item_plain (Dropped closing) c i = absurd i
+item_plain _ c i = absurd i
 
 -- the one list says what each of the two says
 pub record Merged (a b : List Made) (m : List Made) : Type 0 where

@@ -25,7 +25,7 @@ use Rattle.my_reading.specs.declared.transaction.Trial.{Trial}
 use Rattle.my_reading.specs.declared.transaction.Trial.TheVariants as trials
 use Rattle.my_reading.specs.Calls.{id_in, statement_in, text_in}
 use Rattle.my_reading.specs.Commands.{queried}
-use Rattle.my_reading.specs.Course.{Part, All, Head, Item, Set, Rest, Command, Find, Check, Run, Reply, Keep, Give, Learn, Forget, Offered, Clear, Text, Flag, Adopt, Renew, Drain, Undo, Undone, Refuse, Settle, GiveUp, Try, Back, Step, Goes, Stops, after_err, after_kind, after_payload, checked, closing_of, dropped_at, executed, failure, first_above, found, is_drain, is_greeting, is_rows, offered, reads, refused_at, renewing, returned, step, step_of, undone, unfit, unless_cached, unless_long, unless_owed, unless_refused, with_command, with_front}
+use Rattle.my_reading.specs.Course.{Part, All, Head, Item, Set, Rest, Command, Find, Check, Run, Reply, Keep, Give, Learn, Offered, Text, Flag, Renew, Drain, Undo, Refuse, Back, Step, Goes, Stops, after_err, after_kind, after_payload, checked, closing_of, dropped_at, executed, failure, first_above, found, is_drain, is_greeting, is_rows, offered, reads, refused_at, renewing, returned, step, step_of, undone, unfit, unless_cached, unless_long, unless_owed, unless_refused, with_command, with_front}
 use Rattle.my_reading.specs.Errors.{server_error}
 use Rattle.my_reading.specs.Executions.{Values, Fitting, Unfitting, values_for}
 use Rattle.my_reading.specs.Facts.{prepared_by}
@@ -101,81 +101,19 @@ module _ (p : Place) (paid : owed p ≡ []) where
         by_id false = took (kinds.Prepared m n) i refl _ (record { talk = refl; older = refl; unread = refl; sent = refl; call = refl })
 
     kind_moves : (x : Part) (k : Kind) (row : Told) → payload_kind p.talk payload ≡ k → is_bad k ≡ false → Moved p (place_of (after_kind x parts k (new k) row))
-    kind_moves Head (kinds.Greets n) row i good = took (kinds.Greets n) i good _ (record { talk = refl; older = refl; unread = refl; sent = refl; call = refl })
     kind_moves Head (kinds.Good s) row i good = took (kinds.Good s) i good _ (record { talk = refl; older = refl; unread = refl; sent = refl; call = refl })
-    kind_moves Head kinds.Failed row i good = took kinds.Failed i good _ (record { talk = refl; older = refl; unread = refl; sent = refl; call = refl })
-    kind_moves Head (kinds.Count n) row i good = took (kinds.Count n) i good _ (record { talk = refl; older = refl; unread = refl; sent = refl; call = refl })
-    kind_moves Head kinds.Column row i good = took kinds.Column i good _ (record { talk = refl; older = refl; unread = refl; sent = refl; call = refl })
-    kind_moves Head kinds.ColumnsDone row i good = took kinds.ColumnsDone i good _ (record { talk = refl; older = refl; unread = refl; sent = refl; call = refl })
-    kind_moves Head kinds.Row row i good = took kinds.Row i good _ (record { talk = refl; older = refl; unread = refl; sent = refl; call = refl })
-    kind_moves Head (kinds.End s) row i good = took (kinds.End s) i good _ (record { talk = refl; older = refl; unread = refl; sent = refl; call = refl })
-    kind_moves Head (kinds.Prepared m n) row i good = took (kinds.Prepared m n) i good _ (record { talk = refl; older = refl; unread = refl; sent = refl; call = refl })
-    kind_moves Head kinds.Parameter row i good = took kinds.Parameter i good _ (record { talk = refl; older = refl; unread = refl; sent = refl; call = refl })
-    kind_moves Head kinds.Field row i good = took kinds.Field i good _ (record { talk = refl; older = refl; unread = refl; sent = refl; call = refl })
-    kind_moves Head kinds.Bad row i good = took kinds.Bad i good _ (record { talk = refl; older = refl; unread = refl; sent = refl; call = refl })
-    kind_moves Item (kinds.Greets n) row i good = took (kinds.Greets n) i good _ (record { talk = refl; older = refl; unread = refl; sent = refl; call = refl })
     kind_moves Item (kinds.Good s) row i good = took (kinds.Good s) i good _ (record { talk = refl; older = refl; unread = refl; sent = refl; call = refl })
-    kind_moves Item kinds.Failed row i good = took kinds.Failed i good _ (record { talk = refl; older = refl; unread = refl; sent = refl; call = refl })
-    kind_moves Item (kinds.Count n) row i good = took (kinds.Count n) i good _ (record { talk = refl; older = refl; unread = refl; sent = refl; call = refl })
-    kind_moves Item kinds.Column row i good = took kinds.Column i good _ (record { talk = refl; older = refl; unread = refl; sent = refl; call = refl })
-    kind_moves Item kinds.ColumnsDone row i good = took kinds.ColumnsDone i good _ (record { talk = refl; older = refl; unread = refl; sent = refl; call = refl })
-    kind_moves Item kinds.Row row i good = took kinds.Row i good _ (record { talk = refl; older = refl; unread = refl; sent = refl; call = refl })
     kind_moves Item (kinds.End s) row i good = took (kinds.End s) i good _ (record { talk = refl; older = refl; unread = refl; sent = refl; call = refl })
-    kind_moves Item (kinds.Prepared m n) row i good = took (kinds.Prepared m n) i good _ (record { talk = refl; older = refl; unread = refl; sent = refl; call = refl })
-    kind_moves Item kinds.Parameter row i good = took kinds.Parameter i good _ (record { talk = refl; older = refl; unread = refl; sent = refl; call = refl })
-    kind_moves Item kinds.Field row i good = took kinds.Field i good _ (record { talk = refl; older = refl; unread = refl; sent = refl; call = refl })
-    kind_moves Item kinds.Bad row i good = took kinds.Bad i good _ (record { talk = refl; older = refl; unread = refl; sent = refl; call = refl })
-    kind_moves Set (kinds.Greets n) row i good = took (kinds.Greets n) i good _ (record { talk = refl; older = refl; unread = refl; sent = refl; call = refl })
+    kind_moves Item kinds.Row row i good = took kinds.Row i good _ (record { talk = refl; older = refl; unread = refl; sent = refl; call = refl })
     kind_moves Set (kinds.Good s) row i good = took (kinds.Good s) i good _ (record { talk = refl; older = refl; unread = refl; sent = refl; call = refl })
-    kind_moves Set kinds.Failed row i good = took kinds.Failed i good _ (record { talk = refl; older = refl; unread = refl; sent = refl; call = refl })
-    kind_moves Set (kinds.Count n) row i good = took (kinds.Count n) i good _ (record { talk = refl; older = refl; unread = refl; sent = refl; call = refl })
-    kind_moves Set kinds.Column row i good = took kinds.Column i good _ (record { talk = refl; older = refl; unread = refl; sent = refl; call = refl })
-    kind_moves Set kinds.ColumnsDone row i good = took kinds.ColumnsDone i good _ (record { talk = refl; older = refl; unread = refl; sent = refl; call = refl })
-    kind_moves Set kinds.Row row i good = took kinds.Row i good _ (record { talk = refl; older = refl; unread = refl; sent = refl; call = refl })
-    kind_moves Set (kinds.End s) row i good = took (kinds.End s) i good _ (record { talk = refl; older = refl; unread = refl; sent = refl; call = refl })
-    kind_moves Set (kinds.Prepared m n) row i good = took (kinds.Prepared m n) i good _ (record { talk = refl; older = refl; unread = refl; sent = refl; call = refl })
-    kind_moves Set kinds.Parameter row i good = took kinds.Parameter i good _ (record { talk = refl; older = refl; unread = refl; sent = refl; call = refl })
-    kind_moves Set kinds.Field row i good = took kinds.Field i good _ (record { talk = refl; older = refl; unread = refl; sent = refl; call = refl })
-    kind_moves Set kinds.Bad row i good = took kinds.Bad i good _ (record { talk = refl; older = refl; unread = refl; sent = refl; call = refl })
-    kind_moves All k row i good = took k i good _ (record { talk = refl; older = refl; unread = refl; sent = refl; call = refl })
-    kind_moves Rest k row i good = took k i good _ (record { talk = refl; older = refl; unread = refl; sent = refl; call = refl })
-    kind_moves Command k row i good = took k i good _ (record { talk = refl; older = refl; unread = refl; sent = refl; call = refl })
-    kind_moves Find k row i good = took k i good _ (record { talk = refl; older = refl; unread = refl; sent = refl; call = refl })
-    kind_moves (Check params) k row i good = took k i good _ (record { talk = refl; older = refl; unread = refl; sent = refl; call = refl })
-    kind_moves (Run params) k row i good = took k i good _ (record { talk = refl; older = refl; unread = refl; sent = refl; call = refl })
-    kind_moves Reply k row i good = took k i good _ (record { talk = refl; older = refl; unread = refl; sent = refl; call = refl })
-    kind_moves Keep k row i good = took k i good _ (record { talk = refl; older = refl; unread = refl; sent = refl; call = refl })
-    kind_moves Give k row i good = took k i good _ (record { talk = refl; older = refl; unread = refl; sent = refl; call = refl })
-    kind_moves Learn k row i good = took k i good _ (record { talk = refl; older = refl; unread = refl; sent = refl; call = refl })
-    kind_moves Forget k row i good = took k i good _ (record { talk = refl; older = refl; unread = refl; sent = refl; call = refl })
-    kind_moves Offered k row i good = took k i good _ (record { talk = refl; older = refl; unread = refl; sent = refl; call = refl })
-    kind_moves Clear k row i good = took k i good _ (record { talk = refl; older = refl; unread = refl; sent = refl; call = refl })
-    kind_moves (Text text) k row i good = took k i good _ (record { talk = refl; older = refl; unread = refl; sent = refl; call = refl })
-    kind_moves (Flag flag) k row i good = took k i good _ (record { talk = refl; older = refl; unread = refl; sent = refl; call = refl })
-    kind_moves (Adopt change) k row i good = took k i good _ (record { talk = refl; older = refl; unread = refl; sent = refl; call = refl })
-    kind_moves Renew k row i good = took k i good _ (record { talk = refl; older = refl; unread = refl; sent = refl; call = refl })
-    kind_moves Drain k row i good = took k i good _ (record { talk = refl; older = refl; unread = refl; sent = refl; call = refl })
-    kind_moves Undo k row i good = took k i good _ (record { talk = refl; older = refl; unread = refl; sent = refl; call = refl })
-    kind_moves Undone k row i good = took k i good _ (record { talk = refl; older = refl; unread = refl; sent = refl; call = refl })
-    kind_moves (Refuse opts) k row i good = took k i good _ (record { talk = refl; older = refl; unread = refl; sent = refl; call = refl })
-    kind_moves (Settle status) k row i good = took k i good _ (record { talk = refl; older = refl; unread = refl; sent = refl; call = refl })
-    kind_moves GiveUp k row i good = took k i good _ (record { talk = refl; older = refl; unread = refl; sent = refl; call = refl })
-    kind_moves Try k row i good = took k i good _ (record { talk = refl; older = refl; unread = refl; sent = refl; call = refl })
-    kind_moves Back k row i good = took k i good _ (record { talk = refl; older = refl; unread = refl; sent = refl; call = refl })
+    kind_moves part k row i good = took k i good _ (record { talk = refl; older = refl; unread = refl; sent = refl; call = refl })
 
     payload_moves : (k : Kind) → payload_kind p.talk payload ≡ k → Moved p (place_of (after_payload login part parts p (new k) payload k))
     payload_moves kinds.Bad i = stays
     payload_moves kinds.Failed i = failed_moves i (is_drain part) (err_at (is_greeting (context_of p.talk).spot) payload)
     payload_moves (kinds.Greets n) i = long_moves n i (nat_lt (limit_of p.talk) (length (response login payload))) _
     payload_moves (kinds.Prepared m n) i = cached_moves m n i (prepare_ok_at payload)
-    payload_moves (kinds.Good s) i = kind_moves part (kinds.Good s) _ i refl
-    payload_moves (kinds.Count n) i = kind_moves part (kinds.Count n) _ i refl
-    payload_moves kinds.Column i = kind_moves part kinds.Column _ i refl
-    payload_moves kinds.ColumnsDone i = kind_moves part kinds.ColumnsDone _ i refl
-    payload_moves kinds.Row i = kind_moves part kinds.Row _ i refl
-    payload_moves (kinds.End s) i = kind_moves part (kinds.End s) _ i refl
-    payload_moves kinds.Parameter i = kind_moves part kinds.Parameter _ i refl
-    payload_moves kinds.Field i = kind_moves part kinds.Field _ i refl
+    payload_moves k i = kind_moves part k _ i refl
 
   module _ (login : Login) (part : Part) (parts : List Part) where
     front_moves : (f : Front) → front_of p.talk p.unread ≡ f → Moved p (place_of (with_front login part parts p f))
@@ -262,21 +200,15 @@ module _ (p : Place) (paid : owed p ≡ []) where
       kept_moves login c parts (with_prepared (query_of (text_in c)) (prepared_by f) f.reply.fields p.statements) (terms_of login (exchanges p)) (leaving (query_of (text_in c)) (prepared_by f) p.statements)
   part_moves login c (Give ∷ parts) = stays
   part_moves login c (Learn ∷ parts) = learned_moves login c parts (is_rows (context_of p.talk).spot) (with_columns (id_in c) (facts_at login p).columns p.statements)
-  part_moves login c (Forget ∷ parts) = Alters _ (record { talk = refl; older = refl; unread = refl; sent = refl; call = refl })
   part_moves login c (Offered ∷ parts) = offered_moves login c parts (can_reset (version_of (facts_at login p).version))
-  part_moves login c (Clear ∷ parts) = Alters _ (record { talk = refl; older = refl; unread = refl; sent = refl; call = refl })
   part_moves login c (Text text ∷ parts) = one_moves c parts (queried (terms_of login (exchanges p)) text) (queried_new (terms_of login (exchanges p)) text)
   part_moves login c (Flag flag ∷ parts) = stays
-  part_moves login c (Adopt change ∷ parts) = Alters _ (record { talk = refl; older = refl; unread = refl; sent = refl; call = refl })
   part_moves login c (Renew ∷ parts) = one_moves c parts (renewing login c p (facts_at login p)) (record { fits = record { kinds = tt; within = tt }; silent = refl; origin_is = refl })
   part_moves login c (Drain ∷ parts) = if_moves login c parts p.end_left _ _ (Alters (without_end p) (record { talk = refl; older = refl; unread = refl; sent = refl; call = refl })) (if_moves login c parts (is_over p.talk) _ _ stays (reads_move login Drain parts))
   part_moves login c (Undo ∷ parts) = undone_moves login c parts (is_given_up p.status)
-  part_moves login c (Undone ∷ parts) = Alters _ (record { talk = refl; older = refl; unread = refl; sent = refl; call = refl })
   part_moves login c (Refuse opts ∷ parts) = unless_moves login c parts (begin_refusal opts (version_of (facts_at login p).version) p.status)
-  part_moves login c (Settle status ∷ parts) = Alters _ (record { talk = refl; older = refl; unread = refl; sent = refl; call = refl })
-  part_moves login c (GiveUp ∷ parts) = Alters _ (record { talk = refl; older = refl; unread = refl; sent = refl; call = refl })
-  part_moves login c (Try ∷ parts) = Alters _ (record { talk = refl; older = refl; unread = refl; sent = refl; call = refl })
   part_moves login c (Back ∷ parts) = if_moves login c parts (is_over p.talk) _ _ (returned_moves login c parts p.trial) (reads_move login Back parts)
+  part_moves login c (part ∷ parts) = Alters _ (record { talk = refl; older = refl; unread = refl; sent = refl; call = refl })
 
 pub step_moves : (p : Place) (login : Login) (c : Call) (parts : List Part) → Moved p (place_of (step login c parts p))
 unfolding step

@@ -1,5 +1,6 @@
 -- The exchange that each call begins, by its kind, and what holds of an exchange that begins.
 use Rattle.std.proofs.Common.{◌≡◌, ℕ, suc, zero, List, [], Bool, true, false, Option, Some, None, slice_get, refl, subst}
+use Rattle.my_command.specs.declared.client.ClientPacket.{ClientPacket}
 use Rattle.my_command.specs.declared.client.ClientPacket.TheVariants as packets
 use Rattle.my_command.specs.Client.Packet.{client_bytes as packet_bytes}
 use Rattle.my_grammar.proofs.Commands.{commands_silent}
@@ -11,9 +12,9 @@ use Rattle.my_grammar.specs.Talk.{Talk, Start, Asked, Queried, Preparing, Silent
 use Rattle.my_params.specs.LongData.{ahead_of}
 use Rattle.my_params.specs.Parameters.{body_of}
 use Rattle.my_reading.specs.declared.call.Call.{Call}
-use Rattle.my_reading.specs.declared.call.Call.TheVariants.{Connect, Query, Prepare, Execute, CloseStmt, Ping, Reset, Quit}
+use Rattle.my_reading.specs.declared.call.Call.TheVariants.{Connect, Query, Prepare, Execute, CloseStmt, Quit}
 use Rattle.my_reading.specs.Calls.{is_connect, kind_of}
-use Rattle.my_reading.specs.Commands.{arranging, arranging_texts, closing, execution, opening, queried}
+use Rattle.my_reading.specs.Commands.{arranging, arranging_texts, closing, execution, opening, queried, simple, simple_packet}
 use Rattle.my_reading.specs.Course.{closing_of}
 use Rattle.my_reading.specs.Executions.{Values, Fitting, Unfitting, values_for}
 use Rattle.my_reading.specs.Statements.{Statements, known_in, query_of}
@@ -41,7 +42,11 @@ executed connects terms st id (Fitting values) t e =
     some_opened connects terms (Queried terms (body_of id values) (NoSets asking)) t (Runs (body_of id values) asking) e
 executed connects terms st id (Unfitting x) t e = cc
 
--- Each call for which `opening` has an exchange has a line. For all others it has none.
+simply_opened : (connects : Bool) (terms : Terms) (x : Option ClientPacket) (t : Talk) → simple terms x ≡ Some t → Opened connects terms t
+simply_opened connects terms None t e = cc
+simply_opened connects terms (Some packet) t e = some_opened connects terms _ t (Asks (packet_bytes packet)) e
+
+-- Each call has a line that sends another command than one that an OK or ERR answers.
 pub opened : (login : Login) (terms : Terms) (st : Statements) (c : Call) (n : ℕ) (t : Talk) → opening login terms st c n ≡ Some t → Opened (is_connect (kind_of c)) terms t
 opened login terms st Connect zero t e = some_opened true terms _ t (Starts login refl) e
 opened login terms st Connect (suc n) t e = arranged true terms (slice_get (arranging_texts login) n) t e
@@ -49,10 +54,8 @@ opened login terms st (Query text) n t e = some_opened false terms _ t (Queries 
 opened login terms st (Prepare text) n t e = some_opened false terms _ t (Prepares (packet_bytes (packets.Prepare (query_of text)))) e
 opened login terms st (Execute statement params) n t e = executed false terms st statement.inner.id (values_for statement params) t e
 opened login terms st (CloseStmt id) n t e = some_opened false terms _ t (Tells (packet_bytes (packets.CloseStatement id))) e
-opened login terms st Ping n t e = some_opened false terms _ t (Asks (packet_bytes packets.Ping)) e
-opened login terms st Reset n t e = some_opened false terms _ t (Asks (packet_bytes packets.ResetConnection)) e
 opened login terms st Quit n t e = some_opened false terms _ t (Tells (packet_bytes packets.Quit)) e
-opened login terms st c n t e = cc
+opened login terms st c n t e = simply_opened false terms (simple_packet c) t e
 
 -- an exchange that begins: nothing was received of it
 pub record IsNew (t : Talk) : Type 0 where
@@ -71,12 +74,9 @@ closing_new terms None t e = cc
 closing_new terms (Some id) t e = some_new (closing terms id) t (record { fits = record { kinds = tt; within = tt }; silent = refl; origin_is = refl }) e
 
 begun_new : (connects : Bool) (terms : Terms) (t : Talk) → Opened connects terms t → IsNew t
-begun_new connects terms t (Starts login e) = record { fits = record { kinds = tt; within = tt }; silent = refl; origin_is = refl }
 begun_new connects terms t (Queries text) = queried_new terms text
-begun_new connects terms t (Prepares command) = record { fits = record { kinds = tt; within = tt }; silent = refl; origin_is = refl }
-begun_new connects terms t (Asks command) = record { fits = record { kinds = tt; within = tt }; silent = refl; origin_is = refl }
-begun_new connects terms t (Tells command) = record { fits = record { kinds = tt; within = tt }; silent = refl; origin_is = refl }
 begun_new connects terms t (Runs command asking) = record { fits = record { kinds = tt; within = tt }; silent = commands_silent command asking; origin_is = refl }
+begun_new connects terms t _ = record { fits = record { kinds = tt; within = tt }; silent = refl; origin_is = refl }
 
 pub opened_new : (login : Login) (terms : Terms) (st : Statements) (c : Call) (n : ℕ) (t : Talk) → opening login terms st c n ≡ Some t → IsNew t
 opened_new login terms st c n t e = begun_new (is_connect (kind_of c)) terms t (opened login terms st c n t e)

@@ -76,46 +76,18 @@ module _ (login : Login) (p : Place) (w : IsOrderly p) where
   whole part parts tells e other = reads_have IsFine p (λ _. w) login part parts tells w (λ k quiet q rest c. stays part parts e k q rest c) other errs
 
   head_kind : (parts : List Part) → is_orderly false parts ≡ true → (k : Kind) (q rest : List ℕ) → Comes p k q → IsFine (after_kind Head parts k (with_talk p (grow k p.talk q) rest) (row_at login p q))
-  head_kind parts e (kinds.Greets n) q rest c = stays Head parts e (kinds.Greets n) q rest c
   head_kind parts e (kinds.Good s) q rest c = loose parts (with_end (with_talk p (grow (kinds.Good s) p.talk q) rest)) e (same (with_talk p (grow (kinds.Good s) p.talk q) rest) _ refl refl (grown p (kinds.Good s) q rest c w))
-  head_kind parts e kinds.Failed q rest c = stays Head parts e kinds.Failed q rest c
-  head_kind parts e (kinds.Count n) q rest c = stays Head parts e (kinds.Count n) q rest c
-  head_kind parts e kinds.Column q rest c = stays Head parts e kinds.Column q rest c
-  head_kind parts e kinds.ColumnsDone q rest c = stays Head parts e kinds.ColumnsDone q rest c
-  head_kind parts e kinds.Row q rest c = stays Head parts e kinds.Row q rest c
-  head_kind parts e (kinds.End s) q rest c = stays Head parts e (kinds.End s) q rest c
-  head_kind parts e (kinds.Prepared m n) q rest c = stays Head parts e (kinds.Prepared m n) q rest c
-  head_kind parts e kinds.Parameter q rest c = stays Head parts e kinds.Parameter q rest c
-  head_kind parts e kinds.Field q rest c = stays Head parts e kinds.Field q rest c
-  head_kind parts e kinds.Bad q rest c = stays Head parts e kinds.Bad q rest c
+  head_kind parts e k q rest c = stays Head parts e k q rest c
 
   item_kind : (parts : List Part) → is_orderly false parts ≡ true → (k : Kind) (q rest : List ℕ) → Comes p k q → IsFine (after_kind Item parts k (with_talk p (grow k p.talk q) rest) (row_at login p q))
-  item_kind parts e (kinds.Greets n) q rest c = stays Item parts e (kinds.Greets n) q rest c
   item_kind parts e (kinds.Good s) q rest c = grown p (kinds.Good s) q rest c w
-  item_kind parts e kinds.Failed q rest c = stays Item parts e kinds.Failed q rest c
-  item_kind parts e (kinds.Count n) q rest c = stays Item parts e (kinds.Count n) q rest c
-  item_kind parts e kinds.Column q rest c = stays Item parts e kinds.Column q rest c
-  item_kind parts e kinds.ColumnsDone q rest c = stays Item parts e kinds.ColumnsDone q rest c
   item_kind parts e kinds.Row q rest c = grown p kinds.Row q rest c w
   item_kind parts e (kinds.End s) q rest c = grown p (kinds.End s) q rest c w
-  item_kind parts e (kinds.Prepared m n) q rest c = stays Item parts e (kinds.Prepared m n) q rest c
-  item_kind parts e kinds.Parameter q rest c = stays Item parts e kinds.Parameter q rest c
-  item_kind parts e kinds.Field q rest c = stays Item parts e kinds.Field q rest c
-  item_kind parts e kinds.Bad q rest c = stays Item parts e kinds.Bad q rest c
+  item_kind parts e k q rest c = stays Item parts e k q rest c
 
   set_kind : (parts : List Part) → is_orderly false parts ≡ true → (k : Kind) (q rest : List ℕ) → Comes p k q → IsFine (after_kind Set parts k (with_talk p (grow k p.talk q) rest) (row_at login p q))
-  set_kind parts e (kinds.Greets n) q rest c = stays Set parts e (kinds.Greets n) q rest c
   set_kind parts e (kinds.Good s) q rest c = same (with_talk p (grow (kinds.Good s) p.talk q) rest) _ refl refl (grown p (kinds.Good s) q rest c w)
-  set_kind parts e kinds.Failed q rest c = stays Set parts e kinds.Failed q rest c
-  set_kind parts e (kinds.Count n) q rest c = stays Set parts e (kinds.Count n) q rest c
-  set_kind parts e kinds.Column q rest c = stays Set parts e kinds.Column q rest c
-  set_kind parts e kinds.ColumnsDone q rest c = stays Set parts e kinds.ColumnsDone q rest c
-  set_kind parts e kinds.Row q rest c = stays Set parts e kinds.Row q rest c
-  set_kind parts e (kinds.End s) q rest c = stays Set parts e (kinds.End s) q rest c
-  set_kind parts e (kinds.Prepared m n) q rest c = stays Set parts e (kinds.Prepared m n) q rest c
-  set_kind parts e kinds.Parameter q rest c = stays Set parts e kinds.Parameter q rest c
-  set_kind parts e kinds.Field q rest c = stays Set parts e kinds.Field q rest c
-  set_kind parts e kinds.Bad q rest c = stays Set parts e kinds.Bad q rest c
+  set_kind parts e k q rest c = stays Set parts e k q rest c
 
   command : (call : Call) (parts : List Part) (o : Option Talk) → ((t : Talk) → o ≡ Some t → Fits t) → is_over p.talk ≡ true → is_orderly false parts ≡ true → IsFine (with_command call parts p o)
   command call parts o f over e = command_has IsFine p (λ _. w) call parts o (loose parts p e w) (λ t i. loose parts (with_exchange p call t) e (begun p call t (f t i) over w))

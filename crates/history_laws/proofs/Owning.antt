@@ -22,7 +22,7 @@ use Rattle.my_reading.specs.declared.transaction.Trial.TheVariants as trials
 use Rattle.my_reading.specs.declared.transaction.TxStatus.{TxStatus}
 use Rattle.my_reading.specs.Calls.{asks, id_in, is_connect, kind_of, lists_in, statement_in, text_in}
 use Rattle.my_reading.specs.Commands.{arranging_texts, closing, execution, opening, queried, renewal, renews_by_reset}
-use Rattle.my_reading.specs.Course.{Part, All, Head, Item, Set, Rest, Command, Find, Check, Run, Reply, Keep, Give, Learn, Forget, Offered, Clear, Text, Flag, Adopt, Renew, Drain, Undo, Undone, Refuse, Settle, GiveUp, Try, Back, Step, Goes, Stops, Stop, Owes, Awaits, Returns, after_kind, checked, closing_of, executed, found, is_drain, is_rows, offered, reads, refused_at, renewing, returned, run, step, step_of, undone, unless_owed, unless_refused, with_command}
+use Rattle.my_reading.specs.Course.{Part, All, Head, Item, Set, Rest, Command, Find, Check, Run, Reply, Keep, Give, Learn, Offered, Text, Flag, Renew, Drain, Undo, Undone, Refuse, Settle, GiveUp, Try, Back, Step, Goes, Stops, Stop, Owes, Awaits, Returns, after_kind, checked, closing_of, executed, found, is_drain, is_rows, offered, reads, refused_at, renewing, returned, run, step, step_of, undone, unless_owed, unless_refused, with_command}
 use Rattle.my_reading.specs.Errors.{server_error}
 use Rattle.my_reading.specs.Executions.{Values, Fitting, Unfitting, values_for}
 use Rattle.my_reading.specs.Facts.{facts_by, prepared_by}
@@ -50,34 +50,21 @@ use Rattle.history_laws.proofs.Shaping.{IsShook, executed_shook, opened_shook, s
 -- what begins an exchange is the call's, and a call that needs one has begun one where it returns.
 abbrev pub Leads : Login → Call → Bool → TxStatus → List Part → Type 0
 Leads login c own st [] = (own || not (needs_own c)) ≡ true
-Leads login c own st (All ∷ parts) = Leads login c own st parts
-Leads login c own st (Head ∷ parts) = Leads login c own st parts
-Leads login c own st (Item ∷ parts) = Leads login c own st parts
 Leads login c own st (Set ∷ parts) = ((own || not (needs_own c)) ≡ true) × Leads login c own st parts
-Leads login c own st (Rest ∷ parts) = Leads login c own st parts
 Leads login c own st (Command ∷ parts) = (asks (kind_of c) ≡ true) × ((terms : Terms) (known : Statements) (n : ℕ) → is_some (opening login terms known c n) ≡ true) × Leads login c true st parts
-Leads login c own st (Find ∷ parts) = Leads login c own st parts
 Leads login c own st (Check params ∷ parts) = (values : List Value) → values_for (statement_in c) params ≡ Fitting values → Leads login c own st parts
 Leads login c own st (Run params ∷ parts) = (kind_of c ≡ callkinds.Batch) × ((place : ℕ) × (slice_get (lists_in c) place ≡ Some params)) × ((values : List Value) × (values_for (statement_in c) params ≡ Fitting values)) × Leads login c true st parts
-Leads login c own st (Reply ∷ parts) = Leads login c own st parts
 Leads login c own st (Keep ∷ parts) = (calls.Prepare (text_in c) ≡ c) × Leads login c own st parts
-Leads login c own st (Give ∷ parts) = Leads login c own st parts
-Leads login c own st (Learn ∷ parts) = Leads login c own st parts
-Leads login c own st (Forget ∷ parts) = Leads login c own st parts
-Leads login c own st (Offered ∷ parts) = Leads login c own st parts
-Leads login c own st (Clear ∷ parts) = Leads login c own st parts
 Leads login c own st (Text text ∷ parts) = (asks (kind_of c) ≡ true) × ((place : ℕ) × (slice_get (queries_of login c) place ≡ Some text)) × Leads login c true st parts
 Leads login c own st (Flag flag ∷ parts) = ((own || not flag) ≡ true) × Leads login c own st parts
-Leads login c own st (Adopt change ∷ parts) = Leads login c own st parts
 Leads login c own st (Renew ∷ parts) = (asks (kind_of c) ≡ true) × (renews (kind_of c) ≡ true) × Leads login c true st parts
-Leads login c own st (Drain ∷ parts) = Leads login c own st parts
 Leads login c own st (Undo ∷ parts) = (asks (kind_of c) ≡ true) × Leads login c (is_given_up st || own) st parts
 Leads login c own st (Undone ∷ parts) = Leads login c own (rolled_back st) parts
-Leads login c own st (Refuse opts ∷ parts) = Leads login c own st parts
 Leads login c own st (Settle status ∷ parts) = Leads login c own status parts
 Leads login c own st (GiveUp ∷ parts) = Leads login c own (given_up st) parts
 Leads login c own st (Try ∷ parts) = (asks (kind_of c) ≡ true) × Leads login c own st parts
 Leads login c own st (Back ∷ parts) = own ≡ true
+Leads login c own st (part ∷ parts) = Leads login c own st parts
 
 -- the newest exchange is the call's own, before those of calls that ended
 abbrev pub Owned : Call → List Made → Call → List Exchange → Type 0
@@ -191,46 +178,18 @@ module _ (login : Login) (c : Call) (ms : List Made) (other : is_connect (kind_o
     whole part parts tells l other_kind = reads_have (IsFine login c ms) p (λ e. (own, w, or_true own, paid)) login part parts tells waits (λ k quiet q rest come. after (part ∷ parts) k q rest come l) other_kind errs
 
     head_kind : (parts : List Part) → Leads login c own p.status parts → (k : Kind) (q rest : List ℕ) → Comes p k q → Fine (after_kind Head parts k (with_talk p (grow k p.talk q) rest) (row_at login p q))
-    head_kind parts l (kinds.Greets n) q rest come = after (Head ∷ parts) (kinds.Greets n) q rest come l
     head_kind parts l (kinds.Good s) q rest come = after parts (kinds.Good s) q rest come l
-    head_kind parts l kinds.Failed q rest come = after (Head ∷ parts) kinds.Failed q rest come l
-    head_kind parts l (kinds.Count n) q rest come = after (Head ∷ parts) (kinds.Count n) q rest come l
-    head_kind parts l kinds.Column q rest come = after (Head ∷ parts) kinds.Column q rest come l
-    head_kind parts l kinds.ColumnsDone q rest come = after (Head ∷ parts) kinds.ColumnsDone q rest come l
-    head_kind parts l kinds.Row q rest come = after (Head ∷ parts) kinds.Row q rest come l
-    head_kind parts l (kinds.End s) q rest come = after (Head ∷ parts) (kinds.End s) q rest come l
-    head_kind parts l (kinds.Prepared m n) q rest come = after (Head ∷ parts) (kinds.Prepared m n) q rest come l
-    head_kind parts l kinds.Parameter q rest come = after (Head ∷ parts) kinds.Parameter q rest come l
-    head_kind parts l kinds.Field q rest come = after (Head ∷ parts) kinds.Field q rest come l
-    head_kind parts l kinds.Bad q rest come = after (Head ∷ parts) kinds.Bad q rest come l
+    head_kind parts l k q rest come = after (Head ∷ parts) k q rest come l
 
     item_kind : (parts : List Part) → Leads login c own p.status parts → (k : Kind) (q rest : List ℕ) → Comes p k q → Fine (after_kind Item parts k (with_talk p (grow k p.talk q) rest) (row_at login p q))
-    item_kind parts l (kinds.Greets n) q rest come = after (Item ∷ parts) (kinds.Greets n) q rest come l
     item_kind parts l (kinds.Good s) q rest come = gives (kinds.Good s) q rest come ToldEnd (or_true own)
-    item_kind parts l kinds.Failed q rest come = after (Item ∷ parts) kinds.Failed q rest come l
-    item_kind parts l (kinds.Count n) q rest come = after (Item ∷ parts) (kinds.Count n) q rest come l
-    item_kind parts l kinds.Column q rest come = after (Item ∷ parts) kinds.Column q rest come l
-    item_kind parts l kinds.ColumnsDone q rest come = after (Item ∷ parts) kinds.ColumnsDone q rest come l
     item_kind parts l kinds.Row q rest come = gives kinds.Row q rest come (row_at login p q) (or_true own)
     item_kind parts l (kinds.End s) q rest come = gives (kinds.End s) q rest come ToldEnd (or_true own)
-    item_kind parts l (kinds.Prepared m n) q rest come = after (Item ∷ parts) (kinds.Prepared m n) q rest come l
-    item_kind parts l kinds.Parameter q rest come = after (Item ∷ parts) kinds.Parameter q rest come l
-    item_kind parts l kinds.Field q rest come = after (Item ∷ parts) kinds.Field q rest come l
-    item_kind parts l kinds.Bad q rest come = after (Item ∷ parts) kinds.Bad q rest come l
+    item_kind parts l k q rest come = after (Item ∷ parts) k q rest come l
 
     set_kind : (parts : List Part) → Leads login c own p.status (Set ∷ parts) → (k : Kind) (q rest : List ℕ) → Comes p k q → Fine (after_kind Set parts k (with_talk p (grow k p.talk q) rest) (row_at login p q))
-    set_kind parts l (kinds.Greets n) q rest come = after (Set ∷ parts) (kinds.Greets n) q rest come l
     set_kind parts l (kinds.Good s) q rest come = gives (kinds.Good s) q rest come ToldReady l.0
-    set_kind parts l kinds.Failed q rest come = after (Set ∷ parts) kinds.Failed q rest come l
-    set_kind parts l (kinds.Count n) q rest come = after (Set ∷ parts) (kinds.Count n) q rest come l
-    set_kind parts l kinds.Column q rest come = after (Set ∷ parts) kinds.Column q rest come l
-    set_kind parts l kinds.ColumnsDone q rest come = after (Set ∷ parts) kinds.ColumnsDone q rest come l
-    set_kind parts l kinds.Row q rest come = after (Set ∷ parts) kinds.Row q rest come l
-    set_kind parts l (kinds.End s) q rest come = after (Set ∷ parts) (kinds.End s) q rest come l
-    set_kind parts l (kinds.Prepared m n) q rest come = after (Set ∷ parts) (kinds.Prepared m n) q rest come l
-    set_kind parts l kinds.Parameter q rest come = after (Set ∷ parts) kinds.Parameter q rest come l
-    set_kind parts l kinds.Field q rest come = after (Set ∷ parts) kinds.Field q rest come l
-    set_kind parts l kinds.Bad q rest come = after (Set ∷ parts) kinds.Bad q rest come l
+    set_kind parts l k q rest come = after (Set ∷ parts) k q rest come l
 
     -- the call goes on, with the exchanges as they are
     on : (parts : List Part) → Leads login c own p.status parts → Fine (Goes parts p)
@@ -338,16 +297,12 @@ module _ (login : Login) (c : Call) (ms : List Made) (other : is_connect (kind_o
         subst (λ (d : Call). Fine (with_command d parts (with_statements st p) (closing_of terms x))) (sym l.0) (keeps parts st terms x refl l.0 l.1)
     part_fine (Give ∷ parts) l = (own, w, or_true own, paid)
     part_fine (Learn ∷ parts) l = learns parts (is_rows (context_of p.talk).spot) (with_columns (id_in c) (facts_at login p).columns p.statements) l
-    part_fine (Forget ∷ parts) l = (own, w, l, calm)
     part_fine (Offered ∷ parts) l = offers parts (can_reset (version_of (facts_at login p).version)) l
-    part_fine (Clear ∷ parts) l = (own, w, l, calm)
     part_fine (Flag flag ∷ parts) l = (own, w, l.0, paid)
-    part_fine (Adopt change ∷ parts) l = (own, w, l, calm)
-    part_fine (Undone ∷ parts) l = (own, w, l, calm)
     part_fine (Refuse opts ∷ parts) l = refuses parts (begin_refusal opts (version_of (facts_at login p).version) p.status) l
     part_fine (Settle status ∷ parts) l = (own, w, l, (refl, calm.1))
-    part_fine (GiveUp ∷ parts) l = (own, w, l, calm)
     part_fine (Try ∷ parts) l = (own, w, l.1, (l.0, calm.1))
+    part_fine _ l = (own, w, l, calm)
 
   step_fine : (parts : List Part) (p : Place) → IsFine login c ms (Goes parts p) → IsFine login c ms (step login c parts p)
   unfolding step

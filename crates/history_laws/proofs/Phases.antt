@@ -122,14 +122,10 @@ abbrev pub is_safe : Call → Bool → Bool → List Part → Bool
 is_safe c kept trying [] = may_return kept trying && not (is_query c)
 is_safe c kept trying (All ∷ parts) = is_safe c true trying parts
 is_safe c kept trying (Head ∷ parts) = is_safe c false trying parts
-is_safe c kept trying (Item ∷ parts) = false
-is_safe c kept trying (Set ∷ parts) = false
-is_safe c kept trying (Rest ∷ parts) = false
 is_safe c kept trying (Command ∷ parts) = after_command c parts trying (is_safe c true trying parts) (is_safe c false trying parts)
 is_safe c kept trying (Find ∷ parts) = may_return kept trying && is_safe c kept trying parts
 is_safe c kept trying (Check params ∷ parts) = may_return kept trying && (not (is_fitting (values_for (statement_in c) params)) || is_safe c kept trying parts)
 is_safe c kept trying (Run params ∷ parts) = is_safe c false trying parts
-is_safe c kept trying (Reply ∷ parts) = false
 is_safe c kept trying (Keep ∷ parts) = kept && is_safe c true trying parts
 is_safe c kept trying (Give ∷ parts) = may_return kept trying
 is_safe c kept trying (Learn ∷ parts) = is_safe c kept trying parts
@@ -147,7 +143,7 @@ is_safe c kept trying (Refuse opts ∷ parts) = may_return kept trying && is_saf
 is_safe c kept trying (Settle status ∷ parts) = is_safe c kept false parts
 is_safe c kept trying (GiveUp ∷ parts) = is_safe c kept trying parts
 is_safe c kept trying (Try ∷ parts) = is_safe c kept true parts
-is_safe c kept trying (Back ∷ parts) = false
+is_safe c kept trying (part ∷ parts) = false
 
 -- the part by which a call passes over rows and ends
 pub data IsPassing : Call → Part → Type 0 where

@@ -112,13 +112,7 @@ module _ (f : Facts) (asked : f.settings.stage ≡ Asked) where
       ap (λ (h : Facts). h.settings) (each_after kinds.Row rows (head_packets head []) f)
       ∙ rows_told g rows (ap (λ (s : Settings). s.stage) same ∙ asked)
       ∙ ap (told_by (last_row g.columns rows)) same
-  rows_said (Lone o p s) head rows place w = later_said (Lone o p s) head rows refl place w
-  rows_said (Failed o p) head rows place w = later_said (Failed o p) head rows refl place w
-  rows_said (Heading o h left) head rows place w = later_said (Heading o h left) head rows refl place w
-  rows_said (Headed o h) head rows place w = later_said (Headed o h) head rows refl place w
-  rows_said (Begun o h ps) head rows place w = later_said (Begun o h ps) head rows refl place w
-  rows_said (Ended o h ps last s) head rows place w = later_said (Ended o h ps last s) head rows refl place w
-  rows_said (Broken o h ps last) head rows place w = later_said (Broken o h ps last) head rows refl place w
+  rows_said sets head rows place w = later_said sets head rows refl place w
 
   -- an OK without rows
   later_lone : (older : Sets) (p : List ℕ) (status : StatusFlags) → is_none older ≡ false → is_head (spot_in older) ≡ true → Says f older → Says f (Lone older p status)
@@ -137,12 +131,7 @@ module _ (f : Facts) (asked : f.settings.stage ≡ Asked) where
     all = λ h n. ap (λ (s : Settings). is_known s.stage) (good_asked f.settings.stage f.settings asked);
   }
   lone_said (Lone o q s) p status place w = later_lone (Lone o q s) p status refl place w
-  lone_said (Failed o q) p status place w = later_lone (Failed o q) p status refl place w
-  lone_said (Heading o h left) p status place w = later_lone (Heading o h left) p status refl place w
-  lone_said (Headed o h) p status place w = later_lone (Headed o h) p status refl place w
-  lone_said (Begun o h ps) p status place w = later_lone (Begun o h ps) p status refl place w
-  lone_said (Ended o h ps z s) p status place w = later_lone (Ended o h ps z s) p status refl place w
-  lone_said (Broken o h ps z) p status place w = later_lone (Broken o h ps z) p status refl place w
+  lone_said sets p status place w = later_lone sets p status refl place w
 
   -- the end of a set
   later_ended : (older : Sets) (head : SetHead) (rows : List (List ℕ)) (last : List ℕ) (status : StatusFlags) → is_none older ≡ false → is_head (spot_in older) ≡ true → Says f older → Says f (Ended older head rows last status)
@@ -163,13 +152,7 @@ module _ (f : Facts) (asked : f.settings.stage ≡ Asked) where
       let r : h ≡ told_by (last_row (columns_after f head) rows) f.settings = rows_said (NoSets asking) head rows place w in
       let stage : h.stage ≡ Asked = ap (λ (s : Settings). s.stage) r ∙ told_stage (last_row (columns_after f head) rows) f.settings ∙ asked in
       record { is = end_asked h.stage h stage ∙ ap in_force r; all = λ x n. ap (λ (s : Settings). is_known s.stage) (end_asked h.stage h stage) }
-  ended_said (Lone o q s) head rows last status place w = later_ended (Lone o q s) head rows last status refl place w
-  ended_said (Failed o q) head rows last status place w = later_ended (Failed o q) head rows last status refl place w
-  ended_said (Heading o h left) head rows last status place w = later_ended (Heading o h left) head rows last status refl place w
-  ended_said (Headed o h) head rows last status place w = later_ended (Headed o h) head rows last status refl place w
-  ended_said (Begun o h ps) head rows last status place w = later_ended (Begun o h ps) head rows last status refl place w
-  ended_said (Ended o h ps z s) head rows last status place w = later_ended (Ended o h ps z s) head rows last status refl place w
-  ended_said (Broken o h ps z) head rows last status place w = later_ended (Broken o h ps z) head rows last status refl place w
+  ended_said sets head rows last status place w = later_ended sets head rows last status refl place w
 
   said : (d : Bool) (x : Sets) → FitSets d x → Says f x
   said d (NoSets asking) fit = record { is = refl; all = λ h n. absurd (cc) }

@@ -12,7 +12,7 @@ use Rattle.my_grammar.specs.declared.spot.Kind.TheVariants as kinds
 use Rattle.my_grammar.specs.Growth.{grow}
 use Rattle.my_grammar.specs.Prepares.{grow_reply, packets_in_reply}
 use Rattle.my_grammar.specs.Sets.{Asking, ByText, asking_in, grow_sets, packets_in}
-use Rattle.my_grammar.specs.Talk.{Talk, Start, Unwelcome, Greeted, Settled, Asked, Replied, Queried, Preparing, Silent, Turn, Client, Fits, client_bytes, commands_by, context_of, limit_of, number_of, origin, packets_of, served, turns}
+use Rattle.my_grammar.specs.Talk.{Talk, Start, Queried, Preparing, Turn, Client, Fits, client_bytes, commands_by, context_of, limit_of, number_of, origin, packets_of, served, turns}
 use Rattle.my_reading.specs.Course.{is_greeting}
 use Rattle.my_reading.specs.Endings.{AreCalls, IsTape}
 use Rattle.my_reading.specs.Place.{Place, begins_with, client_side, exchanges, first_place, owed, with_bytes, with_exchange, with_talk}
@@ -63,31 +63,16 @@ asked_in _ = ByText
 
 start_kept : (login : Login) (k : Kind) (q : List ℕ) → (is_answered (grow k (Start login) q) || false) ≡ true → client_bytes (turns (grow k (Start login) q)) ≡ []
 start_kept login (kinds.Greets n) q e = absurd (cc)
-start_kept login (kinds.Good s) q e = refl
-start_kept login kinds.Failed q e = refl
-start_kept login (kinds.Count n) q e = refl
-start_kept login kinds.Column q e = refl
-start_kept login kinds.ColumnsDone q e = refl
-start_kept login kinds.Row q e = refl
-start_kept login (kinds.End s) q e = refl
-start_kept login (kinds.Prepared m n) q e = refl
-start_kept login kinds.Parameter q e = refl
-start_kept login kinds.Field q e = refl
-start_kept login kinds.Bad q e = refl
+start_kept login _ q e = refl
 
 client_kept : (t : Talk) (k : Kind) (q : List ℕ) → origin (grow k t q) ≡ origin t → (is_answered (grow k t q) || not (is_greeting (context_of t).spot)) ≡ true → client_bytes (turns (grow k t q)) ≡ client_bytes (turns t)
 client_kept (Start login) k q o e = start_kept login k q e
-client_kept (Unwelcome login p) k q o e = refl
-client_kept (Greeted login p n) k q o e = refl
-client_kept (Settled login p n last kind) k q o e = refl
-client_kept (Asked terms c) k q o e = refl
-client_kept (Replied terms c last kind) k q o e = refl
 client_kept (Queried terms c x) k q o e =
     let y = grow_sets (deprecates_eof terms.kept) k x q in
     served_client (packets_in y) (commands_by c (asking_in y)) ∙ ap (λ a. client_bytes (commands_by c a)) (ap asked_in o) ∙ sym (served_client (packets_in x) (commands_by c (asking_in x)))
 client_kept (Preparing terms c r) k q o e =
     served_client (packets_in_reply (grow_reply (deprecates_eof terms.kept) k r q)) (Client c ∷ []) ∙ sym (served_client (packets_in_reply r) (Client c ∷ []))
-client_kept (Silent terms c) k q o e = refl
+client_kept _ k q o e = refl
 
 pub grown_paid : (p : Place) (k : Kind) (q rest : List ℕ) → origin (grow k p.talk q) ≡ origin p.talk → (is_answered (grow k p.talk q) || not (is_greeting (context_of p.talk).spot)) ≡ true → owed p ≡ [] → owed (with_talk p (grow k p.talk q) rest) ≡ []
 grown_paid p k q rest o e paid = ap (λ bs. drop (length p.sent) (client_side p.older ++ bs)) (client_kept p.talk k q o e) ∙ paid
@@ -95,14 +80,7 @@ grown_paid p k q rest o e paid = ap (λ bs. drop (length p.sent) (client_side p.
 -- nothing is answered where an exchange begins
 packets_none : (t : Talk) → packets_of (origin t) ≡ []
 packets_none (Start login) = refl
-packets_none (Unwelcome login p) = refl
-packets_none (Greeted login p n) = refl
-packets_none (Settled login p n last kind) = refl
-packets_none (Asked terms c) = refl
-packets_none (Replied terms c last kind) = refl
-packets_none (Queried terms c x) = refl
-packets_none (Preparing terms c r) = refl
-packets_none (Silent terms c) = refl
+packets_none _ = refl
 
 pub fresh : (t : Talk) → origin t ≡ t → packets_of t ≡ []
 fresh t e = ap packets_of (sym e) ∙ packets_none t

@@ -57,17 +57,11 @@ field_says_none (Some c) f = refl
 
 pub payload_settings : (k : Kind) (p : List ℕ) (f : Facts) → (facts_after k p f).settings ≡ settings_after k (row_at Text f.columns p) f.settings
 payload_settings (kinds.Greets capabilities) p f = greeting_says_none (greeting_at p) f
-payload_settings (kinds.Good status) p f = refl
-payload_settings kinds.Failed p f = refl
-payload_settings (kinds.Count n) p f = refl
 payload_settings kinds.Column p f = column_says_none (column_at p) f
-payload_settings kinds.ColumnsDone p f = refl
-payload_settings kinds.Row p f = refl
-payload_settings (kinds.End status) p f = refl
 payload_settings (kinds.Prepared params columns) p f = head_says_none (prepare_ok_at p) f
 payload_settings kinds.Parameter p f = parameter_says_none (column_at p) f
 payload_settings kinds.Field p f = field_says_none (column_at p) f
-payload_settings kinds.Bad p f = refl
+payload_settings _ p f = refl
 
 -- known settings stay
 pub good_known : (stage : Stage) (s : Settings) → is_known stage ≡ true → good_settings stage s ≡ s
@@ -89,18 +83,10 @@ row_known : (row : Option RowParts) (s : Settings) → is_known s.stage ≡ true
 row_known row s e = ap (λ (b : Bool). cond {A = Settings} b (told_by row s) s) (known_awaits s.stage e)
 
 kind_known : (k : Kind) (row : Option RowParts) (s : Settings) → is_known s.stage ≡ true → settings_after k row s ≡ s
-kind_known (kinds.Greets capabilities) row s e = refl
 kind_known (kinds.Good status) row s e = good_known s.stage s e
-kind_known kinds.Failed row s e = refl
-kind_known (kinds.Count n) row s e = refl
-kind_known kinds.Column row s e = refl
-kind_known kinds.ColumnsDone row s e = refl
 kind_known kinds.Row row s e = row_known row s e
 kind_known (kinds.End status) row s e = end_known s.stage s e
-kind_known (kinds.Prepared params columns) row s e = refl
-kind_known kinds.Parameter row s e = refl
-kind_known kinds.Field row s e = refl
-kind_known kinds.Bad row s e = refl
+kind_known _ row s e = refl
 
 pub packets_known : (packets : List Packet) (f : Facts) → is_known f.settings.stage ≡ true → (facts_by packets f).settings ≡ f.settings
 packets_known [] f e = refl
@@ -168,18 +154,10 @@ row_set login row s w = by_stage (awaits_row s.stage) refl
     by_stage false e = w
 
 kind_set : (login : Login) (k : Kind) (row : Option RowParts) (s : Settings) → IsSet login s → IsSet login (settings_after k row s)
-kind_set login (kinds.Greets capabilities) row s w = w
 kind_set login (kinds.Good status) row s w = good_set login s.stage s refl w
-kind_set login kinds.Failed row s w = w
-kind_set login (kinds.Count n) row s w = w
-kind_set login kinds.Column row s w = w
-kind_set login kinds.ColumnsDone row s w = w
 kind_set login kinds.Row row s w = row_set login row s w
 kind_set login (kinds.End status) row s w = end_set login s.stage s w
-kind_set login (kinds.Prepared params columns) row s w = w
-kind_set login kinds.Parameter row s w = w
-kind_set login kinds.Field row s w = w
-kind_set login kinds.Bad row s w = w
+kind_set login _ row s w = w
 
 packets_set : (login : Login) (packets : List Packet) (f : Facts) → IsSet login f.settings → IsSet login (facts_by packets f).settings
 packets_set login [] f w = w

@@ -12,8 +12,8 @@ use Rattle.my_grammar.specs.Contexts.{more}
 use Rattle.my_grammar.specs.Cut.{is_idle, is_over}
 use Rattle.my_grammar.specs.Growth.{grow, not_greets}
 use Rattle.my_grammar.specs.Kinds.{single_kind}
-use Rattle.my_grammar.specs.Prepares.{Reply, Unanswered, Refused, InParameters, AfterParameters, InFields, AfterFields, Complete, grow_reply, spot_in_reply}
-use Rattle.my_grammar.specs.Sets.{Sets, NoSets, Lone, Failed, Heading, Headed, Begun, Ended, Broken, grow_sets, packets_in, spot_in}
+use Rattle.my_grammar.specs.Prepares.{Reply, Unanswered, grow_reply, spot_in_reply}
+use Rattle.my_grammar.specs.Sets.{Sets, Lone, Failed, Ended, Broken, grow_sets, packets_in, spot_in}
 use Rattle.my_grammar.specs.Talk.{Talk, Start, Unwelcome, Greeted, Settled, Asked, Replied, Queried, Preparing, Silent, Fits, context_of}
 use Rattle.my_reading.specs.declared.call.Call.{Call}
 use Rattle.my_reading.specs.Calls.{is_connect, kind_of}
@@ -21,7 +21,7 @@ use Rattle.my_reading.specs.Commands.{execution, opening}
 use Rattle.my_reading.specs.Course.{is_greeting}
 use Rattle.my_reading.specs.Executions.{Values}
 use Rattle.my_reading.specs.Statements.{Statements}
-use Rattle.history_laws.proofs.Opening.{Opened, Starts, Queries, Prepares, Asks, Tells, Runs, executed, opened}
+use Rattle.history_laws.proofs.Opening.{Opened, Starts, executed, opened}
 use Rattle.history_laws.specs.Sent.{ends_answered, is_answered}
 
 -- an exchange that doesn't await the greeting
@@ -36,43 +36,24 @@ more_shook s = by_more (has_more_results s)
     by_more false = refl
 
 sets_shook : (x : Sets) → is_greeting (spot_in x) ≡ false
-sets_shook (NoSets asking) = refl
 sets_shook (Lone older p status) = more_shook status
-sets_shook (Failed older p) = refl
-sets_shook (Heading older head left) = refl
-sets_shook (Headed older head) = refl
-sets_shook (Begun older head rows) = refl
 sets_shook (Ended older head rows last status) = more_shook status
-sets_shook (Broken older head rows last) = refl
+sets_shook _ = refl
 
 reply_shook : (r : Reply) → is_greeting (spot_in_reply r) ≡ false
 reply_shook Unanswered = refl
-reply_shook (Refused p) = refl
-reply_shook (InParameters head parameters left) = refl
-reply_shook (AfterParameters head parameters) = refl
-reply_shook (InFields head parameters fields left) = refl
-reply_shook (AfterFields head parameters fields) = refl
-reply_shook (Complete head parameters fields) = refl
+reply_shook _ = refl
 
 pub shook_on : (t : Talk) (k : Kind) (q : List ℕ) → IsShook t → IsShook (grow k t q)
 shook_on (Start login) k q e = absurd (cc)
-shook_on (Unwelcome login p) k q e = refl
-shook_on (Greeted login p n) k q e = refl
-shook_on (Settled login p n last kind) k q e = refl
-shook_on (Asked terms c) k q e = refl
-shook_on (Replied terms c last kind) k q e = refl
 shook_on (Queried terms c x) k q e = sets_shook (grow_sets (deprecates_eof terms.kept) k x q)
 shook_on (Preparing terms c r) k q e = reply_shook (grow_reply (deprecates_eof terms.kept) k r q)
-shook_on (Silent terms c) k q e = refl
+shook_on _ k q e = refl
 
 -- what any call but the one that connects begins
 begun_shook : (connects : Bool) (terms : Terms) (t : Talk) → connects ≡ false → Opened connects terms t → IsShook t
 begun_shook connects terms t other (Starts login e) = absurd (cc)
-begun_shook connects terms t other (Queries text) = refl
-begun_shook connects terms t other (Prepares command) = refl
-begun_shook connects terms t other (Asks command) = refl
-begun_shook connects terms t other (Tells command) = refl
-begun_shook connects terms t other (Runs command asking) = refl
+begun_shook connects terms t other _ = refl
 
 pub executed_shook : (terms : Terms) (st : Statements) (id : ℕ) (v : Values) (t : Talk) → execution terms st id v ≡ Some t → IsShook t
 executed_shook terms st id v t e = begun_shook false terms t refl (executed false terms st id v t e)
@@ -91,61 +72,30 @@ connects t = false
 
 start_connects : (login : Login) (k : Kind) (q : List ℕ) → connects (grow k (Start login) q) ≡ true
 start_connects login (kinds.Greets n) q = refl
-start_connects login (kinds.Good s) q = refl
-start_connects login kinds.Failed q = refl
-start_connects login (kinds.Count n) q = refl
-start_connects login kinds.Column q = refl
-start_connects login kinds.ColumnsDone q = refl
-start_connects login kinds.Row q = refl
-start_connects login (kinds.End s) q = refl
-start_connects login (kinds.Prepared m n) q = refl
-start_connects login kinds.Parameter q = refl
-start_connects login kinds.Field q = refl
-start_connects login kinds.Bad q = refl
+start_connects login _ q = refl
 
 pub connects_on : (t : Talk) (k : Kind) (q : List ℕ) → connects t ≡ true → connects (grow k t q) ≡ true
 connects_on (Start login) k q e = start_connects login k q
-connects_on (Unwelcome login p) k q e = refl
-connects_on (Greeted login p n) k q e = refl
-connects_on (Settled login p n last kind) k q e = refl
 connects_on (Asked terms c) k q e = absurd (cc)
 connects_on (Replied terms c last kind) k q e = absurd (cc)
-connects_on (Queried terms c x) k q e = refl
 connects_on (Preparing terms c r) k q e = absurd (cc)
 connects_on (Silent terms c) k q e = absurd (cc)
+connects_on _ k q e = refl
 
 single_calm : (k : Kind) → is_single_kind k ≡ true → not_greets k ≡ true
 single_calm (kinds.Greets n) e = absurd (cc)
-single_calm (kinds.Good s) e = refl
-single_calm kinds.Failed e = refl
-single_calm (kinds.Count n) e = refl
-single_calm kinds.Column e = refl
-single_calm kinds.ColumnsDone e = refl
-single_calm kinds.Row e = refl
-single_calm (kinds.End s) e = refl
-single_calm (kinds.Prepared m n) e = refl
-single_calm kinds.Parameter e = refl
-single_calm kinds.Field e = refl
-single_calm kinds.Bad e = refl
+single_calm _ e = refl
 
 sets_answered : (x : Sets) → is_idle (spot_in x) ≡ true → ends_answered (packets_in x) ≡ true
-sets_answered (NoSets asking) e = absurd (cc)
 sets_answered (Lone older p status) e = refl
 sets_answered (Failed older p) e = refl
-sets_answered (Heading older head left) e = absurd (cc)
-sets_answered (Headed older head) e = absurd (cc)
-sets_answered (Begun older head rows) e = absurd (cc)
 sets_answered (Ended older head rows last status) e = refl
 sets_answered (Broken older head rows last) e = refl
+sets_answered _ e = absurd (cc)
 
 -- one that is over was answered
 pub over_answered : (t : Talk) → connects t ≡ true → Fits t → is_over t ≡ true → is_answered t ≡ true
-over_answered (Start login) s f e = absurd (cc)
 over_answered (Unwelcome login p) s f e = refl
-over_answered (Greeted login p n) s f e = absurd (cc)
 over_answered (Settled login p n last kind) s f e = single_calm kind (is_then is_single_kind (single_kind last) kind (known_single last) f.kinds.1)
-over_answered (Asked terms c) s f e = absurd (cc)
-over_answered (Replied terms c last kind) s f e = absurd (cc)
 over_answered (Queried terms c x) s f e = sets_answered x e
-over_answered (Preparing terms c r) s f e = absurd (cc)
-over_answered (Silent terms c) s f e = absurd (cc)
+over_answered _ s f e = absurd (cc)

@@ -29,7 +29,7 @@ use Rattle.my_params.specs.Parameters.{body_of}
 use Rattle.my_reading.specs.Accounts.{changed}
 use Rattle.my_reading.specs.Calls.{id_in, kind_of, statement_in, text_in}
 use Rattle.my_reading.specs.Commands.{closing, execution, queried}
-use Rattle.my_reading.specs.Course.{Part, All, Head, Item, Set, Rest, Command, Find, Check, Run, Reply, Keep, Give, Learn, Forget, Offered, Clear, Text, Flag, Adopt, Renew, Drain, Undo, Undone, Refuse, Settle, GiveUp, Try, Back, Goes, Returns, after_kind, checked, closing_of, executed, failure, found, is_rows, kept, looked_for, offered, refused_at, renewing, returned, step_of, undone, unless_refused, with_command}
+use Rattle.my_reading.specs.Course.{Part, All, Head, Command, Find, Check, Run, Reply, Keep, Give, Learn, Forget, Offered, Clear, Text, Flag, Adopt, Renew, Drain, Undo, Undone, Refuse, Settle, GiveUp, Try, Back, Goes, Returns, after_kind, checked, closing_of, executed, failure, found, is_rows, kept, looked_for, offered, refused_at, renewing, returned, step_of, undone, unless_refused, with_command}
 use Rattle.my_reading.specs.Errors.{mixed_params, server_error}
 use Rattle.my_reading.specs.Facts.{prepared_by}
 use Rattle.my_reading.specs.Executions.{Values, Fitting, Unfitting, values_for}
@@ -159,17 +159,7 @@ module _ (login : Login) (c : Call) (ms : List Made) (plain : reads_sets c ≡ f
   head_stays : (trying : Bool) (parts : List Part) (p : Place) (o : Option (List Group)) → is_safe c false trying parts ≡ true → GaveAt trying ms p o
       → (k : Kind) (q rest : List ℕ) → Comes p k q → IsFine c ms (after_kind Head parts k (with_talk p (grow k p.talk q) rest) (row_at login p q))
   head_stays trying parts p o e w (kinds.Good s) q rest come = loose trying parts (with_end (with_talk p (grow (kinds.Good s) p.talk q) rest)) o e (grown_gave trying ms p o (kinds.Good s) q come w)
-  head_stays trying parts p o e w (kinds.Greets n) q rest come = stays_fine trying Head parts p o e w (kinds.Greets n) q rest come
-  head_stays trying parts p o e w kinds.Failed q rest come = stays_fine trying Head parts p o e w kinds.Failed q rest come
-  head_stays trying parts p o e w (kinds.Count n) q rest come = stays_fine trying Head parts p o e w (kinds.Count n) q rest come
-  head_stays trying parts p o e w kinds.Column q rest come = stays_fine trying Head parts p o e w kinds.Column q rest come
-  head_stays trying parts p o e w kinds.ColumnsDone q rest come = stays_fine trying Head parts p o e w kinds.ColumnsDone q rest come
-  head_stays trying parts p o e w kinds.Row q rest come = stays_fine trying Head parts p o e w kinds.Row q rest come
-  head_stays trying parts p o e w (kinds.End s) q rest come = stays_fine trying Head parts p o e w (kinds.End s) q rest come
-  head_stays trying parts p o e w (kinds.Prepared m n) q rest come = stays_fine trying Head parts p o e w (kinds.Prepared m n) q rest come
-  head_stays trying parts p o e w kinds.Parameter q rest come = stays_fine trying Head parts p o e w kinds.Parameter q rest come
-  head_stays trying parts p o e w kinds.Field q rest come = stays_fine trying Head parts p o e w kinds.Field q rest come
-  head_stays trying parts p o e w kinds.Bad q rest come = stays_fine trying Head parts p o e w kinds.Bad q rest come
+  head_stays trying parts p o e w k q rest come = stays_fine trying Head parts p o e w k q rest come
 
   head_fine : (trying : Bool) (parts : List Part) (p : Place) (o : Option (List Group)) → is_safe c false trying parts ≡ true → GaveAt trying ms p o → IsFine c ms (step_of login c (Head ∷ parts) p)
   head_fine trying parts p o e w = either (IsFine c ms) (is_rows (context_of p.talk).spot) _ _ (λ _. loose trying parts p o e w)
@@ -316,14 +306,10 @@ module _ (login : Login) (ms : List Made) where
   safe_fine c plain kept trying [] p o e w k = ready_fine login c ms plain kept trying p o e w k
   safe_fine c plain kept trying (All ∷ parts) p o e w k = all_fine login c ms plain trying parts p o e w
   safe_fine c plain kept trying (Head ∷ parts) p o e w k = head_fine login c ms plain trying parts p o e w
-  safe_fine c plain kept trying (Item ∷ parts) p o e w k = absurd (cc)
-  safe_fine c plain kept trying (Set ∷ parts) p o e w k = absurd (cc)
-  safe_fine c plain kept trying (Rest ∷ parts) p o e w k = absurd (cc)
   safe_fine c plain kept trying (Command ∷ parts) p o e w k = commands_fine c plain kept trying parts p o e w
   safe_fine c plain kept trying (Find ∷ parts) p o e w k = looked_fine login c ms plain kept trying parts p o (text_in c) e w k
   safe_fine c plain kept trying (Check params ∷ parts) p o e w k = checked_fine login c ms plain kept trying parts p o (values_for (statement_in c) params) e w k
   safe_fine c plain kept trying (Run params ∷ parts) p o e w k = some_fine login c ms plain trying parts p o (executed login c p params) (executed_fits (terms_of login (exchanges p)) p.statements (id_in c) (values_for (statement_in c) params)) e w
-  safe_fine c plain kept trying (Reply ∷ parts) p o e w k = absurd (cc)
   safe_fine c plain kept trying (Keep ∷ parts) p o e w k =
       let f = facts_at login p in
       let st : Statements = with_prepared (query_of (text_in c)) (prepared_by f) f.reply.fields p.statements in
@@ -348,4 +334,4 @@ module _ (login : Login) (ms : List Made) where
   safe_fine c plain kept trying (GiveUp ∷ parts) p o e w k = at login c ms plain kept trying parts (with_status (given_up p.status) p) o e w k
   safe_fine c plain kept trying (Try ∷ parts) p o e w k =
       at login c ms plain kept true parts (with_trial On p) o e (record { olds = w.olds; given_is = w.given_is; newest = w.newest; each = w.each; fits = w.fits; off = λ x. absurd (cc) }) k
-  safe_fine c plain kept trying (Back ∷ parts) p o e w k = absurd (cc)
+  safe_fine c plain kept trying (part ∷ parts) p o e w k = absurd (cc)

@@ -12,7 +12,7 @@ use Rattle.my_reading.specs.Endings.{AreCalls, Ends, IsCut, IsOpen, IsCancelled,
 use Rattle.my_reading.specs.Place.{Place, connects_in, exchanges, owed, with_bytes}
 use Rattle.my_reading.specs.Reading.{ReadCall, closed_answer, is_closing, read_calls}
 use Rattle.my_reading.specs.Tape.{Span}
-use Rattle.my_reading.specs.Told.{Told, ToldReady, ToldRow, ToldEnd, ToldNone, ToldStatement, ToldFlag, ToldError, ToldPassed, Dropped, closes}
+use Rattle.my_reading.specs.Told.{Told, ToldReady, Dropped, closes}
 use Rattle.history_laws.specs.Ended.{ended_after, makes, was_made}
 use Rattle.history_laws.specs.Given.{have_ended, with_ending}
 use Rattle.history_laws.specs.Groups.{Made}
@@ -43,14 +43,7 @@ pub record Between (login : Login) (closed : Bool) (ms : List Made) (p : Place) 
 -- an answer of another call than the one that connects
 makes_none : (t : Told) (k : CallKind) → is_connect k ≡ false → makes t k ≡ false
 makes_none ToldReady k e = e
-makes_none (ToldRow row) k e = refl
-makes_none ToldEnd k e = refl
-makes_none ToldNone k e = refl
-makes_none (ToldStatement statement) k e = refl
-makes_none (ToldFlag flag) k e = refl
-makes_none (ToldError x) k e = refl
-makes_none (ToldPassed x) k e = refl
-makes_none (Dropped closing) k e = refl
+makes_none _ k e = refl
 
 same_made : (c : Call) (t : Told) (ms : List Made) → is_connect (kind_of c) ≡ false → was_made (record { call = c; what = t } ∷ ms) ≡ true → was_made ms ≡ true
 same_made c t ms other e = subst (λ b. (b || was_made ms) ≡ true) (makes_none t (kind_of c) other) e

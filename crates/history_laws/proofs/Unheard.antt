@@ -51,21 +51,12 @@ later_within (suc most) t bytes = by_front (λ u bs. later_within most u bs) (fr
     calm go p rest k e = same_new t (grow k t p) _ (calm_blames k t p e) (go (grow k t p) rest)
 
     by_kind : ((u : Talk) (bs : List ℕ) → Adds u (read_within most u bs).talk) → (p rest : List ℕ) (k : Kind) → kind_of t p ≡ k → Adds t (read_payload t bytes p rest k (read_within most)).talk
-    by_kind go p rest (kinds.Greets n) e = calm go p rest (kinds.Greets n) refl
-    by_kind go p rest (kinds.Good status) e = calm go p rest (kinds.Good status) refl
     by_kind go p rest kinds.Failed e =
         let u = grow kinds.Failed t p in
         let last : read_within most u rest ≡ record { talk = u; rest = rest } = stopped_within most u rest (over_stops u (front_of u rest) (failed_over t p)) in
         subst (λ (r : Read). Adds t r.talk) (sym last) (one_new t u (err_at (is_greeting (context_of t).spot) p) (failed_blames t p e))
-    by_kind go p rest (kinds.Count n) e = calm go p rest (kinds.Count n) refl
-    by_kind go p rest kinds.Column e = calm go p rest kinds.Column refl
-    by_kind go p rest kinds.ColumnsDone e = calm go p rest kinds.ColumnsDone refl
-    by_kind go p rest kinds.Row e = calm go p rest kinds.Row refl
-    by_kind go p rest (kinds.End status) e = calm go p rest (kinds.End status) refl
-    by_kind go p rest (kinds.Prepared params columns) e = calm go p rest (kinds.Prepared params columns) refl
-    by_kind go p rest kinds.Parameter e = calm go p rest kinds.Parameter refl
-    by_kind go p rest kinds.Field e = calm go p rest kinds.Field refl
     by_kind go p rest kinds.Bad e = none_new t
+    by_kind go p rest k e = calm go p rest k refl
 
     by_front : ((u : Talk) (bs : List ℕ) → Adds u (read_within most u bs).talk) → (f : Front) → Adds t (read_front t bytes f (read_within most)).talk
     by_front go Waiting = none_new t

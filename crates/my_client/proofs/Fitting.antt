@@ -26,7 +26,7 @@ use Rattle.my_reading.specs.declared.transaction.Trial.{Trial}
 use Rattle.my_reading.specs.declared.transaction.Trial.TheVariants as trials
 use Rattle.my_reading.specs.Calls.{kind_of, statement_in, text_in}
 use Rattle.my_reading.specs.Commands.{arranging_texts, queried, setup_texts}
-use Rattle.my_reading.specs.Course.{Part, All, Head, Item, Set, Rest, Command, Find, Check, Run, Reply, Keep, Give, Learn, Forget, Offered, Clear, Text, Flag, Adopt, Renew, Drain, Undo, Undone, Refuse, Settle, GiveUp, Try, Back, Step, Goes, Stops, Stop, Owes, Awaits, Returns, enough, step, step_of, unless_owed, with_front, reads as reads_front, run, after_payload, after_kind, after_err, dropped_at, is_drain, is_greeting, is_rows, unless_cached, unless_long, with_command, first_above, found, checked, executed, closing_of, offered, parts_of, parts_of_texts, parts_of_lists, parts_of_batch, parts_of_queries, undone, renewing, unless_refused, refused_at, returned}
+use Rattle.my_reading.specs.Course.{Part, All, Head, Item, Set, Rest, Command, Find, Check, Run, Reply, Keep, Give, Offered, Text, Flag, Renew, Drain, Undo, Refuse, Back, Step, Goes, Stops, Stop, Owes, Awaits, Returns, enough, step, step_of, unless_owed, with_front, reads as reads_front, run, after_payload, after_kind, after_err, dropped_at, is_drain, is_greeting, is_rows, unless_cached, unless_long, with_command, first_above, found, checked, executed, closing_of, offered, parts_of, parts_of_texts, parts_of_lists, parts_of_batch, parts_of_queries, undone, renewing, unless_refused, refused_at, returned}
 use Rattle.my_reading.specs.Errors.{server_error}
 use Rattle.my_reading.specs.Executions.{Values, Fitting, Unfitting, values_for}
 use Rattle.my_reading.specs.Facts.{prepared_by}
@@ -122,38 +122,12 @@ module _ (c : CallKind) (login : Login) where
       -- the parts go on with the rest, or with this one again
       kind_fits : (x : Part) (k : Kind) (new : Place) (r : RowParts) → all_fit c (x ∷ parts) ≡ true → StepFits c (after_kind x parts k new (ToldRow r))
       kind_fits Head (kinds.Good status) new r e = Forward _ _ e
-      kind_fits Head _ new r e = Forward _ _ e
       kind_fits Item (kinds.Good status) new r e = first_holds (reads c) _ (first_holds _ _ e)
       kind_fits Item (kinds.End status) new r e = first_holds (reads c) _ (first_holds _ _ e)
       kind_fits Item kinds.Row new r e = first_holds (reads c) _ (first_holds _ _ e)
-      kind_fits Item _ new r e = Forward _ _ e
       kind_fits Set (kinds.Good status) new r e = first_holds (may_be c ToldReady) _ (first_holds _ _ e)
-      kind_fits Set _ new r e = Forward _ _ e
-      kind_fits All k new r e = Forward _ _ e
-      kind_fits Rest k new r e = Forward _ _ e
-      kind_fits Command k new r e = Forward _ _ e
-      kind_fits Find k new r e = Forward _ _ e
-      kind_fits (Check params) k new r e = Forward _ _ e
-      kind_fits (Run params) k new r e = Forward _ _ e
-      kind_fits Reply k new r e = Forward _ _ e
-      kind_fits Keep k new r e = Forward _ _ e
-      kind_fits Give k new r e = Forward _ _ e
-      kind_fits Learn k new r e = Forward _ _ e
-      kind_fits Forget k new r e = Forward _ _ e
-      kind_fits Offered k new r e = Forward _ _ e
-      kind_fits Clear k new r e = Forward _ _ e
-      kind_fits (Text text) k new r e = Forward _ _ e
-      kind_fits (Flag flag) k new r e = Forward _ _ e
-      kind_fits (Adopt change) k new r e = Forward _ _ e
-      kind_fits Renew k new r e = Forward _ _ e
-      kind_fits Drain k new r e = Forward _ _ e
-      kind_fits Undo k new r e = Forward _ _ e
-      kind_fits Undone k new r e = Forward _ _ e
-      kind_fits (Refuse opts) k new r e = Forward _ _ e
-      kind_fits (Settle status) k new r e = Forward _ _ e
-      kind_fits GiveUp k new r e = Forward _ _ e
-      kind_fits Try k new r e = Forward _ _ e
       kind_fits Back k new r e = absurd (cc)
+      kind_fits part k new r e = Forward _ _ e
 
       dropped_fits : (new : Place) (x : Option ErrPacket) → all_fit c parts ≡ true → StepFits c (dropped_at login parts p new x)
       dropped_fits new None e = refl
@@ -176,14 +150,7 @@ module _ (c : CallKind) (login : Login) where
         payload_fits payload new same kinds.Failed = failed_fits new (err_at (is_greeting (context_of p.talk).spot) payload) (is_drain part) refl
         payload_fits payload new same (kinds.Greets n) = if_fits (nat_lt (limit_of p.talk) (length (response login payload))) _ _ refl (goes new same)
         payload_fits payload new same (kinds.Prepared params columns) = cached_fits (prepare_ok_at payload) new same
-        payload_fits payload new same (kinds.Good status) = kinds_fit (kinds.Good status) new (row_of (context_of p.talk).rows (facts_at login p).columns payload) same
-        payload_fits payload new same (kinds.Count n) = kinds_fit (kinds.Count n) new (row_of (context_of p.talk).rows (facts_at login p).columns payload) same
-        payload_fits payload new same kinds.Column = kinds_fit kinds.Column new (row_of (context_of p.talk).rows (facts_at login p).columns payload) same
-        payload_fits payload new same kinds.ColumnsDone = kinds_fit kinds.ColumnsDone new (row_of (context_of p.talk).rows (facts_at login p).columns payload) same
-        payload_fits payload new same kinds.Row = kinds_fit kinds.Row new (row_of (context_of p.talk).rows (facts_at login p).columns payload) same
-        payload_fits payload new same (kinds.End status) = kinds_fit (kinds.End status) new (row_of (context_of p.talk).rows (facts_at login p).columns payload) same
-        payload_fits payload new same kinds.Parameter = kinds_fit kinds.Parameter new (row_of (context_of p.talk).rows (facts_at login p).columns payload) same
-        payload_fits payload new same kinds.Field = kinds_fit kinds.Field new (row_of (context_of p.talk).rows (facts_at login p).columns payload) same
+        payload_fits payload new same k = kinds_fit k new (row_of (context_of p.talk).rows (facts_at login p).columns payload) same
 
         front_fits : (x : Front) → StepFits c (with_front login part parts p x)
         front_fits Waiting = tt
@@ -246,22 +213,15 @@ module _ (c : CallKind) (login : Login) where
         command_fits parts (calls.Prepare (text_in call)) (with_statements (with_prepared (query_of (text_in call)) (prepared_by f) f.reply.fields p.statements) p)
         (closing_of (terms_of login (exchanges p)) (leaving (query_of (text_in call)) (prepared_by f) p.statements)) e
     part_fits_so call (Give ∷ parts) e = first_holds (prepares c) _ e
-    part_fits_so call (Learn ∷ parts) e = Forward _ _ e
-    part_fits_so call (Forget ∷ parts) e = Forward _ _ e
     part_fits_so call (Offered ∷ parts) e = offered_fits parts (can_reset (version_of (facts_at login p).version)) (first_holds (resets c) _ e) (second_holds (resets c) _ e)
-    part_fits_so call (Clear ∷ parts) e = Forward _ _ e
     part_fits_so call (Text text ∷ parts) e = command_fits parts call p (Some (queried (terms_of login (exchanges p)) text)) e
     part_fits_so call (Flag flag ∷ parts) e = first_holds (resets c) _ e
-    part_fits_so call (Adopt change ∷ parts) e = Forward _ _ e
     part_fits_so call (Renew ∷ parts) e = command_fits parts call p (Some (renewing login call p (facts_at login p))) e
     part_fits_so call (Drain ∷ parts) e = if_fits p.end_left _ _ (Forward _ _ e) (if_fits (is_over p.talk) _ _ (Forward _ _ e) (reads_fit parts Drain e (λ x. e)))
     part_fits_so call (Undo ∷ parts) e = undone_fits parts call (is_given_up p.status) e
-    part_fits_so call (Undone ∷ parts) e = Forward _ _ e
     part_fits_so call (Refuse opts ∷ parts) e = unless_fits parts (begin_refusal opts (version_of (facts_at login p).version) p.status) e
-    part_fits_so call (Settle status ∷ parts) e = Forward _ _ e
-    part_fits_so call (GiveUp ∷ parts) e = Forward _ _ e
-    part_fits_so call (Try ∷ parts) e = Forward _ _ e
     part_fits_so call (Back ∷ parts) e = absurd (cc)
+    part_fits_so call (part ∷ parts) e = Forward _ _ e
 
     -- the transaction is rolled back, and then the first error is returned
     back_kinds : (k : Kind) (new : Place) (r : RowParts) → was_refused new.trial ≡ true → StepFits c (after_kind Back [] k new (ToldRow r))
@@ -317,47 +277,16 @@ queries_fit c (text ∷ texts) parts e = queries_fit c texts parts e
 
 parts_fit : (login : Login) (call : Call) → all_fit (kind_of call) (parts_of login call) ≡ true
 parts_fit login calls.Connect = texts_fit (arranging_texts login)
-parts_fit login (calls.Query text) = refl
-parts_fit login (calls.Prepare text) = refl
-parts_fit login (calls.Execute statement params) = refl
 parts_fit login (calls.Batch statement lists) = batch_fits lists
-parts_fit login (calls.CloseStmt id) = refl
-parts_fit login calls.NextRow = refl
-parts_fit login calls.DropResult = refl
-parts_fit login calls.TakeSet = refl
-parts_fit login calls.SkipTaken = refl
-parts_fit login calls.Ping = refl
 parts_fit login calls.Reset = queries_fit call_kinds.Reset (setup_texts login) _ refl
 parts_fit login (calls.ChangeUser change) = queries_fit call_kinds.ChangeUser (setup_texts login) _ refl
 parts_fit login (calls.Begin opts) = queries_fit call_kinds.Begin (begin_texts opts) _ refl
-parts_fit login calls.Commit = refl
-parts_fit login calls.Rollback = refl
-parts_fit login calls.ForgetTransaction = refl
-parts_fit login calls.CleanForPool = refl
 parts_fit login calls.ResetForPool = queries_fit call_kinds.ResetForPool (setup_texts login) _ refl
-parts_fit login calls.Quit = refl
+parts_fit login _ = refl
 
 closed_fits : (call : Call) → may_be (kind_of call) (closed_answer call) ≡ true
 closed_fits calls.Connect = refl
-closed_fits (calls.Query text) = refl
-closed_fits (calls.Prepare text) = refl
-closed_fits (calls.Execute statement params) = refl
-closed_fits (calls.Batch statement lists) = refl
-closed_fits (calls.CloseStmt id) = refl
-closed_fits calls.NextRow = refl
-closed_fits calls.DropResult = refl
-closed_fits calls.TakeSet = refl
-closed_fits calls.SkipTaken = refl
-closed_fits calls.Ping = refl
-closed_fits calls.Reset = refl
-closed_fits (calls.ChangeUser change) = refl
-closed_fits (calls.Begin opts) = refl
-closed_fits calls.Commit = refl
-closed_fits calls.Rollback = refl
-closed_fits calls.ForgetTransaction = refl
-closed_fits calls.CleanForPool = refl
-closed_fits calls.ResetForPool = refl
-closed_fits calls.Quit = refl
+closed_fits _ = refl
 
 halt_fits : (login : Login) (closed : Bool) (s : Span) (p : Place) → StopFits (kind_of s.call) (halt_of login closed s p).stop
 halt_fits login true s p = closed_fits s.call

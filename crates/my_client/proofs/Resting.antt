@@ -14,11 +14,11 @@ use Rattle.my_reading.specs.Told.{closes}
 use Rattle.my_client.specs.Made.{Made, has_closed}
 use Rattle.my_client.specs.declared.tape.DoneCall.{DoneCall}
 use Rattle.my_client.specs.Kept.{Asked, Kept, made_of, told_by}
-use Rattle.my_client.specs.Reads.{EndedRead, IsWaiting, calls_kept, place_kept, spans_to, tape_kept}
+use Rattle.my_client.specs.Reads.{EndedRead, calls_kept, place_kept, spans_to, tape_kept}
 use Rattle.my_client.proofs.TapeRead.Lists.{spans_at_rest}
 use Rattle.my_session.specs.Sessions.{Seen}
 use Rattle.my_client.specs.Stands.{Rests, Stands, StandsAt, StandsIdle, Waits, WaitsIn}
-use Rattle.my_client.proofs.Moving.{place_stopped, stop_stopped}
+use Rattle.my_client.proofs.Moving.{place_stopped}
 
 or_or : (a b c : Bool) → (a || b) || c ≡ a || (b || c)
 or_or true b c = refl
@@ -98,10 +98,6 @@ module _ (login : Login) (s : Seen) (k : Kept) where
     waits_open (inl w) = stands_closed w.stands.stands ∙ w.so_far.unclosed
     waits_open (inr w) = stands_closed w.stands.stands ∙ w.so_far.unclosed
 
-    pub waits_kept : Waits login s k a → IsWaiting login k
-    waits_kept (inl w) = inl (stop_stopped Owes login s k a w)
-    waits_kept (inr w) = inr (stop_stopped Awaits login s k a w)
-
     pub waits_at : Waits login s k a → k.pending ≡ Some a → IsAt login (place_kept login k) s.stand
     waits_at (inl w) e = subst (λ (p : Place). IsAt login p s.stand) (sym (place_stopped Owes login s k a w)) w.so_far.at
     waits_at (inr w) e = subst (λ (p : Place). IsAt login p s.stand) (sym (place_stopped Awaits login s k a w)) w.so_far.at
@@ -130,9 +126,6 @@ module _ (login : Login) (p : Place) (s : Stand) (at : IsAt login p s) where
 
   pub at_taken : p.taken ≡ s.taken
   at_taken = sym (ap (λ (x : Stand). x.taken) at.stand_is)
-
-  pub at_statements : p.statements ≡ s.statements
-  at_statements = sym (ap (λ (x : Stand). x.statements) at.stand_is)
 
   pub at_status : p.status ≡ s.status
   at_status = sym (ap (λ (x : Stand). x.status) at.stand_is)

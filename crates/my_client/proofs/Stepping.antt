@@ -1,5 +1,5 @@
 -- What a session's step leaves, where the session stands for what was kept.
-use Rattle.std.proofs.Common.{◌≡◌, ◌≢◌, ◌⊎◌, [], length, drop, Bool, true, false, cond, Option, Some, None, Result, Ok, Err, IfOk, inl, inr, refl, sym, ap, ◌∙◌, subst, arith}
+use Rattle.std.proofs.Common.{◌≡◌, ◌≢◌, ◌⊎◌, [], length, drop, Bool, true, false, cond, Option, Some, None, inl, inr, refl, sym, ap, ◌∙◌, subst, arith}
 use Rattle.std.proofs.lemmas.Bool.{false≢true}
 use Rattle.std.proofs.lemmas.List.{drop_all}
 use Rattle.my_grammar.specs.declared.login.Login.{Login}
@@ -133,10 +133,8 @@ module _ (login : Login) (s : Seen) (k : Kept) (a : Asked) (log : s.login ≡ lo
 
 -- out of memory
 out_leaves : (login : Login) (t : Seen) (k : Kept) (a : Asked) (x : SessionStep) → x ≡ steps.Fault NoMemory → StepLeaves login t k a x
-out_leaves login t k a steps.Send e = absurd cc
-out_leaves login t k a steps.Need e = absurd cc
-out_leaves login t k a (steps.Done answer) e = absurd cc
 out_leaves login t k a (steps.Fault x) e = λ some. let same : x ≡ NoMemory = cc in absurd (some same)
+out_leaves login t k a _ e = absurd cc
 
 module _ (login : Login) (s t : Seen) (k : Kept) (a : Asked) (x : SessionStep) (w : StandsAsked login s k a) where
   module _ (o : StandsOpen login s k a) where
@@ -289,9 +287,3 @@ module _ (login : Login) (s t : Seen) (k : Kept) (a : Asked) (e : Error) where
       ends_by w o
       (subst (λ (b : Bool). StepsSo None b op over t (steps.Fault e)) o.unclosed (subst (λ (x : Option LinkFault). StepsSo x s.closed op over t (steps.Fault e)) o.sound is))
       f.some
-
--- a fault that is no lack of memory
-pub fails_ok : {X : Type 0} (r : Result Error X) (error : Error) (s t : Seen) → IfOk r (λ e. e ≡ error) → IfOk r (λ e. e ≢ NoMemory) → ((o : Opened) → s.opened ≡ Some o → IsStep o s t (steps.Fault error))
-    → IfOk r (λ e. FailsNow s t e)
-fails_ok (Ok e) error s t same some is = record { some = some; step = λ o x. subst (λ (y : Error). IsStep o s t (steps.Fault y)) (sym same) (is o x) }
-fails_ok (Err x) error s t same some is = tt

@@ -30,7 +30,7 @@ use Rattle.my_reading.specs.declared.transaction.Trial.TheVariants as trials
 use Rattle.my_reading.specs.declared.transaction.TxStatus.{TxStatus}
 use Rattle.my_reading.specs.Calls.{statement_in, text_in}
 use Rattle.my_reading.specs.Commands.{queried}
-use Rattle.my_reading.specs.Course.{Part, All, Head, Item, Set, Rest, Command, Find, Check, Run, Reply, Keep, Give, Learn, Forget, Offered, Clear, Text, Flag, Adopt, Renew, Drain, Undo, Undone, Refuse, Settle, GiveUp, Try, Back, Step, Goes, Stops, Stop, Owes, Awaits, Returns, step, step_of, unless_owed, with_front, reads, run, after_payload, after_kind, after_err, dropped_at, is_drain, is_greeting, is_rows, unfit, unless_cached, unless_long, with_command, first_above, found, checked, executed, closing_of, offered, undone, renewing, unless_refused, refused_at, returned}
+use Rattle.my_reading.specs.Course.{Part, All, Head, Item, Set, Rest, Command, Find, Check, Run, Reply, Keep, Give, Offered, Text, Flag, Renew, Drain, Undo, Refuse, Back, Step, Goes, Stops, Stop, Owes, Awaits, Returns, step, step_of, unless_owed, with_front, reads, run, after_payload, after_kind, after_err, dropped_at, is_drain, is_greeting, is_rows, unfit, unless_cached, unless_long, with_command, first_above, found, checked, executed, closing_of, offered, undone, renewing, unless_refused, refused_at, returned}
 use Rattle.my_reading.specs.Errors.{codec_error, invalid_data, mixed_params, server_error}
 use Rattle.my_reading.specs.Executions.{Values, Fitting, Unfitting, values_for}
 use Rattle.my_reading.specs.Facts.{prepared_by}
@@ -82,38 +82,11 @@ module _ (P : Told → Type 0) (w : AreTold P) (login : Login) where
     module _ (parts : List Part) where
       kind_stops : (x : Part) (k : Kind) (new : Place) (r : RowParts) → StopsSo P p (after_kind x parts k new (ToldRow r))
       kind_stops Head (kinds.Good status) new r = tt
-      kind_stops Head _ new r = tt
       kind_stops Item (kinds.Good status) new r = w.end
       kind_stops Item (kinds.End status) new r = w.end
       kind_stops Item kinds.Row new r = w.row r
-      kind_stops Item _ new r = tt
       kind_stops Set (kinds.Good status) new r = w.ready
-      kind_stops Set _ new r = tt
-      kind_stops All k new r = tt
-      kind_stops Rest k new r = tt
-      kind_stops Command k new r = tt
-      kind_stops Find k new r = tt
-      kind_stops (Check params) k new r = tt
-      kind_stops (Run params) k new r = tt
-      kind_stops Reply k new r = tt
-      kind_stops Keep k new r = tt
-      kind_stops Give k new r = tt
-      kind_stops Learn k new r = tt
-      kind_stops Forget k new r = tt
-      kind_stops Offered k new r = tt
-      kind_stops Clear k new r = tt
-      kind_stops (Text text) k new r = tt
-      kind_stops (Flag flag) k new r = tt
-      kind_stops (Adopt change) k new r = tt
-      kind_stops Renew k new r = tt
-      kind_stops Drain k new r = tt
-      kind_stops Undo k new r = tt
-      kind_stops Undone k new r = tt
-      kind_stops (Refuse opts) k new r = tt
-      kind_stops (Settle status) k new r = tt
-      kind_stops GiveUp k new r = tt
-      kind_stops Try k new r = tt
-      kind_stops Back k new r = tt
+      kind_stops part k new r = tt
 
       refused_stops : (x : Trial) (new : Place) (e : ServerError) → StopsSo P p (refused_at x new e)
       refused_stops trials.Off new e = w.server e
@@ -139,14 +112,7 @@ module _ (P : Told → Type 0) (w : AreTold P) (login : Login) where
           if_stops (is_drain part) _ _ (dropped_stops new e) (err_stops new e)
       payload_stops part payload new (kinds.Greets n) = if_stops (nat_lt (limit_of p.talk) (length (response login payload))) _ _ (w.codec _) tt
       payload_stops part payload new (kinds.Prepared params columns) = cached_stops (prepare_ok_at payload) part new
-      payload_stops part payload new (kinds.Good status) = kind_stops part (kinds.Good status) new (row_of (context_of p.talk).rows (facts_at login p).columns payload)
-      payload_stops part payload new (kinds.Count n) = kind_stops part (kinds.Count n) new (row_of (context_of p.talk).rows (facts_at login p).columns payload)
-      payload_stops part payload new kinds.Column = kind_stops part kinds.Column new (row_of (context_of p.talk).rows (facts_at login p).columns payload)
-      payload_stops part payload new kinds.ColumnsDone = kind_stops part kinds.ColumnsDone new (row_of (context_of p.talk).rows (facts_at login p).columns payload)
-      payload_stops part payload new kinds.Row = kind_stops part kinds.Row new (row_of (context_of p.talk).rows (facts_at login p).columns payload)
-      payload_stops part payload new (kinds.End status) = kind_stops part (kinds.End status) new (row_of (context_of p.talk).rows (facts_at login p).columns payload)
-      payload_stops part payload new kinds.Parameter = kind_stops part kinds.Parameter new (row_of (context_of p.talk).rows (facts_at login p).columns payload)
-      payload_stops part payload new kinds.Field = kind_stops part kinds.Field new (row_of (context_of p.talk).rows (facts_at login p).columns payload)
+      payload_stops part payload new k = kind_stops part k new (row_of (context_of p.talk).rows (facts_at login p).columns payload)
 
       front_stops : (part : Part) (x : Front) → StopsSo P p (with_front login part parts p x)
       front_stops part Waiting = refl
@@ -206,24 +172,17 @@ module _ (P : Told → Type 0) (w : AreTold P) (login : Login) where
         command_stops parts (Prepare (text_in call)) (with_statements (with_prepared (query_of (text_in call)) (prepared_by f) f.reply.fields p.statements) p)
         (closing_of (terms_of login (exchanges p)) (leaving (query_of (text_in call)) (prepared_by f) p.statements))
     part_stops call (Give ∷ parts) = w.statement _
-    part_stops call (Learn ∷ parts) = tt
-    part_stops call (Forget ∷ parts) = tt
     part_stops call (Offered ∷ parts) = offered_stops parts (can_reset (version_of (facts_at login p).version))
-    part_stops call (Clear ∷ parts) = tt
     part_stops call (Text text ∷ parts) = command_stops parts call p (Some (queried (terms_of login (exchanges p)) text))
     part_stops call (Flag flag ∷ parts) = w.flag flag
-    part_stops call (Adopt change ∷ parts) = tt
     part_stops call (Renew ∷ parts) = command_stops parts call p (Some (renewing login call p (facts_at login p)))
     part_stops call (Drain ∷ parts) = if_stops p.end_left _ _ tt (if_stops (is_over p.talk) _ _ tt (reads_stop parts Drain))
     part_stops call (Undo ∷ parts) = undone_stops parts call (is_given_up p.status)
-    part_stops call (Undone ∷ parts) = tt
     part_stops call (Refuse opts ∷ parts) =
         let v = version_of (facts_at login p).version in
         unless_stops parts opts v p.status (begin_refusal opts v p.status) refl
-    part_stops call (Settle status ∷ parts) = tt
-    part_stops call (GiveUp ∷ parts) = tt
-    part_stops call (Try ∷ parts) = tt
     part_stops call (Back ∷ parts) = if_stops (is_over p.talk) _ _ (returned_stops p.trial) (reads_stop parts Back)
+    part_stops call (part ∷ parts) = tt
 
     pub step_stops : (call : Call) (parts : List Part) → StopsSo P p (step login call parts p)
     unfolding step

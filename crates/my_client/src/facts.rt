@@ -20,25 +20,7 @@ pub fn is_connecting<L>(conn: &TapedConn<L>) -> bool
         None => false,
         Some(open) => match open.call {
             Call::Connect => true,
-            Call::Query(_)
-            | Call::Prepare(_)
-            | Call::Execute(_, _)
-            | Call::Batch(_, _)
-            | Call::CloseStmt(_)
-            | Call::NextRow
-            | Call::DropResult
-            | Call::TakeSet
-            | Call::SkipTaken
-            | Call::Ping
-            | Call::Reset
-            | Call::ChangeUser(_)
-            | Call::Begin(_)
-            | Call::Commit
-            | Call::Rollback
-            | Call::ForgetTransaction
-            | Call::CleanForPool
-            | Call::ResetForPool
-            | Call::Quit => false,
+            _ => false,
         },
     }
 }

@@ -1,5 +1,5 @@
 -- A call over the bytes that were sent and received.
-use Rattle.std.proofs.Common.{◌≡◌, ℕ, ◌-◌, ◌<◌, ◌≤◌, List, [], ◌∷◌, length, drop, refl, sym, ap, ◌∙◌, subst, arith}
+use Rattle.std.proofs.Common.{◌≡◌, ℕ, ◌<◌, ◌≤◌, List, [], ◌∷◌, length, drop, refl, sym, ap, ◌∙◌, subst, arith}
 use Rattle.std.proofs.lemmas.List.{drop_at}
 use Rattle.my_grammar.specs.declared.login.Login.{Login}
 use Rattle.my_reading.proofs.Leading.{leads_to_course}
@@ -51,9 +51,6 @@ pub machine_somewhere : (login : Login) (call : Call) (old now : Stand) (progres
 machine_somewhere login call old now progress c =
     let here = c.all c.some.0 c.some.1 in
     (with_sent here.at.told here.place, machine_at login here.place now here.at)
-
-pub within_sent : (login : Login) (call : Call) (old now : Stand) (progress : Progress) → InCourse login call old progress now → now.settled ≤ length now.sent
-within_sent login call old now progress c = (c.all c.some.0 c.some.1).at.within
 
 module _ (login : Login) (call : Call) (old now : Stand) (progress next : Progress) (stop : CodeStop) (m : Machine) (c : InCourse login call old progress now)
     (runs : EachRuns login call progress now.machine stop next m) where
@@ -150,9 +147,6 @@ module _ (login : Login) (call : Call) (old now : Stand) (progress next : Progre
             };
         some = c.some;
       }
-
-      pub fewer_left : 0 < count → length new.sent - new.settled < length now.sent - now.settled
-      fewer_left h = omega (arith, h, paid.count_is, paid.settled_is, ap length paid.sent_is)
 
       -- none was
       pub stays : count ≡ 0 → CourseIs login call old stops.Owes new

@@ -53,57 +53,20 @@ begins_so (y ∷ said) (x ∷ sent) = ap (λ b. nat_eq x y && b) (begins_so said
 -- what was told is told by one ending alone
 same_answer : (a b : Answer) → told a ≡ told b → a ≡ b
 same_answer answers.Ready answers.Ready e = refl
-same_answer answers.Ready (answers.Row r) e = cc
-same_answer answers.Ready answers.SetEnd e = cc
-same_answer answers.Ready answers.NoSet e = cc
-same_answer (answers.Row r) answers.Ready e = cc
-same_answer (answers.Row r) (answers.Row q) e = cc
-same_answer (answers.Row r) answers.SetEnd e = cc
-same_answer (answers.Row r) answers.NoSet e = cc
-same_answer answers.SetEnd answers.Ready e = cc
-same_answer answers.SetEnd (answers.Row r) e = cc
 same_answer answers.SetEnd answers.SetEnd e = refl
-same_answer answers.SetEnd answers.NoSet e = cc
-same_answer answers.NoSet answers.Ready e = cc
-same_answer answers.NoSet (answers.Row r) e = cc
-same_answer answers.NoSet answers.SetEnd e = cc
 same_answer answers.NoSet answers.NoSet e = refl
-same_answer answers.Ready (answers.Stmt t) e = cc
-same_answer (answers.Row r) (answers.Stmt t) e = cc
-same_answer answers.SetEnd (answers.Stmt t) e = cc
-same_answer answers.NoSet (answers.Stmt t) e = cc
-same_answer (answers.Stmt t) answers.Ready e = cc
-same_answer (answers.Stmt t) (answers.Row r) e = cc
-same_answer (answers.Stmt t) answers.SetEnd e = cc
-same_answer (answers.Stmt t) answers.NoSet e = cc
+same_answer (answers.Row r) (answers.Row q) e = cc
 same_answer (answers.Stmt t) (answers.Stmt u) e = cc
-same_answer answers.Ready (answers.Flag b) e = cc
-same_answer (answers.Row r) (answers.Flag b) e = cc
-same_answer answers.SetEnd (answers.Flag b) e = cc
-same_answer answers.NoSet (answers.Flag b) e = cc
-same_answer (answers.Stmt t) (answers.Flag b) e = cc
-same_answer (answers.Flag b) answers.Ready e = cc
-same_answer (answers.Flag b) (answers.Row r) e = cc
-same_answer (answers.Flag b) answers.SetEnd e = cc
-same_answer (answers.Flag b) answers.NoSet e = cc
-same_answer (answers.Flag b) (answers.Stmt t) e = cc
 same_answer (answers.Flag b) (answers.Flag d) e = cc
+same_answer a b e = cc
 
 no_error : (a : Answer) (e : Error) → told a ≡ ToldError e → ⊥
 no_error answers.Ready e h = cc
-no_error (answers.Row r) e h = cc
-no_error answers.SetEnd e h = cc
-no_error answers.NoSet e h = cc
-no_error (answers.Stmt t) e h = cc
-no_error (answers.Flag b) e h = cc
+no_error _ e h = cc
 
 no_drop : (a : Answer) (b : Bool) → told a ≡ Dropped b → ⊥
 no_drop answers.Ready b h = cc
-no_drop (answers.Row r) b h = cc
-no_drop answers.SetEnd b h = cc
-no_drop answers.NoSet b h = cc
-no_drop (answers.Stmt t) b h = cc
-no_drop (answers.Flag d) b h = cc
+no_drop _ b h = cc
 
 same_ending : (x y : Ending) → told_of x ≡ told_of y → x ≡ y
 same_ending (Answered a) (Answered b) e = ap Answered (same_answer a b e)
@@ -125,26 +88,11 @@ no_ending None e = refl
 no_ending (Some x) e = cc
 
 closes_so : (kind : CallKind) (p : Place) (spot : Spot) → spot ≡ (context_of p.talk).spot → closes_at kind spot ≡ closes_cancelled kind p
-closes_so kinds.Connect p spot e = refl
-closes_so kinds.Query p spot e = refl
-closes_so kinds.Prepare p spot e = refl
-closes_so kinds.Execute p spot e = refl
-closes_so kinds.Batch p spot e = refl
-closes_so kinds.CloseStmt p spot e = refl
 closes_so kinds.NextRow p spot e = ap (closes_at kinds.NextRow) e
 closes_so kinds.DropResult p spot e = ap (closes_at kinds.DropResult) e
 closes_so kinds.TakeSet p spot e = ap (closes_at kinds.TakeSet) e
 closes_so kinds.SkipTaken p spot e = ap (closes_at kinds.SkipTaken) e
-closes_so kinds.Ping p spot e = refl
-closes_so kinds.Reset p spot e = refl
-closes_so kinds.ChangeUser p spot e = refl
-closes_so kinds.Begin p spot e = refl
-closes_so kinds.Commit p spot e = refl
-closes_so kinds.Rollback p spot e = refl
-closes_so kinds.ForgetTransaction p spot e = refl
-closes_so kinds.CleanForPool p spot e = refl
-closes_so kinds.ResetForPool p spot e = refl
-closes_so kinds.Quit p spot e = refl
+closes_so _ p spot e = refl
 
 told_so : (x : Returned) → told_of (ending_of x) ≡ returned_of x
 told_so (returned.Answered a) = refl
@@ -239,15 +187,14 @@ takes_call login index span old right new may read = λ p at.
 -- a cancelled call closes the connection or not
 settled_so : (kind : CallKind) (p : Place) (spot : Spot) (ending : Option Ending) → spot ≡ (context_of p.talk).spot
     → settled_told kind p (option_map told_of ending) ≡ option_map told_of (settled_at kind spot ending)
-settled_so kind p spot None e = refl
+settled_so kind p spot (Some (Cancelled b)) e = ap (λ x. Some (Dropped x)) (sym (closes_so kind p spot e))
 settled_so kind p spot (Some (Answered answers.Ready)) e = refl
 settled_so kind p spot (Some (Answered (answers.Row r))) e = refl
 settled_so kind p spot (Some (Answered answers.SetEnd)) e = refl
 settled_so kind p spot (Some (Answered answers.NoSet)) e = refl
 settled_so kind p spot (Some (Answered (answers.Stmt t))) e = refl
 settled_so kind p spot (Some (Answered (answers.Flag b))) e = refl
-settled_so kind p spot (Some (Failed f)) e = refl
-settled_so kind p spot (Some (Cancelled b)) e = ap (λ x. Some (Dropped x)) (sym (closes_so kind p spot e))
+settled_so kind p spot _ e = refl
 
 pub reads_settled : (login : Login) (call : Call) (ending settled_ending : Option Ending) (sent taken : List ℕ) (p : Place) (closed closing : Bool) (old mid new : Stand) (stop : CodeStop) (ends said : Bool)
     → IsAt login p old → mid ≡ with_more sent taken old → ((q : Place) → IsAt login q mid → HaltIs login (halt_at login closed call q) stop new)

@@ -22,7 +22,7 @@ use Rattle.my_reading.specs.declared.transaction.Trial.{Trial}
 use Rattle.my_reading.specs.declared.transaction.Trial.TheVariants as trials
 use Rattle.my_reading.specs.Calls.{id_in, statement_in, text_in}
 use Rattle.my_reading.specs.Commands.{queried}
-use Rattle.my_reading.specs.Course.{Part, All, Head, Item, Set, Rest, Command, Find, Check, Run, Reply, Keep, Give, Learn, Forget, Offered, Clear, Text, Flag, Adopt, Renew, Drain, Undo, Undone, Refuse, Settle, GiveUp, Try, Back, Step, Goes, Stops, Stop, Owes, Awaits, Returns, step, step_of, unless_owed, with_front, reads, after_payload, after_kind, after_err, dropped_at, is_drain, is_greeting, is_rows, unless_cached, with_command, first_above, found, checked, executed, closing_of, offered, undone, renewing, unless_refused, refused_at, returned}
+use Rattle.my_reading.specs.Course.{Part, All, Head, Item, Set, Rest, Command, Find, Check, Run, Reply, Keep, Learn, Offered, Text, Renew, Drain, Undo, Refuse, Back, Step, Goes, Stops, Stop, Owes, Awaits, Returns, step, step_of, unless_owed, with_front, reads, after_payload, after_kind, after_err, dropped_at, is_drain, is_greeting, is_rows, unless_cached, with_command, first_above, found, checked, executed, closing_of, offered, undone, renewing, unless_refused, refused_at, returned}
 use Rattle.my_reading.specs.Errors.{server_error}
 use Rattle.my_reading.specs.Executions.{Values, Fitting, Unfitting, values_for}
 use Rattle.my_reading.specs.Facts.{prepared_by}
@@ -53,38 +53,11 @@ module _ (bytes : List ℕ) where
   module _ (q new : Place) (same : new.sent ≡ q.sent) (parts : List Part) where
     kind_alike : (part : Part) (k : Kind) (t : Told) → Alike q (after_kind part parts k new t) (after_kind part parts k (with_sent bytes new) t)
     kind_alike Head (kinds.Good status) t = (refl, same)
-    kind_alike Head _ t = (refl, same)
     kind_alike Item (kinds.Good status) t = (refl, same)
     kind_alike Item (kinds.End status) t = (refl, same)
     kind_alike Item kinds.Row t = (refl, same)
-    kind_alike Item _ t = (refl, same)
     kind_alike Set (kinds.Good status) t = (refl, same)
-    kind_alike Set _ t = (refl, same)
-    kind_alike All k t = (refl, same)
-    kind_alike Rest k t = (refl, same)
-    kind_alike Command k t = (refl, same)
-    kind_alike Find k t = (refl, same)
-    kind_alike (Check params) k t = (refl, same)
-    kind_alike (Run params) k t = (refl, same)
-    kind_alike Reply k t = (refl, same)
-    kind_alike Keep k t = (refl, same)
-    kind_alike Give k t = (refl, same)
-    kind_alike Learn k t = (refl, same)
-    kind_alike Forget k t = (refl, same)
-    kind_alike Offered k t = (refl, same)
-    kind_alike Clear k t = (refl, same)
-    kind_alike (Text text) k t = (refl, same)
-    kind_alike (Flag flag) k t = (refl, same)
-    kind_alike (Adopt change) k t = (refl, same)
-    kind_alike Renew k t = (refl, same)
-    kind_alike Drain k t = (refl, same)
-    kind_alike Undo k t = (refl, same)
-    kind_alike Undone k t = (refl, same)
-    kind_alike (Refuse opts) k t = (refl, same)
-    kind_alike (Settle status) k t = (refl, same)
-    kind_alike GiveUp k t = (refl, same)
-    kind_alike Try k t = (refl, same)
-    kind_alike Back k t = (refl, same)
+    kind_alike part k t = (refl, same)
 
     refused_alike : (x : Trial) (e : ServerError) → Alike q (refused_at x new e) (refused_at x (with_sent bytes new) e)
     refused_alike trials.Off e = (refl, same)
@@ -121,14 +94,7 @@ module _ (bytes : List ℕ) where
         either q (is_drain part) _ _ _ _ (dropped_alike new same packet) (err_alike new same packet)
     payload_alike part payload new same (kinds.Greets n) = either q (nat_lt (limit_of q.talk) (length (response login payload))) _ _ _ _ (refl, refl) (refl, same)
     payload_alike part payload new same (kinds.Prepared params columns) = cached_alike (prepare_ok_at payload) part new same
-    payload_alike part payload new same (kinds.Good status) = kind_alike q new same parts part (kinds.Good status) (ToldRow (row_of (context_of q.talk).rows (facts_at login q).columns payload))
-    payload_alike part payload new same (kinds.Count n) = kind_alike q new same parts part (kinds.Count n) (ToldRow (row_of (context_of q.talk).rows (facts_at login q).columns payload))
-    payload_alike part payload new same kinds.Column = kind_alike q new same parts part kinds.Column (ToldRow (row_of (context_of q.talk).rows (facts_at login q).columns payload))
-    payload_alike part payload new same kinds.ColumnsDone = kind_alike q new same parts part kinds.ColumnsDone (ToldRow (row_of (context_of q.talk).rows (facts_at login q).columns payload))
-    payload_alike part payload new same kinds.Row = kind_alike q new same parts part kinds.Row (ToldRow (row_of (context_of q.talk).rows (facts_at login q).columns payload))
-    payload_alike part payload new same (kinds.End status) = kind_alike q new same parts part (kinds.End status) (ToldRow (row_of (context_of q.talk).rows (facts_at login q).columns payload))
-    payload_alike part payload new same kinds.Parameter = kind_alike q new same parts part kinds.Parameter (ToldRow (row_of (context_of q.talk).rows (facts_at login q).columns payload))
-    payload_alike part payload new same kinds.Field = kind_alike q new same parts part kinds.Field (ToldRow (row_of (context_of q.talk).rows (facts_at login q).columns payload))
+    payload_alike part payload new same k = kind_alike q new same parts part k (ToldRow (row_of (context_of q.talk).rows (facts_at login q).columns payload))
 
     front_alike : (part : Part) (x : Front) → Alike q (with_front login part parts q x) (with_front login part parts (with_sent bytes q) x)
     front_alike part Waiting = (refl, refl)
@@ -184,23 +150,15 @@ module _ (bytes : List ℕ) where
       let f = facts_at login q in
       command_alike q (with_statements (with_prepared (query_of (text_in call)) (prepared_by f) f.reply.fields q.statements) q) refl parts (Prepare (text_in call))
       (closing_of (terms_of login (exchanges q)) (leaving (query_of (text_in call)) (prepared_by f) q.statements))
-  part_alike login call (Give ∷ parts) q = (refl, refl)
   part_alike login call (Learn ∷ parts) q = learned_alike login q parts (is_rows (context_of q.talk).spot) (with_columns (id_in call) (facts_at login q).columns q.statements)
-  part_alike login call (Forget ∷ parts) q = (refl, refl)
   part_alike login call (Offered ∷ parts) q = offered_alike login q parts (can_reset (version_of (facts_at login q).version))
-  part_alike login call (Clear ∷ parts) q = (refl, refl)
   part_alike login call (Text text ∷ parts) q = command_alike q q refl parts call (Some (queried (terms_of login (exchanges q)) text))
-  part_alike login call (Flag flag ∷ parts) q = (refl, refl)
-  part_alike login call (Adopt change ∷ parts) q = (refl, refl)
   part_alike login call (Renew ∷ parts) q = command_alike q q refl parts call (Some (renewing login call q (facts_at login q)))
   part_alike login call (Drain ∷ parts) q = either q q.end_left _ _ _ _ (refl, refl) (either q (is_over q.talk) _ _ _ _ (refl, refl) (reads_alike login q parts Drain))
   part_alike login call (Undo ∷ parts) q = undone_alike login q parts call (is_given_up q.status)
-  part_alike login call (Undone ∷ parts) q = (refl, refl)
   part_alike login call (Refuse opts ∷ parts) q = unless_alike login q parts (begin_refusal opts (version_of (facts_at login q).version) q.status)
-  part_alike login call (Settle status ∷ parts) q = (refl, refl)
-  part_alike login call (GiveUp ∷ parts) q = (refl, refl)
-  part_alike login call (Try ∷ parts) q = (refl, refl)
   part_alike login call (Back ∷ parts) q = either q (is_over q.talk) _ _ _ _ (returned_alike login q parts q.trial) (reads_alike login q parts Back)
+  part_alike login call (part ∷ parts) q = (refl, refl)
 
   -- what was sent whole stays so
   none_of_none : (k : ℕ) → drop {A = ℕ} k [] ≡ []

@@ -1,11 +1,10 @@
 -- The parts of calls by their places, query by query and list by list.
 use Rattle.std.proofs.Common.{◌≡◌, ℕ, zero, suc, ◌+◌, ◌-◌, ◌*◌, ◌<◌, ◌≤◌, List, [], ◌∷◌, length, drop, slice_get, nat_lt, Bool, true, false, Option, Some, None, refl, sym, ap, ◌∙◌, subst, arith}
 use Rattle.std.proofs.lemmas.Bool.Decides.{nat_tests}
-use Rattle.std.proofs.lemmas.List.{length-append, length-reverse}
 use Rattle.my_params.specs.declared.params.Params.{Params}
 use Rattle.my_grammar.specs.declared.login.Login.{Login}
 use Rattle.my_reading.specs.declared.call.Call.{Call}
-use Rattle.my_reading.specs.Commands.{arranging_texts, at_most_one, settings_text}
+use Rattle.my_reading.specs.Commands.{arranging_texts}
 use Rattle.my_reading.specs.Course.{Part, All, Check, Command, Head, Learn, Run, Text, parts_of_batch, parts_of_lists, parts_of_queries, parts_of_texts}
 use Rattle.my_machine.specs.declared.part.Part.{Part as CodePart}
 use Rattle.my_machine.specs.declared.part.Part.TheVariants as parts
@@ -36,10 +35,6 @@ there : (xs : List (List ℕ)) (k : ℕ) → k < length xs → (x : List ℕ) ×
 there [] k h = absurd (omega arith)
 there (x ∷ xs) zero h = (x, refl)
 there (x ∷ xs) (suc k) h = there xs k (omega arith)
-
--- how many queries set a connection up
-pub texts_count : (login : Login) → length (arranging_texts login) ≡ length (at_most_one (settings_text login.packet_limit login.wait_timeout)) + (length login.init + length login.setup)
-texts_count login = grind (arith, length-append, length-reverse)
 
 module _ (login : Login) (call : Call) where
   -- parts that begin with this one

@@ -1,10 +1,8 @@
 -- The payload that was found is the one in front.
 use Rattle.std.proofs.Common.{◌≡◌, ℕ, suc, ◌+◌, ◌-◌, ◌<◌, ◌≤◌, inl, inr, List, ◌++◌, length, take, drop, None, Some, Ok, sym, subst, ap, ◌∙◌, arith, length-append}
 use Rattle.std.proofs.lemmas.List.{drop_at, take_at}
-use Rattle.my_frame.specs.declared.front.FramedPayload.{FramedPayload}
 use Rattle.my_frame.specs.declared.scan.Span.{Span}
 use Rattle.my_frame.specs.Chunks.{chunks, full_length, next_number, number_after_payload}
-use Rattle.my_frame.specs.Framed.{IsFramed}
 use Rattle.my_frame.specs.Front.{Front, Waiting, Broken, Whole, span_of}
 use Rattle.my_frame.specs.FrontLaws.{FrontMeans, IsWhole}
 use Rattle.my_frame.proofs.ChunkLaws.{BeginsFull, short_or_full, short_spelled, full_spelled}
@@ -72,17 +70,3 @@ found_there n limit bytes (Whole p rest next) span m e less =
       whole = ap (λ q. Whole q rest next) (sym (st.there short)) ∙ ap (λ r. Whole (take (length bytes - length rest - 4) (drop 4 bytes)) r next) (sym st.after);
       next = m.next_is ∙ ap (λ q. number_after_payload q n) (sym (st.there short));
     }) less
-
--- one that was joined
-pub joined_there : (n limit : ℕ) (bytes : List ℕ) (f : Front) (framed : FramedPayload) → FrontMeans n limit bytes f → IsFramed bytes f (Ok (Some framed)) → IsFound n bytes f (record { joined = Some framed.payload; span = framed.span })
-joined_there n limit bytes Waiting framed m e = absurd cc
-joined_there n limit bytes (Broken fault) framed m e = absurd cc
-joined_there n limit bytes (Whole p rest next) framed m e =
-    let st = whole_found n limit bytes p rest next m in
-    let same : record { payload = p; span = record { len = length bytes - length rest; next = next } } ≡ framed = cc in
-    subst (λ (x : FramedPayload). IsFound n bytes (Whole p rest next) (record { joined = Some x.payload; span = x.span })) same
-    (record {
-      placed = record { header = st.header; room = st.room };
-      whole = ap (λ r. Whole p r next) (sym st.after);
-      next = m.next_is;
-    })

@@ -16,7 +16,7 @@ use Rattle.my_machine.specs.Runs.{Runs, EachRuns, IsSomewhere, parts_left}
 use Rattle.my_machine.specs.Parts.{IsFirst, reverting_parts}
 use Rattle.my_machine.specs.Stands.{IsTurn, IsAt, steps as code_step}
 use Rattle.my_machine.proofs.Following.{Follows, steps_follow}
-use Rattle.my_machine.proofs.Shrinking.{size, size_of, step_size, weight}
+use Rattle.my_reading.proofs.Leading.{size, size_of, step_size, weight}
 
 -- where the steps so far led
 pub record LedTo (login : Login) (call : Call) (old : Progress) (p : Place) (now : Progress) (stand : Stand) : Type 0 where
@@ -63,13 +63,9 @@ after left (steps.Stops stop) = []
 
 on : (login : Login) (call : Call) (left : List Part) (p : Place) (new : Stand) (does : CodeStep) (rest : List Part) → ((stop : CodeStop) → does ≡ steps.Stops stop → ⊥) → rest ≡ after left does
     → (x : Step) → step login call left p ≡ x → Follows login left new does x → On login call left p rest new
-on login call left p new steps.Stays rest goes is (Goes more q) e f = record { place = q; at = f.1; goes = e ∙ ap (λ ps. Goes ps q) (f.0 ∙ sym is) }
-on login call left p new steps.Passes rest goes is (Goes more q) e f = record { place = q; at = f.1; goes = e ∙ ap (λ ps. Goes ps q) (f.0 ∙ sym is) }
-on login call left p new steps.Reverts rest goes is (Goes more q) e f = record { place = q; at = f.1; goes = e ∙ ap (λ ps. Goes ps q) (f.0 ∙ sym is) }
-on login call left p new steps.Stays rest goes is (Stops q s) e f = absurd f
-on login call left p new steps.Passes rest goes is (Stops q s) e f = absurd f
-on login call left p new steps.Reverts rest goes is (Stops q s) e f = absurd f
 on login call left p new (steps.Stops stop) rest goes is x e f = absurd (goes stop refl)
+on login call left p new _ rest goes is (Goes more q) e f = record { place = q; at = f.1; goes = e ∙ ap (λ ps. Goes ps q) (f.0 ∙ sym is) }
+on login call left p new _ rest goes is (Stops q s) e f = absurd f
 
 -- the work, at a place where the program is
 work_at : (login : Login) (call : Call) (o : Progress) (s : Stand) (p : Place) → IsAt login p s → work login call o s ≡ size (parts_left login call o) p

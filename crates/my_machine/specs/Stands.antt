@@ -44,7 +44,7 @@ use Rattle.my_reading.specs.declared.transaction.Trial.TheVariants as trials
 use Rattle.my_reading.specs.declared.transaction.TxStatus.{TxStatus}
 use Rattle.my_reading.specs.declared.transaction.TxStatus.TheVariants as txs
 use Rattle.my_reading.specs.Accounts.{changed}
-use Rattle.my_reading.specs.Commands.{arranging_texts, renewal_packet, renews_by_reset}
+use Rattle.my_reading.specs.Commands.{arranging_texts, renewal_packet, renews_by_reset, simple_packet}
 use Rattle.my_reading.specs.Calls.{id_in, is_connect, kind_of, text_in}
 use Rattle.my_reading.specs.Course.{first_above, is_greeting, is_rows}
 use Rattle.my_reading.specs.Executions.{Values, Fitting, Unfitting, values_for}
@@ -416,6 +416,11 @@ abbrev pub arranges : Option (List ℕ) → Stand → Turn
 arranges None s = turn Passes s
 arranges (Some text) s = asks spots.Head (packet_bytes (packets.Query text)) (suc s.arranged) s
 
+-- a command that one OK or ERR answers
+abbrev pub asks_simply : Option ClientPacket → Stand → Turn
+asks_simply None s = turn Passes s
+asks_simply (Some packet) s = asks spots.Single (packet_bytes packet) s.arranged s
+
 -- the call's next command, where it sends one
 abbrev pub commands : Call → Stand → Turn
 commands calls.Connect s = arranges (slice_get s.texts s.arranged) s
@@ -423,21 +428,8 @@ commands (calls.Query text) s = queries (calls.Query text) text s
 commands (calls.Prepare text) s = asks spots.Prepare (packet_bytes (packets.Prepare (query_of text))) s.arranged s
 commands (calls.Execute statement params) s = executes statement.inner.id (values_for statement params) s
 commands (calls.CloseStmt id) s = closes id s
-commands (calls.Batch statement lists) s = turn Passes s
-commands calls.NextRow s = turn Passes s
-commands calls.DropResult s = turn Passes s
-commands calls.TakeSet s = turn Passes s
-commands calls.SkipTaken s = turn Passes s
-commands calls.Ping s = asks spots.Single (packet_bytes packets.Ping) s.arranged s
-commands calls.Reset s = asks spots.Single (packet_bytes packets.ResetConnection) s.arranged s
-commands (calls.ChangeUser change) s = turn Passes s
-commands (calls.Begin opts) s = turn Passes s
-commands calls.Commit s = turn Passes s
-commands calls.Rollback s = turn Passes s
-commands calls.ForgetTransaction s = turn Passes s
-commands calls.CleanForPool s = turn Passes s
-commands calls.ResetForPool s = turn Passes s
 commands calls.Quit s = asks spots.Idle (packet_bytes packets.Quit) s.arranged s
+commands call s = asks_simply (simple_packet call) s
 
 -- a statement that is cached is returned
 abbrev pub finds_so : Option StatementView → Stand → Turn

@@ -36,14 +36,14 @@ use Rattle.my_reading.specs.Transactions.{begin_refusal, is_given_up, rollback_t
 use Rattle.my_reading.specs.Versions.{can_reset}
 
 -- an end that is left counts as one
-weight : Bool → ℕ
+unfoldable pub weight : Bool → ℕ
 weight false = 0
 weight true = 1
 
-size : List Part → Place → ℕ
+unfoldable pub size : List Part → Place → ℕ
 size parts p = suc (4 * length p.unread + 2 * length parts + weight p.end_left)
 
-size_of : Step → ℕ
+unfoldable pub size_of : Step → ℕ
 size_of (Goes parts p) = size parts p
 size_of (Stops p s) = 0
 
@@ -307,7 +307,7 @@ some_size : (parts : List Part) (p : Place) → 0 < size parts p
 unfolding size
 some_size parts p = omega arith
 
-step_size : (login : Login) (call : Call) (parts : List Part) (p : Place) → size_of (step login call parts p) < size parts p
+pub step_size : (login : Login) (call : Call) (parts : List Part) (p : Place) → size_of (step login call parts p) < size parts p
 unfolding step size_of
 step_size login call parts p = by_owed (owed p)
   where

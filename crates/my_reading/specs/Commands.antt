@@ -17,7 +17,7 @@ use Rattle.my_params.specs.LongData.{ahead_of}
 use Rattle.my_params.specs.Parameters.{body_of}
 use Rattle.my_handshake.specs.declared.version.ServerVersion.{ServerVersion}
 use Rattle.my_reading.specs.declared.call.Call.{Call}
-use Rattle.my_reading.specs.declared.call.Call.TheVariants.{Connect, Query, Prepare, Execute, Batch, CloseStmt, NextRow, DropResult, TakeSet, SkipTaken, Ping, Reset, ChangeUser, Begin, Commit, Rollback, ForgetTransaction, CleanForPool, ResetForPool, Quit}
+use Rattle.my_reading.specs.declared.call.Call.TheVariants.{Connect, Query, Prepare, Execute, CloseStmt, Ping, Reset, Quit}
 use Rattle.my_reading.specs.declared.facts.Facts.{Facts}
 use Rattle.my_reading.specs.declared.call.CallKind.{CallKind}
 use Rattle.my_reading.specs.declared.call.CallKind.TheVariants as kinds
@@ -39,16 +39,24 @@ execution terms st id (Unfitting e) = None
 abbrev pub closing : Terms → ℕ → Talk
 closing terms id = Silent terms (packet_bytes (packets.CloseStatement id))
 
+-- the packet of a call that sends one which one OK or ERR answers
+abbrev pub simple_packet : Call → Option ClientPacket
+simple_packet Ping = Some packets.Ping
+simple_packet Reset = Some packets.ResetConnection
+simple_packet _ = None
+
+abbrev pub simple : Terms → Option ClientPacket → Option Talk
+simple terms None = None
+simple terms (Some packet) = Some (Asked terms (packet_bytes packet))
+
 -- The exchange of the command of a call that sends one, between client and server that keep to these terms, where these statements are known.
 abbrev pub command_of : Terms → Statements → Call → Option Talk
 command_of terms st (Query text) = Some (queried terms text)
 command_of terms st (Prepare text) = Some (Preparing terms (packet_bytes (packets.Prepare (query_of text))) Unanswered)
 command_of terms st (Execute statement params) = execution terms st statement.inner.id (values_for statement params)
 command_of terms st (CloseStmt id) = Some (closing terms id)
-command_of terms st Ping = Some (Asked terms (packet_bytes packets.Ping))
-command_of terms st Reset = Some (Asked terms (packet_bytes packets.ResetConnection))
 command_of terms st Quit = Some (Silent terms (packet_bytes packets.Quit))
-command_of terms st _ = None
+command_of terms st call = simple terms (simple_packet call)
 
 -- The packet by which the server's session is renewed, where these are the capabilities of both sides, the server said this of itself, and
 -- the options in force have this account: the session is reset, or gets the user of the account.
@@ -99,22 +107,4 @@ connecting login terms (suc n) = arranging terms (slice_get (arranging_texts log
 -- those of a transaction, and the renewal of a session.
 abbrev pub opening : Login → Terms → Statements → Call → ℕ → Option Talk
 opening login terms st Connect n = connecting login terms n
-opening login terms st (Query text) n = command_of terms st (Query text)
-opening login terms st (Prepare text) n = command_of terms st (Prepare text)
-opening login terms st (Execute statement params) n = command_of terms st (Execute statement params)
-opening login terms st (Batch statement lists) n = None
-opening login terms st (CloseStmt id) n = command_of terms st (CloseStmt id)
-opening login terms st NextRow n = None
-opening login terms st DropResult n = None
-opening login terms st TakeSet n = None
-opening login terms st SkipTaken n = None
-opening login terms st Ping n = command_of terms st Ping
-opening login terms st Reset n = command_of terms st Reset
-opening login terms st (ChangeUser change) n = None
-opening login terms st (Begin opts) n = None
-opening login terms st Commit n = None
-opening login terms st Rollback n = None
-opening login terms st ForgetTransaction n = None
-opening login terms st CleanForPool n = None
-opening login terms st ResetForPool n = None
-opening login terms st Quit n = command_of terms st Quit
+opening login terms st call n = command_of terms st call

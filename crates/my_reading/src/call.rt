@@ -1,7 +1,8 @@
 //! What a caller asks of a connection.
 
-ghost use Rattle.std.specs.Prelude.{◌≡◌, IfOk};
+ghost use Rattle.std.specs.Prelude.{◌≡◌, IfOk, IfSome};
 
+use my_command::ClientPacket;
 use my_frame::{Blob, Listed, NoMemory};
 use my_opts::ChangeUserOpts;
 use my_opts_parts::TxOpts;
@@ -79,7 +80,9 @@ pub enum CallKind {
 }
 
 impl Call {
+    ghost use Rattle.my_command.specs.Client.Packet.{PartsFit};
     ghost use Rattle.my_reading.specs.Calls.{kind_of};
+    ghost use Rattle.my_reading.specs.Commands.{simple_packet};
 
     /// Which call it is.
     pub fn kind(&self) -> CallKind
@@ -106,6 +109,18 @@ impl Call {
             Call::CleanForPool => CallKind::CleanForPool,
             Call::ResetForPool => CallKind::ResetForPool,
             Call::Quit => CallKind::Quit,
+        }
+    }
+
+    /// The packet of a call that sends one which one OK or ERR answers.
+    pub fn simple_packet(&self) -> Option<ClientPacket>
+        ensures packet { result ≡ simple_packet self.now }
+        ensures fits { IfSome result PartsFit }
+    {
+        match self {
+            Call::Ping => Some(ClientPacket::Ping),
+            Call::Reset => Some(ClientPacket::ResetConnection),
+            _ => None,
         }
     }
 

@@ -10,7 +10,7 @@ use Rattle.my_reading.specs.declared.call.Call.TheVariants as calls
 use Rattle.my_reading.specs.declared.transaction.TxStatus.TheVariants as txs
 use Rattle.my_reading.specs.Accounts.{changed}
 use Rattle.my_reading.specs.Commands.{arranging_texts, setup_texts}
-use Rattle.my_reading.specs.Course.{Part, All, Head, Item, Set, Rest, Command, Find, Check, Run, Reply, Keep, Give, Learn, Forget, Offered, Clear, Text, Flag, Adopt, Renew, Drain, Undo, Undone, Refuse, Settle, GiveUp, Try, Back, Step, Goes, Stops, Stop, step, step_of, unless_owed, parts_of, parts_of_batch, parts_of_lists, parts_of_queries, parts_of_texts, renewed}
+use Rattle.my_reading.specs.Course.{Part, Flag, Adopt, Settle, Step, Goes, Stops, Stop, step, step_of, unless_owed, parts_of, parts_of_batch, parts_of_lists, parts_of_queries, parts_of_texts, renewed}
 use Rattle.my_reading.specs.Leads.{Leads, Here, Then}
 use Rattle.my_reading.specs.Place.{Place, owed, with_account}
 use Rattle.my_reading.specs.Transactions.{begin_texts}
@@ -26,33 +26,7 @@ use Rattle.my_session.proofs.Keeping.{Leaves, calm, step_leaves}
 -- what follows a part that changes nothing changes nothing, too
 calm_after : (part : Part) (parts : List Part) → calm (part ∷ parts) ≡ true → calm parts ≡ true
 calm_after (Adopt change) parts e = absurd (false≢true e)
-calm_after All parts e = e
-calm_after Head parts e = e
-calm_after Item parts e = e
-calm_after Set parts e = e
-calm_after Rest parts e = e
-calm_after Command parts e = e
-calm_after Find parts e = e
-calm_after (Check params) parts e = e
-calm_after (Run params) parts e = e
-calm_after Reply parts e = e
-calm_after Keep parts e = e
-calm_after Give parts e = e
-calm_after Learn parts e = e
-calm_after Forget parts e = e
-calm_after Offered parts e = e
-calm_after Clear parts e = e
-calm_after (Text text) parts e = e
-calm_after (Flag flag) parts e = e
-calm_after Renew parts e = e
-calm_after Drain parts e = e
-calm_after Undo parts e = e
-calm_after Undone parts e = e
-calm_after (Refuse opts) parts e = e
-calm_after (Settle status) parts e = e
-calm_after GiveUp parts e = e
-calm_after Try parts e = e
-calm_after Back parts e = e
+calm_after _ parts e = e
 
 calm_drop : (n : ℕ) (parts : List Part) → calm parts ≡ true → calm (drop n parts) ≡ true
 calm_drop zero parts e = e
@@ -89,24 +63,11 @@ Calmness login call = ((change : ChangeView) × (call ≡ calls.ChangeUser chang
 calmness : (login : Login) (call : Call) → Calmness login call
 calmness login (calls.ChangeUser change) = inl (change, refl)
 calmness login calls.Connect = inr (calm_texts (arranging_texts login))
-calmness login (calls.Query text) = inr refl
-calmness login (calls.Prepare text) = inr refl
-calmness login (calls.Execute statement params) = inr refl
 calmness login (calls.Batch statement lists) = inr (calm_batch lists)
-calmness login (calls.CloseStmt id) = inr refl
-calmness login calls.NextRow = inr refl
-calmness login calls.DropResult = inr refl
-calmness login calls.TakeSet = inr refl
-calmness login calls.SkipTaken = inr refl
-calmness login calls.Ping = inr refl
 calmness login calls.Reset = inr (calm_queries (setup_texts login) (Flag true ∷ []) refl)
 calmness login (calls.Begin opts) = inr (calm_queries (begin_texts opts) (Settle txs.InTransaction ∷ []) refl)
-calmness login calls.Commit = inr refl
-calmness login calls.Rollback = inr refl
-calmness login calls.ForgetTransaction = inr refl
-calmness login calls.CleanForPool = inr refl
 calmness login calls.ResetForPool = inr (calm_renewed login)
-calmness login calls.Quit = inr refl
+calmness login _ = inr refl
 
 calm_left : (login : Login) (call : Call) (o : Progress) → calm (parts_of login call) ≡ true → calm (parts_left login call o) ≡ true
 calm_left login call o e = by_reverting o.reverting refl

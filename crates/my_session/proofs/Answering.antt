@@ -4,10 +4,9 @@ use Rattle.my_grammar.specs.declared.account.Account.{Account}
 use Rattle.my_grammar.specs.declared.login.Login.{Login}
 use Rattle.my_opts.specs.ChangeUser.{ChangeView}
 use Rattle.my_opts.specs.Opts.{OptsView}
-use Rattle.my_machine.specs.declared.progress.Progress.{Progress}
 use Rattle.my_machine.specs.declared.stand.Stand.{Stand}
 use Rattle.my_machine.specs.declared.step.Stop.{Stop}
-use Rattle.my_machine.specs.Runs.{EachRuns, IsSomewhere}
+use Rattle.my_machine.specs.Runs.{EachRuns}
 use Rattle.my_machine.specs.Stands.{IsAt}
 use Rattle.my_reading.specs.declared.call.Call.{Call}
 use Rattle.my_reading.specs.declared.call.CallKind.{CallKind}
@@ -32,11 +31,6 @@ first_account o s at = ap (λ (x : Stand). x.account) at.stand_is
 
 pub begins_at : (o : OptsView) (s : Stand) → IsAt (login_of o) (first_place (login_of o)) s → IsAt (login_of o) (first_place (login_of o)) (record s { account = account_in o })
 begins_at o s at = subst (IsAt (login_of o) (first_place (login_of o))) (sym (with_its_account s (account_in o) (first_account o s at))) at
-
--- after the steps of a call the stand is at the place that they lead to
-pub stands_on : (login : Login) (first : Opened) (progress : Progress) (stop : Stop) (before now : Stand) → IsSomewhere login before
-    → EachRuns login first.call first.progress before stop progress now → IsSomewhere login now
-stands_on login first progress stop before now here runs = let r = runs here.0 here.1 in (r.end, r.at)
 
 -- the options are changed where the account is
 pub adopts_if : (first later : Option ChangeView) (a : Account) → adopted_if first (not (is_none later)) a ≡ adopted first later a

@@ -134,33 +134,7 @@ dropped_leaves parts p t rest short login (Some e) = (λ c. (c, refl), short)
 failed_leaves : (part : Part) (parts : List Part) (p : Place) (t : Talk) (rest : List ℕ) → length rest ≤ length p.unread → (login : Login) (x : Option ErrPacket)
     → Leaves (part ∷ parts) p (failed_at login part parts p (with_talk p t rest) x)
 failed_leaves Drain parts p t rest short login x = dropped_leaves parts p t rest short login x
-failed_leaves All parts p t rest short login x = err_leaves All parts p t rest short login x
-failed_leaves Head parts p t rest short login x = err_leaves Head parts p t rest short login x
-failed_leaves Item parts p t rest short login x = err_leaves Item parts p t rest short login x
-failed_leaves Set parts p t rest short login x = err_leaves Set parts p t rest short login x
-failed_leaves Rest parts p t rest short login x = err_leaves Rest parts p t rest short login x
-failed_leaves Command parts p t rest short login x = err_leaves Command parts p t rest short login x
-failed_leaves Find parts p t rest short login x = err_leaves Find parts p t rest short login x
-failed_leaves (Check params) parts p t rest short login x = err_leaves (Check params) parts p t rest short login x
-failed_leaves (Run params) parts p t rest short login x = err_leaves (Run params) parts p t rest short login x
-failed_leaves Reply parts p t rest short login x = err_leaves Reply parts p t rest short login x
-failed_leaves Keep parts p t rest short login x = err_leaves Keep parts p t rest short login x
-failed_leaves Give parts p t rest short login x = err_leaves Give parts p t rest short login x
-failed_leaves Learn parts p t rest short login x = err_leaves Learn parts p t rest short login x
-failed_leaves Forget parts p t rest short login x = err_leaves Forget parts p t rest short login x
-failed_leaves Offered parts p t rest short login x = err_leaves Offered parts p t rest short login x
-failed_leaves Clear parts p t rest short login x = err_leaves Clear parts p t rest short login x
-failed_leaves (Text text) parts p t rest short login x = err_leaves (Text text) parts p t rest short login x
-failed_leaves (Flag flag) parts p t rest short login x = err_leaves (Flag flag) parts p t rest short login x
-failed_leaves (Adopt change) parts p t rest short login x = err_leaves (Adopt change) parts p t rest short login x
-failed_leaves Renew parts p t rest short login x = err_leaves Renew parts p t rest short login x
-failed_leaves Undo parts p t rest short login x = err_leaves Undo parts p t rest short login x
-failed_leaves Undone parts p t rest short login x = err_leaves Undone parts p t rest short login x
-failed_leaves (Refuse opts) parts p t rest short login x = err_leaves (Refuse opts) parts p t rest short login x
-failed_leaves (Settle status) parts p t rest short login x = err_leaves (Settle status) parts p t rest short login x
-failed_leaves GiveUp parts p t rest short login x = err_leaves GiveUp parts p t rest short login x
-failed_leaves Try parts p t rest short login x = err_leaves Try parts p t rest short login x
-failed_leaves Back parts p t rest short login x = err_leaves Back parts p t rest short login x
+failed_leaves part parts p t rest short login x = err_leaves part parts p t rest short login x
 
 payload_leaves : (part : Part) (parts : List Part) (p : Place) (t : Talk) (rest : List ℕ) → length rest ≤ length p.unread → (login : Login) (payload : List ℕ) (k : Kind)
     → Leaves (part ∷ parts) p (after_payload login part parts p (with_talk p t rest) payload k)
@@ -254,9 +228,7 @@ part_leaves login call (Learn ∷ parts) p = by_rows (is_rows (context_of p.talk
     by_rows : (b : Bool) → is_rows (context_of p.talk).spot ≡ b → Leaves (Learn ∷ parts) p (Goes parts (learned call p (facts_at login p)))
     by_rows true e = rw e (λ c. (c, refl), same p)
     by_rows false e = rw e (λ c. (c, refl), same p)
-part_leaves login call (Forget ∷ parts) p = (λ c. (c, refl), same p)
 part_leaves login call (Offered ∷ parts) p = offered_leaves parts p (can_reset (version_of (facts_at login p).version))
-part_leaves login call (Clear ∷ parts) p = (λ c. (c, refl), same p)
 part_leaves login call (Text text ∷ parts) p = command_leaves (Text text ∷ parts) call parts p p (λ c. c) refl (same p) (Some (queried (terms_of login (exchanges p)) text))
 part_leaves login call (Flag flag ∷ parts) p = (refl, same p)
 part_leaves login call (Adopt change ∷ parts) p = (λ c. absurd (false≢true c), same p)
@@ -264,12 +236,9 @@ part_leaves login call (Renew ∷ parts) p = command_leaves (Renew ∷ parts) ca
 part_leaves login call (Drain ∷ parts) p =
     either (Drain ∷ parts) p p.end_left _ _ (λ _. (λ c. (c, refl), same p)) (λ _. either (Drain ∷ parts) p (is_over p.talk) _ _ (λ _. (λ c. (c, refl), same p)) (λ _. reads_leaves login Drain parts p))
 part_leaves login call (Undo ∷ parts) p = undone_leaves login call parts p (is_given_up p.status)
-part_leaves login call (Undone ∷ parts) p = (λ c. (c, refl), same p)
 part_leaves login call (Refuse opts ∷ parts) p = unbegun_leaves (Refuse opts ∷ parts) parts p (λ c. c) (begin_refusal opts (version_of (facts_at login p).version) p.status)
-part_leaves login call (Settle status ∷ parts) p = (λ c. (c, refl), same p)
-part_leaves login call (GiveUp ∷ parts) p = (λ c. (c, refl), same p)
-part_leaves login call (Try ∷ parts) p = (λ c. (c, refl), same p)
 part_leaves login call (Back ∷ parts) p = either (Back ∷ parts) p (is_over p.talk) _ _ (λ _. returned_leaves parts p p.trial) (λ _. reads_leaves login Back parts p)
+part_leaves login call (part ∷ parts) p = (λ c. (c, refl), same p)
 
 pub step_leaves : (login : Login) (call : Call) (parts : List Part) (p : Place) → Leaves parts p (step login call parts p)
 unfolding step

@@ -6,4 +6,5 @@ pub mod Login
 pub mod Rest
 pub mod Session
 pub mod Sessions
+pub mod Unread
 pub mod View

@@ -1,6 +1,6 @@
 //! The open call.
 
-ghost use Rattle.std.specs.Prelude.{◌≡◌, IfOk, not, is_none};
+ghost use Rattle.std.specs.Prelude.{◌≡◌, IfOk, not, is_none, option_map};
 ghost use Rattle.std.specs.Option.{option_copied};
 ghost use Rattle.my_session.specs.Adopts.{next_change};
 ghost use Rattle.my_session.specs.Sessions.{first_opened};
@@ -58,11 +58,11 @@ impl Opened {
         &self,
         alloc: Global,
         login: &Login,
-    ) -> Result<Option<ChangeUserOpts>, NoMemory>
-        ensures { IfOk result (λ change. change ≡ next_change login.now self.now) }
+    ) -> Result<Option<Box<ChangeUserOpts>>, NoMemory>
+        ensures { IfOk result (λ change. option_map (λ b. b.value) change ≡ next_change login.now self.now) }
     {
         match self.change(login) {
-            Some(change) => Ok(Some(change.copy(alloc)?)),
+            Some(change) => Ok(Some(Box::new(alloc, change.copy(alloc)?)?)),
             None => Ok(None),
         }
     }

@@ -1,6 +1,6 @@
 //! The steps of an open call, and what they make of the options.
 
-ghost use Rattle.std.specs.Prelude.{◌≡◌, IfOk, OnOk};
+ghost use Rattle.std.specs.Prelude.{◌≡◌, IfOk, OnOk, option_map};
 ghost use Rattle.my_machine.specs.Runs.{EachRuns, IsSomewhere};
 ghost use Rattle.my_session.specs.Login.{account_in, without_account};
 ghost use Rattle.my_session.specs.Adopts.{adopted_if};
@@ -13,8 +13,8 @@ use my_opts::{ChangeUserOpts, Opts};
 use std::alloc::Global;
 
 // The options are changed so, where a change was next and isn't next any more.
-fn adopt(change: Option<ChangeUserOpts>, later: bool, opts: &mut Opts)
-    ensures account { account_in opts.new ≡ adopted_if change later (account_in opts.old) }
+fn adopt(change: Option<Box<ChangeUserOpts>>, later: bool, opts: &mut Opts)
+    ensures account { account_in opts.new ≡ adopted_if (option_map (λ b. b.value) change) later (account_in opts.old) }
     ensures others { without_account opts.new ≡ without_account opts.old }
 {
     match change {
@@ -22,7 +22,7 @@ fn adopt(change: Option<ChangeUserOpts>, later: bool, opts: &mut Opts)
             if later {
                 drop(change);
             } else {
-                change.update_opts(opts);
+                Box::into_inner(change).update_opts(opts);
             }
         }
         None => {}

@@ -7,10 +7,12 @@ ghost use Rattle.my_reading.specs.Errors.{connection_closed};
 mod facts;
 mod lending;
 mod stepping;
+mod unread;
 
 use crate::answer::LinkFault;
 use crate::login::login_for;
 use crate::opened::Opened;
+use lending::is_full;
 use my_frame::NoMemory;
 use my_grammar::{Login, Spot};
 use my_machine::{Stand, closes_at, is_unrefused};
@@ -43,6 +45,8 @@ pub struct Session {
     last_io: u64,
     // What the caller's reads of the link read into, between them.
     buffer: Vec<u8>,
+    // Whether a read filled it.
+    is_busy: bool,
 }
 
 impl Model for Session {
@@ -101,6 +105,7 @@ impl Session {
             deadline,
             last_io: 0,
             buffer: Vec::new(alloc),
+            is_busy: false,
         })
     }
 
@@ -194,6 +199,7 @@ impl Session {
         ensures err { OnErr result (self.new.seen ≡ lost self.old.seen) }
         ensures lifetime { self.new.lifetime ≡ self.old.lifetime }
     {
+        self.is_busy = self.is_busy || is_full(bytes);
         match self.stand.take(bytes) {
             Ok(()) => Ok(()),
             Err(NoMemory) => {
@@ -229,7 +235,7 @@ impl Session {
         ensures seen { self.new.seen ≡ ended_by closes self.old.seen }
         ensures lifetime { self.new.lifetime ≡ self.old.lifetime }
     {
-        drop(mem::replace(&mut self.opened, None));
+        self.opened = None;
         self.closed = closes;
     }
 

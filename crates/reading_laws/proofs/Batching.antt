@@ -9,10 +9,10 @@ use Rattle.my_reading.specs.declared.call.Call.TheVariants.{Execute, Batch, Drop
 use Rattle.my_grammar.specs.Cut.{is_over}
 use Rattle.my_reading.specs.declared.transaction.TxStatus.{TxStatus}
 use Rattle.my_reading.specs.declared.transaction.TxStatus.TheVariants as txs
-use Rattle.my_reading.specs.Course.{Part, All, Head, Command, Check, Run, Learn, Undo, Undone, Back, Step, Goes, Stops, Stop, Owes, Awaits, Returns, Halt, halt, step, step_of, unless_owed, reads, undone, clean, parts_of, parts_of_batch, parts_of_lists, course}
+use Rattle.my_reading.specs.Course.{Part, All, Head, Command, Check, Run, Learn, Undo, Undone, Back, Step, Goes, Stops, Stop, Owes, Returns, Halt, halt, step, step_of, unless_owed, reads, undone, clean, parts_of, parts_of_batch, parts_of_lists, course}
 use Rattle.my_reading.specs.Leads.{Leads, Here, Then}
 use Rattle.my_reading.specs.Place.{Place, owed, with_status, without_end}
-use Rattle.my_reading.specs.Told.{ToldReady, ToldRow, ToldEnd, ToldNone, ToldStatement, ToldFlag, ToldError, ToldPassed, Dropped}
+use Rattle.my_reading.specs.Told.{ToldReady}
 use Rattle.my_reading.specs.Transactions.{is_given_up, rolled_back}
 use Rattle.my_reading.proofs.Leading.{leads_to_course}
 use Rattle.reading_laws.specs.Batches.{Alike, AlikePlaces, BatchesAreExecutions, all_done, executions, then_go}
@@ -157,17 +157,8 @@ module _ (login : Login) (c d : Call) (tail : List Part) where
 
 -- a call that isn't ready is the last one
 last : (p : Place) (s : Stop) (go : Place → Halt) → is_ready s ≡ false → then_go p s go ≡ halt p s
-last p Owes go e = refl
-last p Awaits go e = refl
 last p (Returns ToldReady) go e = absurd (cc)
-last p (Returns (ToldRow row)) go e = refl
-last p (Returns ToldEnd) go e = refl
-last p (Returns ToldNone) go e = refl
-last p (Returns (ToldStatement statement)) go e = refl
-last p (Returns (ToldFlag flag)) go e = refl
-last p (Returns (ToldError x)) go e = refl
-last p (Returns (ToldPassed x)) go e = refl
-last p (Returns (Dropped closing)) go e = refl
+last p _ go e = refl
 
 module _ (login : Login) (statement : StatementView) (all : List Params) where
   abbrev batch : Call

@@ -180,14 +180,7 @@ module _ (login : Login) (c d : Call) (tail : List Part) (p : Place) (call : Cal
     payload_beside by_kind kinds.Failed = failed_beside (err_at (is_greeting (context_of p.talk).spot) payload)
     payload_beside by_kind (kinds.Greets n) = either c d tail most (nat_lt (limit_of p.talk) (length (response login payload))) _ _ _ _ (λ _. (here, refl, refl)) (λ _. again (kinds.Greets n))
     payload_beside by_kind (kinds.Prepared params columns) = cached_beside (kinds.Prepared params columns) (prepare_ok_at payload)
-    payload_beside by_kind (kinds.Good status) = by_kind (kinds.Good status) _ _
-    payload_beside by_kind (kinds.Count n) = by_kind (kinds.Count n) _ _
-    payload_beside by_kind kinds.Column = by_kind kinds.Column _ _
-    payload_beside by_kind kinds.ColumnsDone = by_kind kinds.ColumnsDone _ _
-    payload_beside by_kind kinds.Row = by_kind kinds.Row _ _
-    payload_beside by_kind (kinds.End status) = by_kind (kinds.End status) _ _
-    payload_beside by_kind kinds.Parameter = by_kind kinds.Parameter _ _
-    payload_beside by_kind kinds.Field = by_kind kinds.Field _ _
+    payload_beside by_kind k = by_kind k _ _
 
   reads_beside : (part : Part) → is_drain part ≡ false → (xs ys : List Part) → ((k : Kind) (payload rest : List ℕ) → Placed c d tail (with_talk p (grow k p.talk payload) rest) (part ∷ xs) (part ∷ ys))
       → ((k : Kind) (payload rest : List ℕ) (row other : Told) → length rest < length p.unread

@@ -84,14 +84,7 @@ module _ (R : Step → Type 0) (p : Place) (stops : StopsHave R p) where
     payload_has q rest (kinds.Greets n) e = either R (nat_lt (limit_of p.talk) (length (response login q))) _ _ (stops _ refl)
         (again (kinds.Greets n) q rest (record { kind_is = e; fits = refl; good = refl; fresh = tt }))
     payload_has q rest (kinds.Prepared params columns) e = head_has q rest params columns e (prepare_ok_at q) refl
-    payload_has q rest (kinds.Good status) e = other (kinds.Good status) q rest _ (record { kind_is = e; fits = refl; good = refl; fresh = tt })
-    payload_has q rest (kinds.Count n) e = other (kinds.Count n) q rest _ (record { kind_is = e; fits = refl; good = refl; fresh = tt })
-    payload_has q rest kinds.Column e = other kinds.Column q rest _ (record { kind_is = e; fits = refl; good = refl; fresh = tt })
-    payload_has q rest kinds.ColumnsDone e = other kinds.ColumnsDone q rest _ (record { kind_is = e; fits = refl; good = refl; fresh = tt })
-    payload_has q rest kinds.Row e = other kinds.Row q rest _ (record { kind_is = e; fits = refl; good = refl; fresh = tt })
-    payload_has q rest (kinds.End status) e = other (kinds.End status) q rest _ (record { kind_is = e; fits = refl; good = refl; fresh = tt })
-    payload_has q rest kinds.Parameter e = other kinds.Parameter q rest _ (record { kind_is = e; fits = refl; good = refl; fresh = tt })
-    payload_has q rest kinds.Field e = other kinds.Field q rest _ (record { kind_is = e; fits = refl; good = refl; fresh = tt })
+    payload_has q rest k e = other k q rest _ (record { kind_is = e; fits = refl; good = refl; fresh = tt })
 
     front_has : (x : Front) → R (with_front login part parts p x)
     front_has Waiting = stops Awaits refl

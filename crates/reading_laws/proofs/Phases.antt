@@ -14,7 +14,7 @@ use Rattle.my_reading.specs.Place.{Place}
 use Rattle.my_reading.specs.declared.transaction.Trial.{Trial}
 use Rattle.my_reading.specs.declared.transaction.Trial.TheVariants.{Refused}
 use Rattle.my_reading.specs.Statements.{held_in, query_of}
-use Rattle.my_reading.specs.Told.{ToldReady, ToldRow, ToldEnd, ToldNone, ToldStatement, ToldFlag, ToldError, ToldPassed, Dropped}
+use Rattle.my_reading.specs.Told.{ToldError, Dropped}
 use Rattle.reading_laws.specs.Kept.{Resets, is_answered, is_reset, is_settled, leaves_open}
 use Rattle.reading_laws.proofs.Cleaning.{Cleans}
 use Rattle.reading_laws.proofs.Having.{StopsHave}
@@ -87,28 +87,16 @@ IsFine call (Stops p s) = is_settled call s ≡ true → Holds p
 pub answer_leaves_open : (s : Stop) → is_answered s ≡ true → leaves_open s ≡ true
 answer_leaves_open Owes e = absurd (cc)
 answer_leaves_open Awaits e = absurd (cc)
-answer_leaves_open (Returns ToldReady) e = refl
-answer_leaves_open (Returns (ToldRow row)) e = refl
-answer_leaves_open (Returns ToldEnd) e = refl
-answer_leaves_open (Returns ToldNone) e = refl
-answer_leaves_open (Returns (ToldStatement statement)) e = refl
-answer_leaves_open (Returns (ToldFlag flag)) e = refl
 answer_leaves_open (Returns (ToldError x)) e = absurd (cc)
-answer_leaves_open (Returns (ToldPassed x)) e = refl
 answer_leaves_open (Returns (Dropped closing)) e = absurd (cc)
+answer_leaves_open _ e = refl
 
 is_unanswered : (s : Stop) → leaves_open s ≡ false → is_answered s ≡ false
 is_unanswered Owes e = refl
 is_unanswered Awaits e = refl
-is_unanswered (Returns ToldReady) e = absurd (cc)
-is_unanswered (Returns (ToldRow row)) e = absurd (cc)
-is_unanswered (Returns ToldEnd) e = absurd (cc)
-is_unanswered (Returns ToldNone) e = absurd (cc)
-is_unanswered (Returns (ToldStatement statement)) e = absurd (cc)
-is_unanswered (Returns (ToldFlag flag)) e = absurd (cc)
 is_unanswered (Returns (ToldError x)) e = refl
-is_unanswered (Returns (ToldPassed x)) e = absurd (cc)
 is_unanswered (Returns (Dropped closing)) e = refl
+is_unanswered _ e = absurd (cc)
 
 -- A call that prepares or closes a statement isn't settled where it closes the session, or is left open.
 pub preparing_stops : (text : List ℕ) (p : Place) → StopsHave (IsFine (Prepare text)) p

@@ -1,5 +1,6 @@
 -- Each step of a call keeps its statements, by the parts that are left.
 use Rattle.std.proofs.Common.{◌≡◌, ℕ, suc, zero, Bool, true, false, cond, ◌||◌, Option, Some, None, IfSome, List, [], ◌∷◌, slice_get, refl, subst}
+use Rattle.my_command.specs.declared.client.ClientPacket.{ClientPacket}
 use Rattle.my_command.specs.declared.client.ClientPacket.TheVariants as packets
 use Rattle.my_command.specs.Client.Packet.{client_bytes as packet_bytes}
 use Rattle.my_grammar.specs.declared.login.Login.{Login}
@@ -12,11 +13,11 @@ use Rattle.my_grammar.specs.Prepares.{Unanswered}
 use Rattle.my_grammar.specs.Talk.{Talk, Preparing, context_of}
 use Rattle.my_statements.specs.Cache.{Held}
 use Rattle.my_reading.specs.declared.call.Call.{Call}
-use Rattle.my_reading.specs.declared.call.Call.TheVariants.{Connect, Query, Prepare, Execute, Batch, CloseStmt, Ping, Reset, ChangeUser, Begin, ResetForPool, Quit}
+use Rattle.my_reading.specs.declared.call.Call.TheVariants.{Connect, Query, Prepare, Execute, Batch, CloseStmt, Reset, ChangeUser, Begin, ResetForPool, Quit}
 use Rattle.my_params.specs.declared.params.Params.{Params}
 use Rattle.my_reading.specs.Accounts.{changed}
 use Rattle.my_reading.specs.Calls.{id_in, statement_in}
-use Rattle.my_reading.specs.Commands.{arranging, arranging_texts, closing, connecting, execution, opening, queried, setup_texts}
+use Rattle.my_reading.specs.Commands.{arranging, arranging_texts, closing, connecting, execution, opening, queried, setup_texts, simple, simple_packet}
 use Rattle.my_reading.specs.Course.{Part, All, Head, Item, Set, Rest, Command, Find, Check, Run, Reply, Keep, Give, Learn, Forget, Offered, Clear, Text, Flag, Adopt, Renew, Drain, Undo, Undone, Refuse, Settle, GiveUp, Try, Back, Goes, step, step_of, unless_owed, reads, after_kind, with_command, found, checked, executed, closing_of, learned, offered, undone, unless_refused, is_drain, is_rows, clean, parts_of, parts_of_batch, parts_of_lists, parts_of_queries, parts_of_texts, Owes}
 use Rattle.my_reading.specs.Executions.{Values, Fitting, Unfitting, values_for}
 use Rattle.my_reading.specs.Facts.{prepared_by}
@@ -57,6 +58,11 @@ unfolding PreparesNothing
 execution_plain terms st id (Fitting values) = (refl, refl)
 execution_plain terms st id (Unfitting e) = tt
 
+simple_plain : (terms : Terms) (x : Option ClientPacket) → IfSome (simple terms x) PreparesNothing
+unfolding PreparesNothing
+simple_plain terms None = tt
+simple_plain terms (Some packet) = (refl, refl)
+
 opening_plain : (login : Login) (terms : Terms) (st : Statements) (call : Call) (n : ℕ) → prepares call ≡ false → IfSome (opening login terms st call n) PreparesNothing
 unfolding PreparesNothing
 opening_plain login terms st Connect n e = connecting_plain login terms n
@@ -64,43 +70,15 @@ opening_plain login terms st (Query text) n e = (refl, refl)
 opening_plain login terms st (Prepare text) n e = absurd (cc)
 opening_plain login terms st (Execute statement params) n e = execution_plain terms st statement.inner.id (values_for statement params)
 opening_plain login terms st (CloseStmt id) n e = (refl, refl)
-opening_plain login terms st Ping n e = (refl, refl)
-opening_plain login terms st Reset n e = (refl, refl)
 opening_plain login terms st Quit n e = (refl, refl)
--- a call that `opening` has no exchange for
-opening_plain login terms st call n e = tt
+opening_plain login terms st call n e = simple_plain terms (simple_packet call)
 
 -- a call that prepares nothing, at each of its parts
 module _ (login : Login) (call : Call) (other : prepares call ≡ false) where
   -- the same parts are left, or fewer
   steady_kind : (part : Part) (parts : List Part) → is_plain (part ∷ parts) ≡ true → (k : Kind) (new : Place) (row : Told) → Holds new
       → IsFine call (after_kind part parts k new row)
-  steady_kind All parts e k new row w = Steady call (All ∷ parts) new e other w
-  steady_kind Command parts e k new row w = Steady call (Command ∷ parts) new e other w
-  steady_kind Rest parts e k new row w = Steady call (Rest ∷ parts) new e other w
-  steady_kind (Check params) parts e k new row w = Steady call (Check params ∷ parts) new e other w
-  steady_kind (Run params) parts e k new row w = Steady call (Run params ∷ parts) new e other w
-  steady_kind Learn parts e k new row w = Steady call (Learn ∷ parts) new e other w
-  steady_kind Offered parts e k new row w = Steady call (Offered ∷ parts) new e other w
-  steady_kind (Text text) parts e k new row w = Steady call (Text text ∷ parts) new e other w
-  steady_kind (Flag flag) parts e k new row w = Steady call (Flag flag ∷ parts) new e other w
-  steady_kind (Adopt change) parts e k new row w = Steady call (Adopt change ∷ parts) new e other w
-  steady_kind Drain parts e k new row w = Steady call (Drain ∷ parts) new e other w
-  steady_kind Undo parts e k new row w = Steady call (Undo ∷ parts) new e other w
-  steady_kind Undone parts e k new row w = Steady call (Undone ∷ parts) new e other w
-  steady_kind (Refuse opts) parts e k new row w = Steady call (Refuse opts ∷ parts) new e other w
-  steady_kind (Settle status) parts e k new row w = Steady call (Settle status ∷ parts) new e other w
-  steady_kind GiveUp parts e k new row w = Steady call (GiveUp ∷ parts) new e other w
-  steady_kind Try parts e k new row w = Steady call (Try ∷ parts) new e other w
   steady_kind Back parts e k new row w = absurd (cc)
-  steady_kind Head parts e (kinds.Good status) new row w = Steady call parts (with_end new) e other w
-  steady_kind Head parts e _ new row w = Steady call (Head ∷ parts) new e other w
-  steady_kind Item parts e (kinds.Good status) new row w = λ _. w
-  steady_kind Item parts e (kinds.End status) new row w = λ _. w
-  steady_kind Item parts e kinds.Row new row w = λ _. w
-  steady_kind Item parts e _ new row w = Steady call (Item ∷ parts) new e other w
-  steady_kind Set parts e (kinds.Good status) new row w = λ _. w
-  steady_kind Set parts e _ new row w = Steady call (Set ∷ parts) new e other w
   steady_kind Find parts e k new row w = absurd (cc)
   steady_kind Reply parts e k new row w = absurd (cc)
   steady_kind Keep parts e k new row w = absurd (cc)
@@ -108,6 +86,12 @@ module _ (login : Login) (call : Call) (other : prepares call ≡ false) where
   steady_kind Forget parts e k new row w = absurd (cc)
   steady_kind Renew parts e k new row w = absurd (cc)
   steady_kind Clear parts e k new row w = absurd (cc)
+  steady_kind Head parts e (kinds.Good status) new row w = Steady call parts (with_end new) e other w
+  steady_kind Item parts e (kinds.Good status) new row w = λ _. w
+  steady_kind Item parts e (kinds.End status) new row w = λ _. w
+  steady_kind Item parts e kinds.Row new row w = λ _. w
+  steady_kind Set parts e (kinds.Good status) new row w = λ _. w
+  steady_kind part parts e k new row w = Steady call (part ∷ parts) new e other w
 
   steady_reads : (part : Part) → is_drain part ≡ false → (parts : List Part) (p : Place) → is_plain (part ∷ parts) ≡ true → Holds p → IsFine call (reads login part parts p)
   steady_reads part tells parts p e w = reads_have (IsFine call) p (λ s _ _. w) login part parts tells
@@ -165,11 +149,6 @@ module _ (login : Login) (call : Call) (other : prepares call ≡ false) where
   steady (Run params ∷ parts) p e w = command_has (IsFine call) p (λ s _ _. w) call parts (executed login call p params) (Steady call parts p e other w)
       (λ t i. steady_begun t parts p (executed login call p params) (execution_plain (terms_of login (exchanges p)) p.statements (id_in call) (values_for (statement_in call) params)) i e w)
   steady (Learn ∷ parts) p e w = Steady call parts (learned call p (facts_at login p)) e other (learned_holds (λ i. ⊥) call p (facts_at login p) w)
-  steady (Find ∷ parts) p e w = absurd (cc)
-  steady (Reply ∷ parts) p e w = absurd (cc)
-  steady (Keep ∷ parts) p e w = absurd (cc)
-  steady (Give ∷ parts) p e w = absurd (cc)
-  steady (Forget ∷ parts) p e w = absurd (cc)
   steady (Offered ∷ parts) p e w = steady_offered parts p (can_reset (version_of (facts_at login p).version)) e w
   steady (Text text ∷ parts) p e w = steady_asked parts p (terms_of login (exchanges p)) text e w
   steady (Flag flag ∷ parts) p e w = λ _. w
@@ -182,9 +161,7 @@ module _ (login : Login) (call : Call) (other : prepares call ≡ false) where
   steady (Settle status ∷ parts) p e w = Steady call parts (with_trial trials.Off (with_status status p)) e other w
   steady (GiveUp ∷ parts) p e w = Steady call parts (with_status (given_up p.status) p) e other w
   steady (Try ∷ parts) p e w = Steady call parts (with_trial trials.On p) e other w
-  steady (Back ∷ parts) p e w = absurd (cc)
-  steady (Renew ∷ parts) p e w = absurd (cc)
-  steady (Clear ∷ parts) p e w = absurd (cc)
+  steady (part ∷ parts) p e w = absurd (cc)
 
 -- a call that prepares a statement
 module _ (login : Login) (text : List ℕ) where

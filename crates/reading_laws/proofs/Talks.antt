@@ -13,7 +13,7 @@ use Rattle.my_grammar.specs.Cut.{is_over}
 use Rattle.my_grammar.specs.Growth.{grow, grow_start}
 use Rattle.my_grammar.specs.Prepares.{Described, PreparedHead, Reply, Unanswered, Refused, InParameters, AfterParameters, InFields, AfterFields, Complete, described_packets, grow_reply, head_packet, open_part, closed_part, packets_in_reply, with_field, with_head, with_parameter, with_parameters, with_part_end}
 use Rattle.my_grammar.specs.Sets.{at_most_one, each}
-use Rattle.my_grammar.specs.Talk.{Talk, Start, Unwelcome, Greeted, Settled, Asked, Replied, Queried, Preparing, Silent, packets_of}
+use Rattle.my_grammar.specs.Talk.{Talk, Start, Preparing, packets_of}
 use Rattle.my_reading.specs.declared.facts.Facts.{Facts}
 use Rattle.my_reading.specs.Facts.{facts_by, with_field as learn_field, with_head as learn_head, with_parameter as learn_parameter}
 use Rattle.reading_laws.specs.Kept.{id_in_reply, prepared_in}
@@ -43,11 +43,6 @@ start_done P k login q = by_kind k
 
 reply_done : (P : ℕ → Type 0) (d : Bool) (k : Kind) (r : Reply) (q : List ℕ) → IfSome (id_in_reply r) P → is_open_reply r ≡ false
     → IfSome (id_in_reply (grow_reply d k r q)) P × (is_open_reply (grow_reply d k r q) ≡ false)
-reply_done P d k Unanswered q w e = absurd (cc)
-reply_done P d k (InParameters h ps left) q w e = absurd (cc)
-reply_done P d k (AfterParameters h ps) q w e = absurd (cc)
-reply_done P d k (InFields h a ps left) q w e = absurd (cc)
-reply_done P d k (AfterFields h a ps) q w e = absurd (cc)
 reply_done P d k (Refused p) q w e = by_kind k
   where
     by_kind : (k : Kind) → IfSome (id_in_reply (grow_reply d k (Refused p) q)) P × (is_open_reply (grow_reply d k (Refused p) q) ≡ false)
@@ -58,17 +53,12 @@ reply_done P d k (Complete h a b) q w e = by_kind k
     by_kind : (k : Kind) → IfSome (id_in_reply (grow_reply d k (Complete h a b) q)) P × (is_open_reply (grow_reply d k (Complete h a b) q) ≡ false)
     by_kind kinds.Failed = (tt, refl)
     by_kind _ = (w, refl)
+reply_done P d k _ q w e = absurd (cc)
 
 pub grown_done : (P : ℕ → Type 0) (k : Kind) (t : Talk) (q : List ℕ) → IsDone P t → IsDone P (grow k t q)
 grown_done P k (Start login) q w = start_done P k login q
-grown_done P k (Unwelcome login p) q w = (tt, refl)
-grown_done P k (Greeted login p n) q w = (tt, refl)
-grown_done P k (Settled login p n last kind) q w = (tt, refl)
-grown_done P k (Asked terms c) q w = (tt, refl)
-grown_done P k (Replied terms c last kind) q w = (tt, refl)
-grown_done P k (Queried terms c sets) q w = (tt, refl)
 grown_done P k (Preparing terms c r) q w = reply_done P (deprecates_eof terms.kept) k r q w.0 w.1
-grown_done P k (Silent terms c) q w = (tt, refl)
+grown_done P k _ q w = (tt, refl)
 
 -- The reply to a statement to prepare, no ERR, whose head, where it has come, has an id with P.
 abbrev pub HasFresh : (PrepareOk → Type 0) → PreparedHead → Type 0
@@ -106,39 +96,19 @@ module _ (P : PrepareOk → Type 0) where
 
   head_fresh : (r : Reply) (h : PreparedHead) → IsFreshReply P r → HasFresh P h → IsFreshReply P (with_head r h)
   head_fresh Unanswered h w v = either (h.params == 0) _ _ (parameters_fresh h (open_part []) v) v
-  head_fresh (Refused p) h w v = w
-  head_fresh (InParameters g ps left) h w v = w
-  head_fresh (AfterParameters g ps) h w v = w
-  head_fresh (InFields g a ps left) h w v = w
-  head_fresh (AfterFields g a ps) h w v = w
-  head_fresh (Complete g a b) h w v = w
+  head_fresh _ h w v = w
 
   parameter_fresh : (d : Bool) (r : Reply) (q : List ℕ) → IsFreshReply P r → IsFreshReply P (with_parameter d r q)
-  parameter_fresh d Unanswered q w = w
-  parameter_fresh d (Refused p) q w = w
   parameter_fresh d (InParameters h ps left) q w = either (nat_le left 1) _ _ (either d _ _ (parameters_fresh h (open_part (q ∷ ps)) w) w) w
-  parameter_fresh d (AfterParameters h ps) q w = w
-  parameter_fresh d (InFields h a ps left) q w = w
-  parameter_fresh d (AfterFields h a ps) q w = w
-  parameter_fresh d (Complete h a b) q w = w
+  parameter_fresh d _ q w = w
 
   field_fresh : (d : Bool) (r : Reply) (q : List ℕ) → IsFreshReply P r → IsFreshReply P (with_field d r q)
-  field_fresh d Unanswered q w = w
-  field_fresh d (Refused p) q w = w
-  field_fresh d (InParameters h ps left) q w = w
-  field_fresh d (AfterParameters h ps) q w = w
   field_fresh d (InFields h a ps left) q w = either (nat_le left 1) _ _ (either d _ _ w w) w
-  field_fresh d (AfterFields h a ps) q w = w
-  field_fresh d (Complete h a b) q w = w
+  field_fresh d _ q w = w
 
   end_fresh : (r : Reply) (q : List ℕ) → IsFreshReply P r → IsFreshReply P (with_part_end r q)
-  end_fresh Unanswered q w = w
-  end_fresh (Refused p) q w = w
-  end_fresh (InParameters h ps left) q w = w
   end_fresh (AfterParameters h ps) q w = parameters_fresh h (closed_part ps q) w
-  end_fresh (InFields h a ps left) q w = w
-  end_fresh (AfterFields h a ps) q w = w
-  end_fresh (Complete h a b) q w = w
+  end_fresh _ q w = w
 
   reply_fresh : (d : Bool) (k : Kind) (r : Reply) (q : List ℕ) → is_failed k ≡ false → ComesFresh P k q → IsFreshReply P r → IsFreshReply P (grow_reply d k r q)
   reply_fresh d kinds.Failed r q e v w = absurd (cc)
@@ -150,26 +120,12 @@ module _ (P : PrepareOk → Type 0) where
 
   pub grown_fresh : (k : Kind) (t : Talk) (q : List ℕ) → is_failed k ≡ false → ComesFresh P k q → IsFresh P t → IsFresh P (grow k t q)
   grown_fresh k (Preparing terms c r) q e v w = reply_fresh (deprecates_eof terms.kept) k r q e v w
-  grown_fresh k (Start login) q e v w = absurd w
-  grown_fresh k (Unwelcome login p) q e v w = absurd w
-  grown_fresh k (Greeted login p n) q e v w = absurd w
-  grown_fresh k (Settled login p n last kind) q e v w = absurd w
-  grown_fresh k (Asked terms c) q e v w = absurd w
-  grown_fresh k (Replied terms c last kind) q e v w = absurd w
-  grown_fresh k (Queried terms c sets) q e v w = absurd w
-  grown_fresh k (Silent terms c) q e v w = absurd w
+  grown_fresh k _ q e v w = absurd w
 
 -- an ERR in its place
 pub refused_done : (P : PrepareOk → Type 0) (Q : ℕ → Type 0) (t : Talk) (q : List ℕ) → IsFresh P t → IsDone Q (grow kinds.Failed t q)
 refused_done P Q (Preparing terms c r) q w = (tt, refl)
-refused_done P Q (Start login) q w = absurd w
-refused_done P Q (Unwelcome login p) q w = absurd w
-refused_done P Q (Greeted login p n) q w = absurd w
-refused_done P Q (Settled login p n last kind) q w = absurd w
-refused_done P Q (Asked terms c) q w = absurd w
-refused_done P Q (Replied terms c last kind) q w = absurd w
-refused_done P Q (Queried terms c sets) q w = absurd w
-refused_done P Q (Silent terms c) q w = absurd w
+refused_done P Q _ q w = absurd w
 
 -- what comes after the head has no id
 parameter_id : (o : Option Column) (f : Facts) → (learn_parameter o f).reply.id ≡ f.reply.id
@@ -210,39 +166,20 @@ head_id P h f id e w = by_ok (prepare_ok_at h.payload) e w
 
 whole_reply : (P : ℕ → Type 0) (r : Reply) (f : Facts) → IsFreshReply (λ ok. P ok.id) r → is_open_reply r ≡ false
     → IfSome (id_in_reply r) (λ i. ((facts_by (packets_in_reply r) f).reply.id ≡ i) × P i)
-whole_reply P Unanswered f w e = absurd (cc)
 whole_reply P (Refused p) f w e = absurd w
-whole_reply P (InParameters h ps left) f w e = absurd (cc)
-whole_reply P (AfterParameters h ps) f w e = absurd (cc)
-whole_reply P (InFields h a ps left) f w e = absurd (cc)
-whole_reply P (AfterFields h a ps) f w e = absurd (cc)
 whole_reply P (Complete h a b) f w e = head_id P h f (facts_by (packets_in_reply (Complete h a b)) f).reply.id (whole_id h a b f) w
+whole_reply P _ f w e = absurd (cc)
 
 pub over_is_done : (P : PrepareOk → Type 0) (t : Talk) → IsFresh P t → is_over t ≡ true → is_open t ≡ false
 over_is_done P (Preparing terms c Unanswered) w e = absurd (cc)
-over_is_done P (Preparing terms c (Refused p)) w e = absurd w
 over_is_done P (Preparing terms c (InParameters h ps left)) w e = absurd (cc)
 over_is_done P (Preparing terms c (AfterParameters h ps)) w e = absurd (cc)
 over_is_done P (Preparing terms c (InFields h a ps left)) w e = absurd (cc)
 over_is_done P (Preparing terms c (AfterFields h a ps)) w e = absurd (cc)
 over_is_done P (Preparing terms c (Complete h a b)) w e = refl
-over_is_done P (Start login) w e = absurd w
-over_is_done P (Unwelcome login p) w e = absurd w
-over_is_done P (Greeted login p n) w e = absurd w
-over_is_done P (Settled login p n last kind) w e = absurd w
-over_is_done P (Asked terms c) w e = absurd w
-over_is_done P (Replied terms c last kind) w e = absurd w
-over_is_done P (Queried terms c sets) w e = absurd w
-over_is_done P (Silent terms c) w e = absurd w
+over_is_done P _ w e = absurd w
 
 pub whole_talk : (P : ℕ → Type 0) (t : Talk) (f : Facts) → IsFresh (λ ok. P ok.id) t → is_open t ≡ false
     → IfSome (prepared_in t) (λ i. ((facts_by (packets_of t) f).reply.id ≡ i) × P i)
 whole_talk P (Preparing terms c r) f w e = whole_reply P r f w e
-whole_talk P (Start login) f w e = absurd w
-whole_talk P (Unwelcome login p) f w e = absurd w
-whole_talk P (Greeted login p n) f w e = absurd w
-whole_talk P (Settled login p n last kind) f w e = absurd w
-whole_talk P (Asked terms c) f w e = absurd w
-whole_talk P (Replied terms c last kind) f w e = absurd w
-whole_talk P (Queried terms c sets) f w e = absurd w
-whole_talk P (Silent terms c) f w e = absurd w
+whole_talk P _ f w e = absurd w

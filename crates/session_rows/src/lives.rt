@@ -87,7 +87,7 @@ fn lived_new<P: Peer>(alloc: Global) -> Result<String, NoMemory> {
 fn sessions_know_when_they_read_last(rt: HostRuntime) -> Result<(), Fail> {
     let text = lived_new::<Session>(rt.alloc())?;
     assert!(rt;
-        text.as_str() == "0 5 true true s5 010000000e n5 r8 -8 16384 16384 7",
+        text.as_str() == "0 5 true true s5 010000000e n5 r8 -8 1024 1024 7",
         "{text}"
     );
     Ok(())

@@ -33,7 +33,6 @@ use Rattle.turn_laws.specs.Decided.{EachCallReturns, EachErrorIsOwn, EachHasCaus
 
 -- a result is told by one value alone
 after_by : Option Told → After
-after_by None = Pending
 after_by (Some ToldReady) = Answered answers.Ready
 after_by (Some (ToldRow row)) = Answered (answers.Row row)
 after_by (Some ToldEnd) = Answered answers.SetEnd
@@ -41,8 +40,7 @@ after_by (Some ToldNone) = Answered answers.NoSet
 after_by (Some (ToldStatement statement)) = Answered (answers.Stmt statement)
 after_by (Some (ToldFlag flag)) = Answered (answers.Flag flag)
 after_by (Some (ToldError e)) = Failed e
-after_by (Some (ToldPassed e)) = Pending
-after_by (Some (Dropped closing)) = Pending
+after_by _ = Pending
 
 after_back : (p : After) → after_by (told_of p) ≡ p
 unfolding after_by
@@ -74,11 +72,7 @@ each_is_decided login a k x y z w u v p q e f one other moves stop =
 
 returned_by : (stop : LinkStop) (t : Told) (n place : ℕ) (o : Option Told) → comes_to stop (Some (Returns t)) n place ≡ Some o → (stop ≡ NoStop) × (o ≡ Some t)
 returned_by NoStop t n place o e = (refl, sym (same_told (Some t) o e))
-returned_by ReadHold t n place o e = cc
-returned_by WriteHold t n place o e = cc
-returned_by ReadFault t n place o e = cc
-returned_by WriteFault t n place o e = cc
-returned_by LinkEnd t n place o e = cc
+returned_by _ t n place o e = cc
 
 pub each_is_returned : EachIsReturned
 each_is_returned login a k x y u after e w t comes =
@@ -99,11 +93,7 @@ is_full n h = ap (λ (b : Bool). let x : Option (Option Told) = cond b (Some Non
 -- an answer is no error
 no_error : (x : Answer) (e : Error) → Some (Some (ToldError e)) ≡ Some (Some (told x)) → ⊥
 no_error answers.Ready e f = cc
-no_error (answers.Row row) e f = cc
-no_error answers.SetEnd e f = cc
-no_error answers.NoSet e f = cc
-no_error (answers.Stmt statement) e f = cc
-no_error (answers.Flag flag) e f = cc
+no_error _ e f = cc
 
 module _ (login : Login) (k : Kept) (n : ℕ) where
   abbrev place : ℕ
@@ -127,43 +117,23 @@ module _ (login : Login) (k : Kept) (n : ℕ) where
   has_cause : (stop : LinkStop) (after : After) (s : Option Stop) → stop_kept login k ≡ s → comes_to stop s n place ≡ Some (told_of after) → IsBecause login k stop n after
   has_cause NoStop after (Some Awaits) is e = let f = full n (told_of after) e in by_none NoStop after (ap Some (sym f.0)) (is, f.1)
   has_cause NoStop after (Some (Returns t)) is e = by_return t after is e
-  has_cause NoStop after (Some Owes) is e = absurd cc
-  has_cause NoStop after None is e = absurd cc
   has_cause ReadHold after (Some Awaits) is e = by_none ReadHold after e is
-  has_cause ReadHold after (Some Owes) is e = absurd cc
-  has_cause ReadHold after (Some (Returns t)) is e = absurd cc
-  has_cause ReadHold after None is e = absurd cc
   has_cause WriteHold after (Some Owes) is e = by_none WriteHold after e is
-  has_cause WriteHold after (Some Awaits) is e = absurd cc
-  has_cause WriteHold after (Some (Returns t)) is e = absurd cc
-  has_cause WriteHold after None is e = absurd cc
   has_cause ReadFault after (Some Awaits) is e = by_error ReadFault (io_error kinds.Link place) after e (λ x same. (is, sym same))
-  has_cause ReadFault after (Some Owes) is e = absurd cc
-  has_cause ReadFault after (Some (Returns t)) is e = absurd cc
-  has_cause ReadFault after None is e = absurd cc
   has_cause WriteFault after (Some Owes) is e = by_error WriteFault (io_error kinds.Link place) after e (λ x same. (is, sym same))
-  has_cause WriteFault after (Some Awaits) is e = absurd cc
-  has_cause WriteFault after (Some (Returns t)) is e = absurd cc
-  has_cause WriteFault after None is e = absurd cc
   has_cause LinkEnd after (Some Awaits) is e = by_error LinkEnd (unexpected_eof place) after e (λ x same. (is, sym same))
-  has_cause LinkEnd after (Some Owes) is e = absurd cc
-  has_cause LinkEnd after (Some (Returns t)) is e = absurd cc
-  has_cause LinkEnd after None is e = absurd cc
+  has_cause stop after s is e = absurd cc
 
   is_caused : (stop : LinkStop) (after : After) → IsBecause login k stop n after → comes_to stop (stop_kept login k) n place ≡ Some (told_of after)
   is_caused NoStop Pending w = ap (λ s. comes_to NoStop s n place) w.0 ∙ is_full n w.1
   is_caused ReadHold Pending w = ap (λ s. comes_to ReadHold s n place) w
   is_caused WriteHold Pending w = ap (λ s. comes_to WriteHold s n place) w
-  is_caused ReadFault Pending w = absurd w
-  is_caused WriteFault Pending w = absurd w
-  is_caused LinkEnd Pending w = absurd w
+  is_caused _ Pending w = absurd w
   is_caused stop (Answered x) w = ap (λ s. comes_to s (stop_kept login k) n place) w.0 ∙ ap (λ s. comes_to NoStop s n place) w.1
   is_caused NoStop (Failed e) w = ap (λ s. comes_to NoStop s n place) w
   is_caused ReadHold (Failed e) w = absurd w
   is_caused WriteHold (Failed e) w = absurd w
-  is_caused ReadFault (Failed e) w = ap (λ s. comes_to ReadFault s n place) w.0 ∙ ap (λ x. Some (Some (ToldError x))) (sym w.1)
-  is_caused WriteFault (Failed e) w = ap (λ s. comes_to WriteFault s n place) w.0 ∙ ap (λ x. Some (Some (ToldError x))) (sym w.1)
-  is_caused LinkEnd (Failed e) w = ap (λ s. comes_to LinkEnd s n place) w.0 ∙ ap (λ x. Some (Some (ToldError x))) (sym w.1)
+  is_caused stop (Failed e) w = ap (λ s. comes_to stop s n place) w.0 ∙ ap (λ x. Some (Some (ToldError x))) (sym w.1)
 
 pub each_has_cause : EachHasCause
 each_has_cause login k stop n after = (has_cause login k n stop after (stop_kept login k) refl, is_caused login k n stop after)
@@ -223,30 +193,22 @@ pub each_is_answer : EachIsAnswer
 each_is_answer login k t e = answer_for t (each_call_returns login k t e)
 
 kind_is_own : (kind : IoKind) → IsReadKind kind → IsPollKind kind
-kind_is_own kinds.Link w = tt
 kind_is_own kinds.Dial w = w
-kind_is_own kinds.UnexpectedEof w = tt
-kind_is_own kinds.InvalidData w = tt
+kind_is_own _ w = tt
 
 io_is_own : (e : IoError) → IsReadIo e → IsPollIo e
 io_is_own (ios.Io fault) w = kind_is_own fault.kind w
 io_is_own (ios.Codec fault) w = tt
 
 read_is_own : (e : Error) → IsReadError e → IsPollError e
-read_is_own (errors.Driver e) w = w
 read_is_own (errors.Io e) w = io_is_own e w
-read_is_own (errors.Server e) w = w
-read_is_own (errors.Url e) w = w
-read_is_own (errors.Other e) w = w
-read_is_own errors.NoMemory w = w
+read_is_own _ w = w
 
 failed_is_own : (login : Login) (k : Kept) (stop : LinkStop) (e : Error) → IsFailed login k stop e → IsPollError e
 failed_is_own login k NoStop e w = read_is_own e (each_call_returns login k (ToldError e) w)
 failed_is_own login k ReadHold e w = absurd w
 failed_is_own login k WriteHold e w = absurd w
-failed_is_own login k ReadFault e w = subst IsPollError (sym w.1) tt
-failed_is_own login k WriteFault e w = subst IsPollError (sym w.1) tt
-failed_is_own login k LinkEnd e w = subst IsPollError (sym w.1) tt
+failed_is_own login k _ e w = subst IsPollError (sym w.1) tt
 
 -- why a poll returned what it did
 pub poll_cause : (login : Login) (a : Asked) (k : Kept) (x y : Looks) (u : Met) (after : After) (end : Kept) (w : IsPolled login a k x u after end y)

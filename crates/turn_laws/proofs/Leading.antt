@@ -10,7 +10,7 @@ use Rattle.my_reading.specs.declared.call.Call.{Call}
 use Rattle.my_reading.specs.Course.{Part, Step, Goes, Stops, Stop, step}
 use Rattle.my_reading.specs.Leads.{Leads, Here, Then}
 use Rattle.my_reading.specs.Place.{Place, begins_with, client_side, exchanges, with_exchange, with_talk}
-use Rattle.my_machine.proofs.Shrinking.{size, size_of, step_size}
+use Rattle.my_reading.proofs.Leading.{size, size_of, step_size}
 use Rattle.history_laws.proofs.Moving.{Moved, Alters, Takes, Begins, IsAlike, place_of, step_moves}
 use Rattle.my_client.specs.Stands.{IsSaid}
 

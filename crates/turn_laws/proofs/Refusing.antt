@@ -54,24 +54,10 @@ values_are : (statement : StatementView) (params : Params) (e : DriverError) →
 values_are statement params e is = refused_is (values_for statement params) e (values_refused statement.inner.num_params (resolved params statement.names)) is
 
 params_own : (e : DriverError) → is_params e ≡ true → OwnDriver e
-params_own drivers.ConnectionClosed w = cc
-params_own drivers.MixedParams w = cc
-params_own drivers.NestedTransaction w = cc
-params_own drivers.PoolDisconnected w = cc
-params_own (drivers.PoolFull waiting limit) w = cc
-params_own drivers.ReadOnlyTransNotSupported w = cc
 params_own (drivers.Params x) w = tt
 params_own (drivers.StmtParamsMismatch required supplied) w = tt
 params_own (drivers.StmtParamsNumberExceedsLimit supplied) w = tt
-params_own drivers.TooLong w = cc
-params_own drivers.CantParseServerVersion w = cc
-params_own drivers.PacketOutOfOrder w = cc
-params_own drivers.PacketTooLarge w = cc
-params_own drivers.BadCompressedPacketHeader w = cc
-params_own drivers.NoKeyFound w = cc
-params_own drivers.NamedPipesDisabled w = cc
-params_own drivers.InvalidParsecSalt w = cc
-params_own drivers.NoClientSslFlagFromServer w = cc
+params_own _ w = cc
 
 pub values_own : (statement : StatementView) (params : Params) (e : DriverError) → refused_by (values_for statement params) ≡ Some e → OwnDriver e
 values_own statement params e is = params_own e (values_are statement params e is)

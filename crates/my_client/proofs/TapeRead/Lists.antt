@@ -30,10 +30,6 @@ between_more (suc n) (suc m) (x ∷ xs) ys within =
 pub between_end : (from : ℕ) (xs : List ℕ) → between from (length xs) xs ≡ drop from xs
 between_end from xs = take_rest xs from
 
--- no bytes
-pub between_none : (n : ℕ) (xs : List ℕ) → between n n xs ≡ []
-between_none n xs = let none : n - n ≡ zero = omega arith in ap (λ m. take m (drop n xs)) none
-
 pub within_more : (sent taken out come : List ℕ) (ds : List DoneCall) → AreWithin sent taken ds → AreWithin (sent ++ out) (taken ++ come) ds
 within_more sent taken out come [] w = tt
 within_more sent taken out come (d ∷ ds) w =

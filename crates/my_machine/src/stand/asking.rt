@@ -9,7 +9,8 @@ ghost use Rattle.my_command.specs.Client.Packet.{PartsFit, client_bytes};
 ghost use Rattle.my_machine.specs.Parts.{executed_in, params_at, setup_at};
 ghost use Rattle.std.specs.Option.{option_copied};
 ghost use Rattle.my_reading.specs.Calls.{is_connect};
-ghost use Rattle.my_machine.specs.Stands.{IsTurn, arranged_after, arranges, asks, closes, commands};
+ghost use Rattle.my_reading.specs.Commands.{simple_packet};
+ghost use Rattle.my_machine.specs.Stands.{IsTurn, arranged_after, arranges, asks, asks_simply, closes, commands};
 ghost use Rattle.my_machine.specs.Stands.{executes, executes_one};
 ghost use Rattle.my_machine.specs.Stands.{queries, queries_at, sends};
 
@@ -284,6 +285,16 @@ impl Stand {
         self.ask(Spot::Head, &command, self.arranged + 1)
     }
 
+    // The command of a call that one OK or ERR answers, where it sends such a one.
+    fn ask_simply(&mut self, alloc: Global, call: &Call) -> Result<Step, NoMemory>
+        ensures { IfOk result (λ step. IsTurn (asks_simply (simple_packet call.now) self.old) step self.new) }
+    {
+        match call.simple_packet() {
+            Some(packet) => self.ask_packet(alloc, Spot::Single, packet),
+            None => Ok(Step::Passes),
+        }
+    }
+
     /// The call's next command, where it sends one.
     pub(super) fn command(&mut self, alloc: Global, call: &Call) -> Result<Step, NoMemory>
         ensures { IfOk result (λ step. IsTurn (commands call.now self.old) step self.new) }
@@ -298,21 +309,8 @@ impl Stand {
             ),
             Call::Execute(statement, params) => self.execute(alloc, statement, params),
             Call::CloseStmt(id) => self.close(alloc, *id),
-            Call::Batch(_, _)
-            | Call::NextRow
-            | Call::DropResult
-            | Call::TakeSet
-            | Call::SkipTaken
-            | Call::ChangeUser(_)
-            | Call::Begin(_)
-            | Call::Commit
-            | Call::Rollback
-            | Call::ForgetTransaction
-            | Call::CleanForPool
-            | Call::ResetForPool => Ok(Step::Passes),
-            Call::Ping => self.ask_packet(alloc, Spot::Single, ClientPacket::Ping),
-            Call::Reset => self.ask_packet(alloc, Spot::Single, ClientPacket::ResetConnection),
             Call::Quit => self.ask_packet(alloc, Spot::Idle, ClientPacket::Quit),
+            _ => self.ask_simply(alloc, call),
         }
     }
 }

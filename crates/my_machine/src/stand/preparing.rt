@@ -235,20 +235,20 @@ impl Stand {
     }
 
     /// A statement isn't kept any more.
-    pub(super) fn forget(&mut self, call: &Call) -> Step
+    pub(super) fn forget(&mut self, call: &Call) -> Result<Step, NoMemory>
         ensures { let st = without_statement (id_in call.now) self.old.statements in
-            IsTurn (turn Step.Passes (with_known st self.old)) result self.new }
+            IfOk result (λ step. IsTurn (turn Step.Passes (with_known st self.old)) step self.new) }
     {
         self.statements.forget(id_in(call));
-        Step::Passes
+        Ok(Step::Passes)
     }
 
     /// No statement is kept any more.
-    pub(super) fn clear(&mut self) -> Step
+    pub(super) fn clear(&mut self) -> Result<Step, NoMemory>
         ensures { let st = cleared self.old.statements in
-            IsTurn (turn Step.Passes (with_known st self.old)) result self.new }
+            IfOk result (λ step. IsTurn (turn Step.Passes (with_known st self.old)) step self.new) }
     {
         self.statements.forget_all();
-        Step::Passes
+        Ok(Step::Passes)
     }
 }

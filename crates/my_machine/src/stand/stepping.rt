@@ -1,15 +1,15 @@
 //! One step of a call.
 
-ghost use Rattle.std.specs.Prelude.{◌≡◌, IfOk, Some};
+ghost use Rattle.std.specs.Prelude.{◌≡◌, IfOk, Some, true};
 ghost use Rattle.my_grammar.specs.Cut.{is_idle};
 ghost use Rattle.my_handshake.specs.Version.{version_of};
 ghost use Rattle.my_reading.specs.Versions.{can_reset};
-ghost use Rattle.my_machine.specs.Stands.{IsTurn, begins, offers, steps};
+ghost use Rattle.my_machine.specs.Stands.{IsTurn, begins, offers, steps, turn};
 
 use super::Stand;
 use super::reading::{answered, is_rows};
 use crate::part::Part;
-use crate::step::{Step, Stop};
+use crate::step::{Ending, Step, Stop};
 use my_frame::NoMemory;
 use my_grammar::{Login, Spot};
 use my_handshake::server_version;
@@ -127,13 +127,34 @@ impl Stand {
     }
 
     // Whether the server can reset its session; one that can't is sent nothing.
-    fn offer(&self) -> Step
-        ensures { let s = self.now in IsTurn (offers (can_reset (version_of s.facts.version)) s) result s }
+    fn offer(&self) -> Result<Step, NoMemory>
+        ensures { let s = self.now in
+            IfOk result (λ step. IsTurn (offers (can_reset (version_of s.facts.version)) s) step s) }
     {
         if can_reset(server_version(self.facts.version.as_slice())) {
-            return Step::Passes;
+            return Ok(Step::Passes);
         }
-        answered(Answer::Flag(false))
+        Ok(answered(Answer::Flag(false)))
+    }
+
+    // This flag is returned.
+    fn flag(&self, flag: bool) -> Result<Step, NoMemory>
+        ensures { let s = self.now in let end = Stop.Returns (Ending.Answered (Answer.Flag flag)) in
+            IfOk result (λ step. IsTurn (turn (Step.Stops end) s) step s) }
+    {
+        Ok(answered(Answer::Flag(flag)))
+    }
+
+    // Whether nothing is left to do for this part: nothing is left to read, or there is nothing to roll back.
+    fn is_passed(&self, part: Part) -> bool
+        ensures { let s = self.now in (login : Login) (call : Call) → result ≡ true
+            → begins login call (Some part) s ≡ turn Step.Passes s }
+    {
+        match part {
+            Part::All => !self.end_left && is_idle(self.context.spot),
+            Part::Undo => !self.status.is_given_up(),
+            _ => false,
+        }
     }
 
     /// One step of a call of which this part comes next.
@@ -165,6 +186,22 @@ impl Stand {
     ) -> Result<Step, NoMemory>
         ensures { IfOk result (λ step. IsTurn (begins login.now call.now (Some part) self.old) step self.new) }
     {
+        if self.is_passed(part) {
+            return Ok(Step::Passes);
+        }
+        self.begin_part(alloc, login, call, part)
+    }
+
+    // The same for each part, also one of which nothing is left to do.
+    fn begin_part(
+        &mut self,
+        alloc: Global,
+        login: &Login,
+        call: &Call,
+        part: Part,
+    ) -> Result<Step, NoMemory>
+        ensures { IfOk result (λ step. IsTurn (begins login.now call.now (Some part) self.old) step self.new) }
+    {
         match part {
             Part::All => self.read_all(alloc, login, call),
             Part::Head => self.read_head(alloc, login, call),
@@ -179,21 +216,21 @@ impl Stand {
             Part::Keep => self.keep(alloc, call),
             Part::Give => self.give(alloc, call),
             Part::Learn => self.learn(call),
-            Part::Forget => Ok(self.forget(call)),
-            Part::Offered => Ok(self.offer()),
-            Part::Clear => Ok(self.clear()),
+            Part::Forget => self.forget(call),
+            Part::Offered => self.offer(),
+            Part::Clear => self.clear(),
             Part::Text(place) => self.set_up(alloc, login, call, place),
             Part::Start(place) => self.start(alloc, call, place),
-            Part::Flag(flag) => Ok(answered(Answer::Flag(flag))),
+            Part::Flag(flag) => self.flag(flag),
             Part::Adopt => self.adopt(alloc, call),
             Part::Renew => self.renew(alloc, login, call),
             Part::Drain => self.read_drained(alloc, login, call),
             Part::Undo => self.undo(alloc, call),
-            Part::Undone => Ok(self.stand_so(self.status.rolled_back())),
-            Part::Refuse => Ok(self.refuse_call(call)),
-            Part::Settle(status) => Ok(self.settle(status)),
-            Part::GiveUp => Ok(self.stand_so(self.status.given_up())),
-            Part::Try => Ok(self.try_it()),
+            Part::Undone => self.stand_so(self.status.rolled_back()),
+            Part::Refuse => self.refuse_call(call),
+            Part::Settle(status) => self.settle(status),
+            Part::GiveUp => self.stand_so(self.status.given_up()),
+            Part::Try => self.try_it(),
             Part::Commit => self.query(alloc, call, commit_text()),
             Part::Back => self.read_back(alloc, login, call),
         }

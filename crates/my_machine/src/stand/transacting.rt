@@ -51,29 +51,29 @@ impl Stand {
     }
 
     /// The transaction stands so.
-    pub(super) fn stand_so(&mut self, status: TxStatus) -> Step
-        ensures { IsTurn (turn Step.Passes (with_status status self.old)) result self.new }
+    pub(super) fn stand_so(&mut self, status: TxStatus) -> Result<Step, NoMemory>
+        ensures { IfOk result (λ step. IsTurn (turn Step.Passes (with_status status self.old)) step self.new) }
     {
         self.status = status;
-        Step::Passes
+        Ok(Step::Passes)
     }
 
     /// The transaction stands so from now on, and isn't being committed any more.
-    pub(super) fn settle(&mut self, status: TxStatus) -> Step
+    pub(super) fn settle(&mut self, status: TxStatus) -> Result<Step, NoMemory>
         ensures { let settled = with_trial Trial.Off (with_status status self.old) in
-            IsTurn (turn Step.Passes settled) result self.new }
+            IfOk result (λ step. IsTurn (turn Step.Passes settled) step self.new) }
     {
         drop(mem::replace(&mut self.trial, Trial::Off));
         self.status = status;
-        Step::Passes
+        Ok(Step::Passes)
     }
 
     /// The transaction is to be committed.
-    pub(super) fn try_it(&mut self) -> Step
-        ensures { IsTurn (turn Step.Passes (with_trial Trial.On self.old)) result self.new }
+    pub(super) fn try_it(&mut self) -> Result<Step, NoMemory>
+        ensures { IfOk result (λ step. IsTurn (turn Step.Passes (with_trial Trial.On self.old)) step self.new) }
     {
         drop(mem::replace(&mut self.trial, Trial::On));
-        Step::Passes
+        Ok(Step::Passes)
     }
 
     /// The server's error ends the call; while a transaction is being committed that is rolled back first.
@@ -123,12 +123,12 @@ impl Stand {
     }
 
     /// The call's transaction is refused, where it may not begin.
-    pub(super) fn refuse_call(&self, call: &Call) -> Step
-        ensures { IsTurn (refuses_by (opts_at call.now) self.now) result self.now }
+    pub(super) fn refuse_call(&self, call: &Call) -> Result<Step, NoMemory>
+        ensures { IfOk result (λ step. IsTurn (refuses_by (opts_at call.now) self.now) step self.now) }
     {
         match call {
-            Call::Begin(opts) => self.refuse_transaction(*opts),
-            _ => Step::Passes,
+            Call::Begin(opts) => Ok(self.refuse_transaction(*opts)),
+            _ => Ok(Step::Passes),
         }
     }
 }

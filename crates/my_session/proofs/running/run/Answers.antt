@@ -1,4 +1,4 @@
-use Rattle.std.proofs.Common.{◌∙◌, Bool, Option, is_none, not, ap, sym}
+use Rattle.std.proofs.Common.{◌∙◌, Bool, Option, is_none, not, option_map, ap, sym}
 use Rattle.my_opts.specs.ChangeUser.{ChangeView}
 use Rattle.my_machine.specs.Runs.{parts_left}
 use Rattle.my_session.specs.Login.{account_in}
@@ -18,5 +18,5 @@ returns-in-Ok-clause-account c =
     ∙ ap (adopted first later) c.requires.account
     ∙ sym (adopts_if first later a)
     ∙ ap (λ (x : Option ChangeView). adopted_if x (not (is_none later)) a) (sym c.in_ok-change.ensures)
-    ∙ ap (λ (b : Bool). adopted_if c.in_ok-change.change b a) (sym c.is_changing.ensures)
+    ∙ ap (λ (b : Bool). adopted_if (option_map (λ b. b.value) c.in_ok-change.change) b a) (sym c.is_changing.ensures)
     ∙ sym c.adopt.ensures.account
