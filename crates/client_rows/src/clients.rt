@@ -206,7 +206,11 @@ fn is_told(client: &mut Near) -> bool {
 // Whether a connection at which no call is open is a client again.
 fn is_again(alloc: Global, client: Near) -> bool {
     match Client::new(client.into_conn()) {
-        Ok(client) => word_of(client.disconnect(alloc), &mut None) == "ok",
+        Ok(client) => {
+            let (ended, link) = client.disconnect(alloc);
+            drop(link);
+            word_of(ended, &mut None) == "ok"
+        }
         Err(conn) => {
             drop(conn);
             false
@@ -264,14 +268,14 @@ fn gives_back(alloc: Global, conn: Conn<MemLink>) -> bool {
 fn is_open(alloc: Global) -> bool {
     let talk = "connect | @greeting turn @login_ok turn wait | ok";
     match begun(alloc, talk, usize::MAX) {
-        Ok(connecting) => match made(alloc, connecting, 9, "") {
+        Ok(connecting) => match made(alloc, connecting, 9, "").0 {
             Connected::Made(conn) => gives_back(alloc, conn),
             Connected::Pending(connecting) => {
                 drop(connecting);
                 false
             }
-            Connected::Failed(error) => {
-                drop(error);
+            Connected::Failed(left) => {
+                drop(left);
                 false
             }
         },

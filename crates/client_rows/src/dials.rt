@@ -27,7 +27,11 @@ fn connected(alloc: Global, talk: &str, url: &str) -> Result<Client<ReadyLink<Me
 // What connecting to a URL returns.
 fn dialed(alloc: Global, talk: &str, url: &str) -> &'static str {
     match connected(alloc, talk, url) {
-        Ok(client) => word_of(client.disconnect(alloc), &mut None),
+        Ok(client) => {
+            let (ended, link) = client.disconnect(alloc);
+            drop(link);
+            word_of(ended, &mut None)
+        }
         Err(error) => failed(error),
     }
 }

@@ -94,9 +94,10 @@ fn columns<L>(conn: &Conn<L>, held: &Option<Statement>) -> &'static str {
 }
 
 fn check<L: Link>(conn: &mut Conn<L>) -> &'static str {
-    match conn.check() {
+    let (step, met) = conn.check();
+    match step {
         CheckStep::Alive => "alive",
-        CheckStep::Dead => "dead",
+        CheckStep::Dead => { if met.deaths == 1 { "dead" } else { "unread" } }
         CheckStep::NotYet => "pending",
         CheckStep::Failed => "error link",
     }

@@ -30,15 +30,15 @@ connect | wait | -, pending
 
 3 connect | wait @greeting turn wait @login_ok | @login, ok
 
-connect | end | error end
+connect | end | -, error end
 
-connect | 0200 end | error end
+connect | 0200 end | -, error end
 
-connect | fail | error link
+connect | fail | -, error link
 
-connect | @greeting wfail | error link
+connect | @greeting wfail | -, error link
 
-connect | @greeting turn @login_err | error 1045
+connect | @greeting turn @login_err | @login, error 1045
 
 # errors, ends and faults in the midst
 
@@ -120,7 +120,7 @@ connect | @greeting turn @login_ok end | @login, ok
 check || dead
 
 connect | @greeting turn @login_ok_and_more | @login, ok
-check || dead
+check || unread
 
 # no tape is kept
 
@@ -734,15 +734,15 @@ connect SELECT 1 | @greeting turn @login_ok turn @head wait unread @row @end | @
 
 2 connect SELECT 1 then SET @a = 42 | @greeting turn @login_ok turn @head wait @row @end turn @ok | @login, @select, -, @set, -, ok
 
-connect SET @a = 42 | @greeting turn @login_ok turn @err | error 1064
+connect SET @a = 42 | @greeting turn @login_ok turn @err | @login, @set, error 1064
 
-connect SET @a = 42 | @greeting turn @login_ok turn end | error end
+connect SET @a = 42 | @greeting turn @login_ok turn end | @login, @set, error end
 
-connect SET @a = 42 | @greeting turn @login_ok turn fail | error link
+connect SET @a = 42 | @greeting turn @login_ok turn fail | @login, @set, error link
 
-connect reject | @greeting turn @login_ok | error rejected
+connect reject | @greeting turn @login_ok | @login, error rejected
 
-connect SET @a = 42 then reject | @greeting turn @login_ok turn @ok | error rejected";
+connect SET @a = 42 then reject | @greeting turn @login_ok turn @ok | @login, @set, -, error rejected";
 
 /// A talk that is the same where the link isn't ready once before any one of its bytes. Its parts are spelled out,
 /// since it is played once for each.

@@ -13,27 +13,30 @@ use my_calls::{
     PrepCall, QueryCall, QuitCall, ResetCall, Returns, StreamCall, TxCall,
 };
 use my_conn::{Conn, Connected, Connecting};
-use my_link::{Link, NoAid};
+use my_link::{Link, Met, NoAid};
 use my_reading::Call;
 use my_statements::Statement;
 use std::alloc::Global;
 
-/// Polls the making of a connection while it is pending, at most `polls` times, at the moment 5.
+/// Polls the making of a connection while it is pending, at most `polls` times, at the moment 5. With it comes what the last poll met.
 pub fn made<L: Link + Drop>(
     alloc: Global,
     connecting: Connecting<L>,
     polls: u64,
     texts: &str,
-) -> Connected<L> {
+) -> (Connected<L>, Met) {
     let mut aid = Script { texts };
     let mut connecting = connecting;
+    let mut last = Met::nothing();
     'polls: for _ in 0..polls {
-        match connecting.poll(alloc, &mut aid, 5) {
+        let (connected, met) = connecting.poll(alloc, &mut aid, 5);
+        match connected {
             Connected::Pending(next) => connecting = next,
-            done => return done,
+            done => return (done, met),
         }
+        last = met;
     }
-    Connected::Pending(connecting)
+    (Connected::Pending(connecting), last)
 }
 
 // A call was cancelled.

@@ -12,7 +12,8 @@ use crate::waits::{ended, waited};
 use crate::words::{answer_of, field, first_line};
 use my_conn::{Conn, Connected, Connecting};
 use my_frame::NoMemory;
-use my_link::{MemLink, ReadyLink};
+use my_link::{MemLink, Met, ReadyLink};
+use my_opts::Opts;
 use my_opts_parts::limits::LONGEST_URL;
 use my_reading::Error;
 use std::alloc::Global;
@@ -64,8 +65,20 @@ fn is_right(alloc: Global, connected: &mut Connected<MemLink>, talk: &str) -> bo
                 && is_taped(alloc, connecting.take_tape(), talk)
                 && is_none(connecting.take_tape())
         }
-        Connected::Failed(error) => answer == failure(error) && is_short(talk),
+        Connected::Failed(left) => {
+            answer == failure(&left.error)
+                && is_short(talk)
+                && is_taped(alloc, left.tape.take(), talk)
+        }
     }
+}
+
+// Whether the last poll of the making met what its answer says.
+fn is_met(met: Met, answer: &str) -> bool {
+    met.faults == u64::from(answer == "error link")
+        && met.ends == u64::from(answer == "error end")
+        && met.holds == u64::from(answer == "pending")
+        && met.refused == u64::from(answer == "error rejected")
 }
 
 /// A connection that is being made, with options.
@@ -74,7 +87,13 @@ pub fn begun(alloc: Global, talk: &str, hold: usize) -> Result<Connecting<MemLin
     match link_of(alloc, &opts, talk, hold) {
         Ok(link) => {
             let keep = field(talk, 0) != "connect_untaped";
-            Connecting::new(alloc, opts, link, 3, 0, keep)
+            match Connecting::new(alloc, opts, link, 3, 0, keep) {
+                Ok(connecting) => Ok(connecting),
+                Err(link) => {
+                    drop(link);
+                    Err(NoMemory)
+                }
+            }
         }
         Err(NoMemory) => {
             drop(opts);
@@ -89,10 +108,11 @@ fn is_polled(alloc: Global, talk: &str, hold: usize) -> bool {
     let texts = call.strip_prefix("connect ").unwrap_or("");
     match begun(alloc, talk, hold) {
         Ok(connecting) => {
-            let mut connected = made(alloc, connecting, polls, texts);
+            let (connected, met) = made(alloc, connecting, polls, texts);
+            let mut connected = connected;
             let right = is_right(alloc, &mut connected, talk);
             drop(connected);
-            right
+            right && is_met(met, answer_of(first_line(talk)))
         }
         Err(NoMemory) => false,
     }
@@ -106,7 +126,17 @@ fn new_by_url(alloc: Global, url: &str, link: ReadyLink<MemLink>) -> Result<Wait
         drop(link);
         return Err(Error::NoMemory);
     }
-    Conn::from_url(alloc, url, link, 5, 0)
+    match Conn::from_url(alloc, url, link, 5, 0) {
+        Ok(conn) => Ok(conn),
+        Err(left) => Err(left.into_error()),
+    }
+}
+
+fn new_by_opts(alloc: Global, opts: Opts, link: ReadyLink<MemLink>) -> Result<Waiting, Error> {
+    match Conn::new(alloc, opts, link, 5, 0) {
+        Ok(conn) => Ok(conn),
+        Err(left) => Err(left.into_error()),
+    }
 }
 
 /// Connects with options, or by the URL of the row.
@@ -118,7 +148,7 @@ pub fn new_by(alloc: Global, talk: &str) -> Result<Waiting, Error> {
                 drop(opts);
                 new_by_url(alloc, url, ReadyLink::new(link))
             }
-            None => Conn::new(alloc, opts, ReadyLink::new(link), 5, 0),
+            None => new_by_opts(alloc, opts, ReadyLink::new(link)),
         },
         Err(NoMemory) => {
             drop(opts);

@@ -20,6 +20,8 @@ fn ends(answer: &str) -> &'static str {
         "pending" => "pending ",
         "cancelled" => "cancelled ",
         "cancelled and closed" => "cancelled and closed ",
+        // The call was answered, and the aid refused the connection.
+        "error rejected" => "answered ",
         _ => {
             if answer.starts_with("error") {
                 "failed "

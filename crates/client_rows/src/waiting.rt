@@ -85,7 +85,7 @@ connect | @greeting turn @login_ok end | ok
 check || dead
 
 connect | @greeting turn @login_ok_and_more | ok
-check || dead
+check || unread
 
 # connections by a URL
 

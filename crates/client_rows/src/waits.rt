@@ -61,7 +61,9 @@ pub fn waited<L: BlockingLink>(
 fn end_idle<L: BlockingLink + Drop>(alloc: Global, conn: Conn<L>) -> &'static str
     requires { conn.pending ≡ None }
 {
-    word_of(conn.disconnect(alloc), &mut None)
+    let (ended, link) = conn.disconnect(alloc);
+    drop(link);
+    word_of(ended, &mut None)
 }
 
 /// What a connection's end returns.

@@ -84,7 +84,7 @@ fn run_connected<R: Clock + Files + AllocGlobal, W: World<L = RealLink>>(
 ) -> Result<Ran, Fault> {
     let mut conn = place.connect(rt.alloc(), world)?;
     let ran = timed_rounds(rt, &mut conn, plan);
-    let _ = conn.disconnect(rt.alloc());
+    drop(conn.disconnect(rt.alloc()));
     ran
 }
 

@@ -87,7 +87,10 @@ impl Place {
     {
         let opts = self.opts.copy(alloc)?;
         match world.dial(0, &self.target) {
-            DialStep::Link(link) => Conn::new(alloc, opts, link, 0, 0),
+            DialStep::Link(link) => match Conn::new(alloc, opts, link, 0, 0) {
+                Ok(conn) => Ok(conn),
+                Err(left) => Err(left.into_error()),
+            },
             DialStep::NotYet | DialStep::Failed => Err(Error::Io(IoError::Io(IoFault {
                 kind: IoKind::Dial,
                 place: 0,
@@ -99,7 +102,8 @@ impl Place {
     fn meet<W: World<L = RealLink>>(&self, alloc: Global, world: &mut W) -> Result<(), Error> {
         let mut conn = self.connect(alloc, world)?;
         let pinged = conn.ping(alloc);
-        let ended = conn.disconnect(alloc);
+        let (ended, link) = conn.disconnect(alloc);
+        drop(link);
         match pinged {
             Ok(()) => ended,
             Err(error) => Err(error),

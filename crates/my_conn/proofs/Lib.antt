@@ -5,3 +5,4 @@ pub mod Forgetting
 pub mod Driving
 pub mod Making
 pub mod Refusing
+pub mod Sending

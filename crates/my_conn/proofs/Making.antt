@@ -4,6 +4,7 @@ use Rattle.std.proofs.lemmas.Bool.{true≢false}
 use Rattle.my_grammar.specs.declared.login.Login.{Login}
 use Rattle.my_link.specs.Aid.{Texts}
 use Rattle.my_link.specs.Looks.{Looks}
+use Rattle.my_link.specs.declared.met.Met.{Met}
 use Rattle.my_reading.specs.declared.call.CallKind.{CallKind}
 use Rattle.my_reading.specs.declared.error.Error.TheVariants as errors
 use Rattle.my_reading.specs.Course.{parts_of}
@@ -24,13 +25,14 @@ use Rattle.my_session.specs.View.{View}
 use Rattle.my_client.specs.Stands.{StandsAsked, StandsAt, StandsOpen}
 use Rattle.my_client.proofs.Resting.{at_unread}
 use Rattle.my_line.specs.Makes.{ConnectsFor, IsMade, IsMaking, MakesFor, MakesTo, StaysMaking}
+use Rattle.my_line.specs.declared.making.MakeStep.{MakeStep}
 use Rattle.my_line.specs.Stands.{StandsFor}
 use Rattle.my_line.specs.Waits.{IsShaken}
 use Rattle.my_line.specs.declared.texts.Making.{Making}
 use Rattle.my_line.specs.declared.texts.Making.TheVariants.{Shakes, Asks, Drops}
 use Rattle.my_conn.specs.Conn.{Standing}
 use Rattle.my_conn.specs.Connects.{kept_by}
-use Rattle.my_conn.specs.News.{FromUrlIs, Given, IsFirst, IsNew, first_fixed}
+use Rattle.my_conn.specs.News.{FromUrlIs, Given, IsFirst, IsNew, first_fixed, untaped}
 use Rattle.my_conn.specs.declared.conn.Fixed.{Fixed}
 
 pub begun_connects : (login : Login) (s : Seen) (k : Kept) → StandsAsked login s k first_asked → k ≡ first_kept → ConnectsFor login s None first_kept first_asked
@@ -74,31 +76,28 @@ unread_first login s k w kept =
     asked_unread login s at.stands.at
 
 -- a making continues, or is done
-pub making_on : (texts : Texts) (now : ℕ) (at to : Making) (x y : Looks) (u v : View) (p q : Option Tape) → StaysMaking texts now at to x y u v p q → IsMaking at u.seen p → IsMaking to v.seen q
-making_on texts now at to x y u v p q m w =
+pub making_on : (texts : Texts) (now : ℕ) (at to : Making) (x y : Looks) (u v : View) (p q : Option Tape) (met : Met) → StaysMaking texts now at to x y u v p q met → IsMaking at u.seen p → IsMaking to v.seen q
+making_on texts now at to x y u v p q met m w =
     let f = m.each w.0 w.1 w.2 in
     (w.0, f.0, f.1)
 
-pub making_stands : (texts : Texts) (now : ℕ) (at : Making) (x y : Looks) (u v : View) (p q : Option Tape) → IsMade texts now at x y u v p q → IsMaking at u.seen p → Standing false v.seen q None
-making_stands texts now at x y u v p q m w =
+pub making_stands : (texts : Texts) (now : ℕ) (at : Making) (x y : Looks) (u v : View) (p q : Option Tape) (met : Met) → IsMade texts now at x y u v p q met → IsMaking at u.seen p → Standing false v.seen q None
+making_stands texts now at x y u v p q met m w =
     let f = m.each w.0 w.1 w.2 in
     (w.0, f.0, f.1)
 
 -- what a poll of it returns
-pub stays_so : (texts : Texts) (now : ℕ) (at to : Making) (x y : Looks) (u v : View) (p q : Option Tape) (o : Option Making) → o ≡ Some to → MakesTo texts now at x y u v p q (Ok o) → StaysMaking texts now at to x y u v p q
-stays_so texts now at to x y u v p q o e w = subst (λ (o : Option Making). MakesTo texts now at x y u v p q (Ok o)) e w
-
-pub made_so : (texts : Texts) (now : ℕ) (at : Making) (x y : Looks) (u v : View) (p q : Option Tape) (o : Option Making) → o ≡ None → MakesTo texts now at x y u v p q (Ok o) → IsMade texts now at x y u v p q
-made_so texts now at x y u v p q o e w = subst (λ (o : Option Making). MakesTo texts now at x y u v p q (Ok o)) e w
+pub step_so : (texts : Texts) (now : ℕ) (at : Making) (x y : Looks) (u v : View) (p q : Option Tape) (met : Met) (step to : MakeStep) → step ≡ to → MakesTo texts now at x y u v p q met step → MakesTo texts now at x y u v p q met to
+step_so texts now at x y u v p q met step to e w = subst (λ (s : MakeStep). MakesTo texts now at x y u v p q met s) e w
 
 -- without its tape it did the same
-untaped : (login : Login) (o : Option CallKind) (s : Seen) (t : Option Tape) (k : Kept) → StandsFor login s t o k → StandsFor login s None o k
-untaped login o s t k w = record { rests = w.rests; agrees = tt; connected = w.connected; pending_is = w.pending_is }
+no_tape_for : (login : Login) (o : Option CallKind) (s : Seen) (t : Option Tape) (k : Kept) → StandsFor login s t o k → StandsFor login s None o k
+no_tape_for login o s t k w = record { rests = w.rests; agrees = tt; connected = w.connected; pending_is = w.pending_is }
 
 making_for : (login : Login) (at : Making) (s : Seen) (t : Option Tape) (k : Kept) → MakesFor login at None s t k → MakesFor login at None s None k
 making_for login Shakes s t k w = (refl, w.1, record { asked = w.2.asked; agrees = tt; connects = w.2.connects })
-making_for login (Asks n) s t k w = (w.0, untaped login w.0 s t k w.1, w.2)
-making_for login (Drops n) s t k w = (w.0, untaped login w.0 s t k w.1, w.2)
+making_for login (Asks n) s t k w = (w.0, no_tape_for login w.0 s t k w.1, w.2)
+making_for login (Drops n) s t k w = (w.0, no_tape_for login w.0 s t k w.1, w.2)
 
 pub making_untaped : (at : Making) (s : Seen) (t : Option Tape) → IsMaking at s t → IsMaking at s None
 making_untaped at s t w = (w.0, w.1, making_for w.0 at s t w.1 w.2)
@@ -124,6 +123,6 @@ new_is look opts g f u v link q fixed first shaken none = record {
 }
 
 -- out of memory, whatever the text reads as
-pub no_memory_so : {L : Type 0} (look : L → Looks) (read : Result OptsView UrlError) (g : Given) → FromUrlIs look read g (Err errors.NoMemory)
-no_memory_so look (Ok opts) g = (g.looks, inl refl)
-no_memory_so look (Err e) g = inr refl
+pub no_memory_so : {L : Type 0} (look : L → Looks) (read : Result OptsView UrlError) (g : Given) (link : L) → FromUrlIs look read g link (Err (untaped errors.NoMemory link))
+no_memory_so look (Ok opts) g link = record { why = inl refl; tape = refl }
+no_memory_so look (Err e) g link = inr refl

@@ -1,5 +1,5 @@
 -- Why no connection was made: never since a URL can't be read, nor since a dial gave no link.
-use Rattle.std.proofs.Common.{◌≡◌, ℕ, List, [], ◌∷◌, ◌++◌, Option, Some, None, Result, Err, inl, inr, Bool, true, false, cond, if◌then◌else◌, refl, sym, ap, ◌∙◌, subst}
+use Rattle.std.proofs.Common.{◌≡◌, ℕ, List, [], ◌∷◌, ◌++◌, Option, Some, None, Result, Ok, Err, IfErr, inl, inr, Bool, true, false, cond, if◌then◌else◌, refl, sym, ap, ◌∙◌, subst}
 use Rattle.my_grammar.specs.declared.login.Login.{Login}
 use Rattle.my_link.specs.Looks.{Looks}
 use Rattle.my_link.specs.Moves.{LinkEnd, NoStop, ReadFault, ReadHold, Stop as LinkStop, WriteFault, WriteHold}
@@ -29,7 +29,8 @@ use Rattle.my_client.proofs.Moving.{all_pending}
 use Rattle.my_client.proofs.Stopping.{AreTold, TellsSo, run_tells}
 use Rattle.my_line.specs.Waits.{WhyUnmade}
 use Rattle.my_conn.specs.Conn.{ConnSeen}
-use Rattle.my_conn.specs.News.{Given, NewIs}
+use Rattle.my_conn.specs.News.{Given, IsUnmade, NewIs}
+use Rattle.my_conn.specs.declared.unmade.Unmade.{Unmade}
 
 -- an error of a connection's own
 abbrev pub IsOwnKind : IoKind → Type 0
@@ -140,8 +141,10 @@ unmade_own login x y e (inr (inr w)) =
     (open_told login k (asked_by nothing_kept Connect) (all_pending first w.driven.moves)) w.driven.comes
 
 -- a connection that wasn't made has an error of its own
-pub new_own : {L : Type 0} (look : L → Looks) (opts : OptsView) (g : Given) (e : Error) → NewIs look opts g (Err e) → IsOwn e
-new_own look opts g e w = unmade_own (login_of opts) g.looks w.0 e w.1
+pub new_own : {L : Type 0} (look : L → Looks) (opts : OptsView) (g : Given) (u : Unmade L) → IsUnmade look opts g u → IsOwn u.error
+new_own look opts g u w = unmade_own (login_of opts) g.looks (look u.link) u.error w.why
 
-pub new_refused : {L : Type 0} (look : L → Looks) (opts : OptsView) (g : Given) (r : Result (ConnSeen L) Error) (e : UrlError) → NewIs look opts g r → r ≡ Err (errors.Url e) → ⊥
-new_refused {L} look opts g r e w is = new_own look opts g (errors.Url e) (subst (λ (r : Result (ConnSeen L) Error). NewIs look opts g r) is w)
+pub new_refused : {L : Type 0} (look : L → Looks) (opts : OptsView) (g : Given) (read : Result OptsView UrlError) (r : Result (ConnSeen L) (Unmade L)) → NewIs look opts g r
+    → IfErr r (λ u. (e : UrlError) → u.error ≡ errors.Url e → read ≡ Err e)
+new_refused look opts g read (Ok c) w = tt
+new_refused look opts g read (Err u) w = λ e is. absurd (subst IsOwn is (new_own look opts g u w))

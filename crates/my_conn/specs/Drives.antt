@@ -75,6 +75,10 @@ DoneIs look c call old new result = WaitIs look done_of c call old new result
 abbrev pub NextIs : {L : Type 0} → (L → Looks) → ConnSeen L → ConnSeen L → Result NextAnswer Error → Type 0
 NextIs look old new result = WaitIs look next_of kinds.NextRow calls.NextRow old new result
 
+-- The connection is ended, and this is its link as that left it.
+abbrev pub EndIs : {L : Type 0} → (L → Looks) → ConnSeen L → Result (Unit {0}) Error × L → Type 0
+EndIs {L} look old result = (end : ConnSeen L) × DoneIs look kinds.Quit calls.Quit old end result.0 × (result.1 ≡ end.link)
+
 -- a set is taken
 abbrev pub TakeIs : {L : Type 0} → (L → Looks) → ConnSeen L → ConnSeen L → Result Bool Error → Type 0
 TakeIs look old new result = WaitIs look taken_of kinds.TakeSet calls.TakeSet old new result

@@ -10,4 +10,6 @@ pub mod Drives
 pub mod Facts
 pub mod Clean
 pub mod News
+pub mod Sent
 pub mod Streams
+pub mod Unread

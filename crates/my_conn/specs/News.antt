@@ -14,6 +14,7 @@ use Rattle.my_session.specs.View.{View}
 use Rattle.my_line.specs.Waits.{IsShaken, WhyUnmade}
 use Rattle.my_conn.specs.Conn.{ConnSeen, session_of}
 use Rattle.my_conn.specs.declared.conn.Fixed.{Fixed}
+use Rattle.my_conn.specs.declared.unmade.Unmade.{Unmade}
 
 -- what a connection is before its first call: no pool handed it out, and whether it is to be reset is as the options say
 abbrev pub first_fixed : OptsView → ℕ → Fixed
@@ -43,12 +44,21 @@ pub record IsNew {L : Type 0} (look : L → Looks) (opts : OptsView) (g : Given)
   pub is_first : IsFirst opts g first
   pub shaken : IsShaken (login_of opts) g.now g.looks (look c.link) first (session_of c) c.tape
 
-abbrev pub NewIs : {L : Type 0} → (L → Looks) → OptsView → Given → Result (ConnSeen L) Error → Type 0
-NewIs look opts g (Ok c) = IsNew look opts g c
-NewIs look opts g (Err e) = (y : Looks) × WhyUnmade (login_of opts) g.looks y e
+-- it failed, and its link is handed back as that left it
+pub record IsUnmade {L : Type 0} (look : L → Looks) (opts : OptsView) (g : Given) (u : Unmade L) : Type 0 where
+  pub why : WhyUnmade (login_of opts) g.looks (look u.link) u.error
+  pub tape : u.tape ≡ None
 
--- Connecting by a text that reads as these options is connecting with them; a text that gives none is refused with its cause, unless
--- memory ran out.
-abbrev pub FromUrlIs : {L : Type 0} → (L → Looks) → Result OptsView UrlError → Given → Result (ConnSeen L) Error → Type 0
-FromUrlIs look (Ok opts) g result = NewIs look opts g result
-FromUrlIs look (Err e) g result = (result ≡ Err (errors.Url e)) ⊎ (result ≡ Err errors.NoMemory)
+abbrev pub NewIs : {L : Type 0} → (L → Looks) → OptsView → Given → Result (ConnSeen L) (Unmade L) → Type 0
+NewIs look opts g (Ok c) = IsNew look opts g c
+NewIs look opts g (Err u) = IsUnmade look opts g u
+
+-- where no tape is kept
+abbrev pub untaped : {L : Type 0} → Error → L → Unmade L
+untaped error link = record { error = error; link = link; tape = None }
+
+-- Connecting by a text that reads as these options is connecting with them. A text that gives none is refused with its cause, unless
+-- memory ran out, and the link is handed back as it came.
+abbrev pub FromUrlIs : {L : Type 0} → (L → Looks) → Result OptsView UrlError → Given → L → Result (ConnSeen L) (Unmade L) → Type 0
+FromUrlIs look (Ok opts) g link result = NewIs look opts g result
+FromUrlIs look (Err e) g link result = (result ≡ Err (untaped (errors.Url e) link)) ⊎ (result ≡ Err (untaped errors.NoMemory link))

@@ -3,17 +3,18 @@ ghost use Rattle.std.specs.Prelude.{◌≡◌, ◌||◌, Some, None, true, false
 ghost use Rattle.std.specs.Option.{option_copied};
 ghost use Rattle.my_session.specs.Login.{with_account};
 ghost use Rattle.my_session.specs.Sessions.{is_dirty, is_taken, known_by};
-ghost use Rattle.my_line.specs.Calls.{pending_after};
-ghost use Rattle.my_conn.specs.Calls.{lost_answer};
 ghost use Rattle.my_conn.specs.Clean.{DidAccount, DidClean, EachAccount, EachClean};
 ghost use Rattle.my_conn.specs.News.{first_fixed};
 
+mod unread;
+
+use crate::answers::{lost_answer, met_at, pending_after};
 use my_client::{After, Tape};
 use my_frame::NoMemory;
 use my_line::{cancel_open, forget_open, poll_once};
 use my_link::{CheckStep, Link, Met};
 use my_opts::Opts;
-use my_reading::{Answer, Call, CallKind, DriverError, Error, SetColumns};
+use my_reading::{Call, CallKind, Error, SetColumns};
 use my_reply::OkPacket;
 use my_session::Session;
 use my_statements::Statement;
@@ -76,43 +77,6 @@ impl<L> Model for Conn<L> {
     } };
 
     ghost invariant = { λ c. Standing c.lost c.session.seen c.tape c.pending };
-}
-
-// What a call of a lost connection returns.
-fn lost_answer(kind: CallKind) -> After
-    ensures { result ≡ lost_answer kind }
-{
-    match kind {
-        CallKind::ForgetTransaction | CallKind::Quit => After::Answered(Answer::Ready),
-        CallKind::Connect
-        | CallKind::Query
-        | CallKind::Prepare
-        | CallKind::Execute
-        | CallKind::Batch
-        | CallKind::CloseStmt
-        | CallKind::NextRow
-        | CallKind::DropResult
-        | CallKind::TakeSet
-        | CallKind::SkipTaken
-        | CallKind::Ping
-        | CallKind::Reset
-        | CallKind::ChangeUser
-        | CallKind::Begin
-        | CallKind::Commit
-        | CallKind::Rollback
-        | CallKind::CleanForPool
-        | CallKind::ResetForPool => After::Failed(Error::Driver(DriverError::ConnectionClosed)),
-    }
-}
-
-// The call that is open then.
-fn pending_after(kind: CallKind, after: &After) -> Option<CallKind>
-    ensures { result ≡ pending_after kind after.now }
-{
-    match after {
-        After::Pending => Some(kind),
-        After::Answered(_) | After::Failed(_) => None,
-    }
 }
 
 impl<L> Conn<L> {
@@ -345,15 +309,16 @@ impl<L: Link> Conn<L> {
         self.pending = None;
     }
 
-    /// Whether its link is alive, while nothing is expected from it. It is dead where bytes were received that no call
-    /// read.
-    pub fn check(&mut self) -> CheckStep
-        ensures { CheckedIs L.looks self.old self.new result }
+    /// Whether its link is alive, while nothing is expected from it, and what was met. It is dead where bytes were received that no
+    /// call read.
+    pub fn check(&mut self) -> (CheckStep, Met)
+        ensures { CheckedIs L.looks self.old self.new result.1 result.0 }
     {
         if self.session.has_unread() {
-            return CheckStep::Dead;
+            return (CheckStep::Dead, Met::nothing());
         }
-        self.link.check()
+        let step = self.link.check();
+        (step, met_at(step))
     }
 }
 
@@ -376,6 +341,24 @@ impl<L> Conn<L> {
                 drop(self.tape.take());
             }
         }
+    }
+
+    /// Lets the connection go, and returns its link. Nothing is sent.
+    pub fn into_link(self) -> L
+        ensures { result ≡ self.link }
+    {
+        let Conn {
+            alloc: _,
+            session,
+            link,
+            tape,
+            pending: _,
+            lost: _,
+            fixed: _,
+        } = self;
+        drop(session);
+        drop(tape);
+        link
     }
 
     pub(crate) fn link(&self) -> &L

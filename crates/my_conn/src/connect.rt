@@ -1,36 +1,40 @@
 //! Connecting over a link that never holds.
-ghost use Rattle.std.specs.Prelude.{◌≡◌, ◌≤◌, None, Ok, Err, IfOk, length};
-ghost use Rattle.my_conn.specs.Conn.{ConnSeen};
-ghost use Rattle.my_conn.specs.Drives.{DoneIs};
+ghost use Rattle.std.specs.Prelude.{◌≡◌, ◌≤◌, None, Ok, Err, IfErr, length};
+ghost use Rattle.my_conn.specs.Drives.{EndIs};
 ghost use Rattle.my_conn.specs.News.{FromUrlIs, NewIs, given_by};
 ghost use Rattle.my_opts.specs.Url.{options_of};
 ghost use Rattle.my_opts_parts.specs.declared.error.UrlError.{UrlError};
 ghost use Rattle.my_opts_parts.specs.declared.limits.TheConstants.{LONGEST_URL};
-ghost use Rattle.my_reading.specs.declared.call.Call.TheVariants as calls;
-ghost use Rattle.my_reading.specs.declared.call.CallKind.TheVariants as kinds;
 ghost use Rattle.my_reading.specs.declared.error.Error.TheVariants as errors;
 
 use crate::conn::{Conn, Fixed};
-use my_client::{TapedConn, begin_conn};
-use my_frame::NoMemory;
+use crate::unmade::Unmade;
+use my_client::{TapedConn, begin_over};
 use my_line::shake_hands;
 use my_link::BlockingLink;
 use my_opts::{Opts, UrlFault};
 use my_reading::Error;
 use std::alloc::Global;
 
-impl<L: BlockingLink + Drop> Conn<L> {
-    /// Connects over this link, and waits until the connection is made. It keeps no tape, and no text follows the login.
+impl<L: BlockingLink> Conn<L> {
+    /// Connects over this link, and waits until the connection is made. It keeps no tape, and no text follows the login. Where it
+    /// fails, the link is handed back with the cause.
     ///
     /// `now` is the moment, in milliseconds. Where the options say that a connection ends, `random` picks among the moments of
     /// its end.
-    pub fn new(alloc: Global, opts: Opts, link: L, now: u64, random: u64) -> Result<Conn<L>, Error>
+    pub fn new(
+        alloc: Global,
+        opts: Opts,
+        link: L,
+        now: u64,
+        random: u64,
+    ) -> Result<Conn<L>, Unmade<L>>
         ensures { NewIs L.looks opts (given_by L.looks L.socket link now random) result }
     {
         let fixed = Fixed::first(&opts, now);
-        let begun = match begin_conn(alloc, opts, link, now, random) {
+        let begun = match begin_over(alloc, opts, link, now, random) {
             Ok(begun) => begun,
-            Err(NoMemory) => return Err(Error::NoMemory),
+            Err(link) => return Err(Unmade::untaped(Error::NoMemory, link)),
         };
         let TapedConn {
             mut session,
@@ -43,9 +47,8 @@ impl<L: BlockingLink + Drop> Conn<L> {
             Ok(()) => return Ok(Conn::made(alloc, session, link, tape, fixed)),
             Err(error) => {
                 drop(session);
-                drop(link);
                 drop(tape);
-                return Err(error);
+                return Err(Unmade::untaped(error, link));
             }
         }
     }
@@ -58,26 +61,25 @@ impl<L: BlockingLink + Drop> Conn<L> {
         link: L,
         now: u64,
         random: u64,
-    ) -> Result<Conn<L>, Error>
+    ) -> Result<Conn<L>, Unmade<L>>
         requires { length url.now ≤ LONGEST_URL }
-        ensures news { FromUrlIs L.looks (options_of url.now) (given_by L.looks L.socket link now random) result }
-        ensures refused { (e : UrlError) → result ≡ Err (errors.Url e) → options_of url.now ≡ Err e }
+        ensures news { FromUrlIs L.looks (options_of url.now) (given_by L.looks L.socket link now random) link result }
+        ensures refused { IfErr result (λ u. (e : UrlError) → u.error ≡ errors.Url e → options_of url.now ≡ Err e) }
     {
         match Opts::from_url(alloc, url) {
             Ok(opts) => Conn::new(alloc, opts, link, now, random),
-            Err(UrlFault::Url(error)) => Err(Error::Url(error)),
-            Err(UrlFault::NoMemory) => Err(Error::NoMemory),
+            Err(UrlFault::Url(error)) => Err(Unmade::untaped(Error::Url(error), link)),
+            Err(UrlFault::NoMemory) => Err(Unmade::untaped(Error::NoMemory, link)),
         }
     }
 
-    /// Ends the connection, and lets it go.
-    pub fn disconnect(self, alloc: Global) -> Result<(), Error>
+    /// Ends the connection, and returns its link, for its caller to let go. After the quit nothing is sent there.
+    pub fn disconnect(self, alloc: Global) -> (Result<(), Error>, L)
         requires { self.pending ≡ None }
-        ensures { (end : ConnSeen L) × DoneIs L.looks kinds.Quit calls.Quit self end result }
+        ensures { EndIs L.looks self result }
     {
         let mut conn = self;
         let ended = conn.quit(alloc);
-        drop(conn);
-        ended
+        (ended, conn.into_link())
     }
 }

@@ -1,5 +1,5 @@
 //! A connection that is being made.
-ghost use Rattle.std.specs.Prelude.{◌≡◌, None, IfOk, is_some};
+ghost use Rattle.std.specs.Prelude.{◌≡◌, None, IfErr, IfOk, is_some};
 ghost use Rattle.my_opts_parts.specs.Pool.{deadline_of};
 ghost use Rattle.my_session.specs.Login.{login_of};
 ghost use Rattle.my_session.specs.View.{first_lifetime};
@@ -11,10 +11,11 @@ ghost use Rattle.my_conn.specs.Connects.{kept_by};
 ghost use Rattle.my_conn.specs.News.{first_fixed};
 
 use crate::conn::{Conn, Fixed};
-use my_client::{Tape, TapedConn, begin_conn};
+use crate::unmade::Unmade;
+use my_client::{Tape, TapedConn, begin_over};
 use my_frame::NoMemory;
-use my_line::{Making, make};
-use my_link::{Aid, Link};
+use my_line::{MakeStep, Making, make};
+use my_link::{Aid, Link, Met};
 use my_opts::Opts;
 use my_reading::Error;
 use my_session::Session;
@@ -56,7 +57,8 @@ pub enum Connected<L> {
     /// It isn't made yet.
     Pending(Connecting<L>),
     Made(Conn<L>),
-    Failed(Error),
+    /// It failed: what is left of it.
+    Failed(Unmade<L>),
 }
 
 // A tape that is kept, or isn't.
@@ -78,10 +80,26 @@ impl<L> Connecting<L> {
     {
         self.tape.take()
     }
+
+    /// Gives the making up, and returns the link. Nothing is sent.
+    pub fn into_link(self) -> L
+        ensures { result ≡ self.link }
+    {
+        let Connecting {
+            session,
+            link,
+            tape,
+            at: _,
+            fixed: _,
+        } = self;
+        drop(session);
+        drop(tape);
+        link
+    }
 }
 
-impl<L: Link + Drop> Connecting<L> {
-    /// The handshake begins. Where `keep_tape` is set, the connection keeps all bytes and calls.
+impl<L: Link> Connecting<L> {
+    /// The handshake begins. Where `keep_tape` is set, the connection keeps all bytes and calls. Out of memory the link is returned.
     ///
     /// `now` is the moment, in milliseconds. Where the options say that a connection ends, `random` picks among the moments of
     /// its end.
@@ -92,7 +110,7 @@ impl<L: Link + Drop> Connecting<L> {
         now: u64,
         random: u64,
         keep_tape: bool,
-    ) -> Result<Connecting<L>, NoMemory>
+    ) -> Result<Connecting<L>, L>
         ensures begins { IfOk result (λ c. ConnectsFor (login_of opts) c.seen c.tape first_kept first_asked) }
         ensures lifetime { IfOk result (λ c. c.lifetime ≡
             first_lifetime opts (L.socket link) (deadline_of opts.pool_opts now random)) }
@@ -100,9 +118,10 @@ impl<L: Link + Drop> Connecting<L> {
         ensures link { IfOk result (λ c. c.link ≡ link) }
         ensures at { IfOk result (λ c. c.at ≡ Shakes) }
         ensures fixed { IfOk result (λ c. c.fixed ≡ first_fixed opts now) }
+        ensures back { IfErr result (λ l. l ≡ link) }
     {
         let fixed = Fixed::first(&opts, now);
-        let begun = begin_conn(alloc, opts, link, now, random)?;
+        let begun = begin_over(alloc, opts, link, now, random)?;
         let TapedConn {
             session,
             link,
@@ -118,11 +137,12 @@ impl<L: Link + Drop> Connecting<L> {
     }
 
     /// Continues the making of the connection: the handshake, and then each text that the aid tells, with its result read
-    /// whole before the next. Where it isn't made yet, the connection that is being made is returned.
+    /// whole before the next. Where it isn't made yet, the connection that is being made is returned; where it failed, what is left
+    /// of it. With it comes what was met.
     ///
     /// `now` is the moment, in milliseconds. The aid is asked what follows, and for nothing else.
-    pub fn poll<A: Aid>(self, alloc: Global, aid: &mut A, now: u64) -> Connected<L>
-        ensures connects { ConnectIs L.looks (A.texts aid.old) now self result }
+    pub fn poll<A: Aid>(self, alloc: Global, aid: &mut A, now: u64) -> (Connected<L>, Met)
+        ensures connects { ConnectIs L.looks (A.texts aid.old) now self result.1 result.0 }
         ensures texts { A.texts aid.new ≡ A.texts aid.old }
     {
         let Connecting {
@@ -133,19 +153,31 @@ impl<L: Link + Drop> Connecting<L> {
             fixed,
         } = self;
         match make(alloc, &mut session, &mut link, &mut tape, at, aid, now) {
-            Ok(Some(at)) => Connected::Pending(Connecting {
-                session,
-                link,
-                tape,
-                at,
-                fixed,
-            }),
-            Ok(None) => Connected::Made(Conn::made(alloc, session, link, tape, fixed)),
-            Err(error) => {
+            Ok((step, met)) => match step {
+                MakeStep::Pending(at) => (
+                    Connected::Pending(Connecting {
+                        session,
+                        link,
+                        tape,
+                        at,
+                        fixed,
+                    }),
+                    met,
+                ),
+                MakeStep::Made => {
+                    let conn = Conn::made(alloc, session, link, tape, fixed);
+                    (Connected::Made(conn), met)
+                }
+                MakeStep::Failed(error) => {
+                    drop(session);
+                    (Connected::Failed(Unmade { error, link, tape }), met)
+                }
+            },
+            Err(NoMemory) => {
                 drop(session);
-                drop(link);
                 drop(tape);
-                Connected::Failed(error)
+                let left = Unmade::untaped(Error::NoMemory, link);
+                (Connected::Failed(left), Met::nothing())
             }
         }
     }

@@ -1,13 +1,10 @@
 //! A connection at which no call is open, by its type.
 ghost use Rattle.std.specs.Prelude.{◌≡◌, None, IfErr, OkIff};
 ghost use Rattle.my_handshake.specs.Version.{version_of};
-ghost use Rattle.my_conn.specs.Conn.{ConnSeen};
-ghost use Rattle.my_conn.specs.Drives.{DoneIs};
+ghost use Rattle.my_conn.specs.Drives.{EndIs};
 ghost use Rattle.my_conn.specs.Forgets.{ForgetIs};
 ghost use Rattle.my_connect.specs.Idle.{idle_of};
 ghost use Rattle.my_conn.specs.Facts.{affected_by, info_by, insert_by, warnings_by};
-ghost use Rattle.my_reading.specs.declared.call.Call.TheVariants as calls;
-ghost use Rattle.my_reading.specs.declared.call.CallKind.TheVariants as kinds;
 
 use my_conn::{Conn, NextAnswer};
 use my_frame::Blob;
@@ -132,10 +129,10 @@ impl<L> Client<L> {
     }
 }
 
-impl<L: BlockingLink + Drop> Client<L> {
-    /// Ends the connection, and lets it go.
-    pub fn disconnect(self, alloc: Global) -> Result<(), Error>
-        ensures { (end : ConnSeen L) × DoneIs L.looks kinds.Quit calls.Quit self end result }
+impl<L: BlockingLink> Client<L> {
+    /// Ends the connection, and returns its link, for its caller to let go. After the quit nothing is sent there.
+    pub fn disconnect(self, alloc: Global) -> (Result<(), Error>, L)
+        ensures { EndIs L.looks self result }
     {
         self.conn.disconnect(alloc)
     }

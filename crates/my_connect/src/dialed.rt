@@ -1,11 +1,12 @@
 //! A client over a world.
 ghost use Rattle.std.specs.Prelude.{◌≡◌};
 ghost use Rattle.my_opts.specs.Url.{options_of};
-ghost use Rattle.my_connect.specs.Connected.{ConnectIs, OptionsAre, UrlConnectIs};
+ghost use Rattle.my_conn.specs.News.{given_by};
+ghost use Rattle.my_connect.specs.Connected.{ConnectIs, LeftBy, MadeBy, OptionsAre, UrlConnectIs};
 ghost use Rattle.my_connect.specs.Dialed.{DialIs, undialed};
 
 use crate::client::Client;
-use my_conn::Conn;
+use my_conn::{Conn, Unmade};
 use my_frame::NoMemory;
 use my_link::{BlockingLink, DialStep, Dialer};
 use my_opts::{Opts, UrlFault};
@@ -55,24 +56,56 @@ fn dial<W: World>(alloc: Global, opts: &Opts, world: &mut W) -> Result<W::L, Err
     }
 }
 
+// What is left of a connection that wasn't made: the world takes the link back.
+fn give_up<W: World>(world: &mut W, left: Unmade<W::L>) -> Error
+    ensures { LeftBy left.error (W.L.looks left.link) (W.seen world.old) (W.seen world.new) result }
+{
+    let Unmade { error, link, tape } = left;
+    drop(tape);
+    match world.hang_up(0, link) {
+        Ok(()) => error,
+        Err(NoMemory) => {
+            drop(error);
+            Error::NoMemory
+        }
+    }
+}
+
+// A connection over the link that was dialed.
+fn make<W: World>(
+    alloc: Global,
+    opts: Opts,
+    link: W::L,
+    world: &mut W,
+    now: u64,
+    random: u64,
+) -> Result<Client<W::L>, Error>
+where
+    W::L: BlockingLink,
+    ensures { MadeBy W.L.looks opts (given_by W.L.looks W.L.socket link now random) (W.seen world.old) (W.seen world.new) result }
+{
+    match Conn::new(alloc, opts, link, now, random) {
+        Ok(conn) => Ok(Client::of(conn)),
+        Err(left) => Err(give_up(world, left)),
+    }
+}
+
 /// Connects with these options, and waits until the connection is made. The world dials the link, and tells the moment and a random
-/// word; a dial that gives none is an error of the kind `Dial`. It keeps no tape, and no text follows the login.
+/// word; a dial that gives none is an error of the kind `Dial`. Where the making fails, the world takes the link back. It keeps no
+/// tape, and no text follows the login.
 pub fn connect_with<W: World>(
     alloc: Global,
     opts: Opts,
     world: &mut W,
 ) -> Result<Client<W::L>, Error>
 where
-    W::L: BlockingLink + Drop,
+    W::L: BlockingLink,
     ensures { ConnectIs W.L.looks W.L.socket opts (W.seen world.old) (W.seen world.new) result }
 {
     let now = world.now();
     let random = world.random();
     match dial(alloc, &opts, world) {
-        Ok(link) => match Conn::new(alloc, opts, link, now, random) {
-            Ok(conn) => Ok(Client::of(conn)),
-            Err(error) => Err(error),
-        },
+        Ok(link) => make(alloc, opts, link, world, now, random),
         Err(error) => {
             drop(opts);
             Err(error)
@@ -84,7 +117,7 @@ where
 /// `LONGEST_URL` bytes, which is out of memory.
 pub fn connect<W: World>(alloc: Global, url: &str, world: &mut W) -> Result<Client<W::L>, Error>
 where
-    W::L: BlockingLink + Drop,
+    W::L: BlockingLink,
     ensures { UrlConnectIs W.L.looks W.L.socket (options_of url.now) (W.seen world.old) (W.seen world.new) result }
 {
     match options(alloc, url) {

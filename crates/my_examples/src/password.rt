@@ -10,7 +10,9 @@ where
 {
     match connect(alloc, url, world) {
         Ok(client) => {
-            client.disconnect(alloc)?;
+            let (ended, link) = client.disconnect(alloc);
+            drop(link);
+            ended?;
             Ok(String::from_str(alloc, "welcome")?)
         }
         Err(Error::Server(error)) => Ok(format!(in alloc; "refused: {error}")?),

@@ -17,27 +17,32 @@ use Rattle.my_reading.specs.declared.call.Call.{Call}
 use Rattle.my_reading.specs.declared.call.CallKind.{CallKind}
 use Rattle.my_reading.specs.declared.call.CallKind.TheVariants.{Query, DropResult}
 use Rattle.my_reading.specs.declared.error.Error.{Error}
-use Rattle.my_reading.specs.declared.error.Error.TheVariants as errors
 use Rattle.my_session.specs.Fits.{may_be}
 use Rattle.my_client.specs.declared.poll.After.{After}
 use Rattle.my_client.specs.declared.poll.After.TheVariants.{Pending, Answered, Failed}
 use Rattle.my_client.specs.declared.tape.Tape.{Tape}
 use Rattle.my_client.specs.Ends.{kept_after}
 use Rattle.my_client.specs.Kept.{Asked, Kept}
+use Rattle.my_client.specs.Notes.{Agrees}
 use Rattle.my_session.specs.Sessions.{Seen}
 use Rattle.my_session.specs.View.{View}
 use Rattle.my_client.specs.Lives.{Lives}
 use Rattle.my_client.specs.Polls.{moved_by}
 use Rattle.my_client.proofs.Living.{lives_on, lives_still}
 use Rattle.my_line.specs.Calls.{AfterFits, Does, EachCall, MayPoll, MayStart, PendsBy, asked_for}
-use Rattle.my_line.specs.Makes.{AidRefuses, CallFails, ConnectsFor, GoesOn, IsMade, IsMaking, Leads, MakesFor, Point, StaysMaking, Took, WhyNotMade, first_point}
+use Rattle.my_line.specs.Makes.{AidRefuses, CallFails, ConnectsFor, GoesOn, IsMade, IsMaking, Leads, MakesFor, Point, Polls, StaysMaking, WhyNotMade, all_met, first_point}
 use Rattle.my_line.specs.Stands.{StandsFor}
 use Rattle.my_line.specs.Texts.{Ends, EndsRefused, Follows, FollowsBy, Sends}
 use Rattle.my_line.specs.declared.texts.Making.{Making}
 use Rattle.my_line.specs.declared.texts.Making.TheVariants.{Shakes, Asks, Drops}
+use Rattle.my_line.specs.declared.texts.Next.{Next}
 use Rattle.my_line.proofs.Joins.{Shook, made, shook, still}
 use Rattle.my_line.proofs.Polled.{answer_comes, met_taken, moved_taken, moves_count}
 use Rattle.my_line.proofs.Standing.{does_pend, fits_after, may_start, stands_after}
+
+-- `n` bytes more were received
+abbrev pub Took : ℕ → Kept → Kept → Type 0
+Took n k end = length end.taken ≡ length k.taken + n
 
 -- what the polls received
 same_taken : (call : Option Call) (k : Kept) → (asked_for call k).taken ≡ k.taken
@@ -71,12 +76,12 @@ ready (Failed e) = Failed e
 abbrev pub GoingAfter : Login → CallKind → Seen → Option Tape → Kept → After → Type 0
 GoingAfter login kind t q end Pending = GoesOn login kind None t q end
 GoingAfter login kind t q end (Answered answer) = StandsFor login t q None end
-GoingAfter login kind t q end (Failed e) = Unit {0}
+GoingAfter login kind t q end (Failed e) = Agrees q end
 
 abbrev pub AfterMaking : Login → Making → Seen → Option Tape → Kept → After → Type 0
 AfterMaking login at t q end Pending = MakesFor login at None t q end
 AfterMaking login at t q end (Answered answer) = StandsFor login t q None end
-AfterMaking login at t q end (Failed e) = Unit {0}
+AfterMaking login at t q end (Failed e) = Agrees q end
 
 pub record MadePoll (login : Login) (at : Making) (call : Option Call) (t : Seen) (x y : Looks) (q : Option Tape) (k : Kept) (m : Met) (after : After) : Type 0 where
   pub end : Kept
@@ -109,7 +114,7 @@ module _ (login : Login) (s t : Seen) (x y : Looks) (p q : Option Tape) (m : Met
       record { end = f.0; does = inl (record { asked = a; pending = w.asked.asked; polled = f.2 }); leaves = f.1 }
   shaking (Failed e) each a w =
       let f : Shook login t x y q m (Failed e) k a = shook s t x y p q m (Failed e) each login k a w in
-      record { end = f.end; does = inl (record { asked = a; pending = w.asked.asked; polled = f.polled }); leaves = tt }
+      record { end = f.end; does = inl (record { asked = a; pending = w.asked.asked; polled = f.polled }); leaves = f.agrees }
 
   going : (kind : CallKind) → ((answer : Answer) → may_be kind (told answer) ≡ true → answer ≡ answers.Ready) → (call : Option Call) (o : Option CallKind) (after : After) → MayPoll kind call o → EachCall call s t x y p q m after → StandsFor login s p o k → (end : Kept) × Does login call x y k end m (ready after) × GoingAfter login kind t q end after
   going kind r call o Pending may each w =
@@ -121,7 +126,7 @@ module _ (login : Login) (s t : Seen) (x y : Looks) (p q : Option Tape) (m : Met
       (f.0, subst (λ (v : Answer). Does login call x y k f.0 m (Answered v)) (r answer fits) f.2, f.1)
   going kind r call o (Failed e) may each w =
       let f = stands_after kind call s t x y p q o m (Failed e) may each login k w in
-      (f.0, f.2, tt)
+      (f.0, f.2, f.1.agrees)
 
   asking_leaves : (n : ℕ) (end : Kept) (after : After) → GoingAfter login Query t q end after → AfterMaking login (Asks n) t q end after
   asking_leaves n end Pending w = w
@@ -172,14 +177,13 @@ pub record PointFor (texts : Texts) (login : Login) (first : Making) (x : Looks)
   pub makes : MakesFor login at call s q kept
   pub took : Took n k kept
 
-pub record SoFar (texts : Texts) (now : ℕ) (first : Making) (x : Looks) (u : View) (p : Option Tape) (at : Making) (call : Option Call) (y : Looks) (v : View) (q : Option Tape) : Type 0 where
-  pub count : ℕ
+-- and `count` bytes were received
+pub record SoFar (texts : Texts) (now : ℕ) (first : Making) (x : Looks) (u : View) (p : Option Tape) (at : Making) (call : Option Call) (y : Looks) (v : View) (q : Option Tape) (count : ℕ) : Type 0 where
   pub lives : Lives now count u v
   pub each : (login : Login) (k : Kept) → MakesFor login first None u.seen p k → PointFor texts login first x k at call y v.seen q count
 
-pub begins : (texts : Texts) (now : ℕ) (first : Making) (x : Looks) (u : View) (p : Option Tape) → SoFar texts now first x u p first None x u p
+pub begins : (texts : Texts) (now : ℕ) (first : Making) (x : Looks) (u : View) (p : Option Tape) → SoFar texts now first x u p first None x u p 0
 begins texts now first x u p = record {
-  count = 0;
   lives = lives_still now 0 u u (omega arith) refl;
   each = λ login k w. record { kept = k; earlier = []; leads = refl; makes = w; took = omega arith };
 }
@@ -196,97 +200,114 @@ follows_on texts login (Drops n) to next t q end f w = sends_on texts login (n +
 took_more : (n m : ℕ) (k f end : Kept) → Took n k f → Took m f end → Took (n + m) k end
 took_more n m k f end a b = omega (arith, a, b)
 
-module _ (texts : Texts) (now : ℕ) (first : Making) (x : Looks) (u : View) (p : Option Tape) (at : Making) (call : Option Call) (y : Looks) (v : View) (q : Option Tape) (so : SoFar texts now first x u p at call y v q) where
+module _ (texts : Texts) (now : ℕ) (first : Making) (x : Looks) (u : View) (p : Option Tape) (at : Making) (call : Option Call) (y : Looks) (v : View) (q : Option Tape) (count : ℕ) (so : SoFar texts now first x u p at call y v q count) where
   pub starts : IsMaking first u.seen p → MayStart call v.seen
   starts w =
       let f = so.each w.0 w.1 w.2 in
       making_starts w.0 at call v.seen q f.kept f.makes
 
-module _ (texts : Texts) (now : ℕ) (first : Making) (x : Looks) (u : View) (p : Option Tape) (at : Making) (call : Option Call) (y : Looks) (v : View) (q : Option Tape) (so : SoFar texts now first x u p at call y v q)
+module _ (texts : Texts) (now : ℕ) (first : Making) (x : Looks) (u : View) (p : Option Tape) (at : Making) (call : Option Call) (y : Looks) (v : View) (q : Option Tape) (count : ℕ) (so : SoFar texts now first x u p at call y v q count)
     (z : Looks) (w : View) (r : Option Tape) (m : Met) (after : After) (each : EachCall call v.seen w.seen y z q r m after) (lives : Lives now m.taken v w) where
   by_after : (g : After) → after ≡ g → EachCall call v.seen w.seen y z q r m g
   by_after g e = subst (λ (g : After). EachCall call v.seen w.seen y z q r m g) e each
 
-  all_lives : Lives now (so.count + m.taken) u w
-  all_lives = lives_on now so.count m.taken u v w so.lives lives
+  all_lives : Lives now (count + m.taken) u w
+  all_lives = lives_on now count m.taken u v w so.lives lives
 
-  pub goes_on : (answer : Answer) → after ≡ Answered answer → (to : Making) (next : Call) → Follows texts at to next → SoFar texts now first x u p to (Some next) z w r
-  goes_on answer e to next follows = record {
-    count = so.count + m.taken;
+  -- the calls so far, and the last one
+  abbrev sum : Met
+  sum = all_met m (count + m.taken)
+
+  made_poll : (login : Login) (k : Kept) (f : PointFor texts login first x k at call y v.seen q count) (g : After) → after ≡ g → MadePoll login at call w.seen y z r f.kept m g
+  made_poll login k f g e = polled_making login v.seen w.seen y z q r m f.kept at call g (by_after g e) f.makes
+
+  calls : (login : Login) (k : Kept) (f : PointFor texts login first x k at call y v.seen q count) (g : After) (d : MadePoll login at call w.seen y z r f.kept m g)
+      → (c : Polls texts login first x z k d.end sum (ready g)) × (c.last.at ≡ at)
+  calls login k f g d = (
+    record {
+      earlier = f.earlier;
+      last = record { at = at; call = call; looks = y; kept = f.kept };
+      leads = f.leads;
+      met = m;
+      does = d.does;
+      met_is = refl;
+      took = took_more count m.taken k f.kept d.end f.took (does_take login call y z f.kept d.end m (ready g) d.does);
+    },
+    refl,
+  )
+
+  pub goes_on : (answer : Answer) → after ≡ Answered answer → (to : Making) (next : Call) → Follows texts at to next → (taken : ℕ) → taken ≡ count + m.taken → SoFar texts now first x u p to (Some next) z w r taken
+  goes_on answer e to next follows taken is = subst (λ (n : ℕ). SoFar texts now first x u p to (Some next) z w r n) (sym is) (record {
     lives = all_lives;
     each = λ login k h.
         let f = so.each login k h in
-        let d : MadePoll login at call w.seen y z r f.kept m (Answered answer) = polled_making login v.seen w.seen y z q r m f.kept at call (Answered answer) (by_after (Answered answer) e) f.makes in
+        let d : MadePoll login at call w.seen y z r f.kept m (Answered answer) = made_poll login k f (Answered answer) e in
         record {
           kept = d.end;
           earlier = record { at = at; call = call; looks = y; kept = f.kept } ∷ f.earlier;
           leads = (f.leads, record { met = m; does = d.does; call = next; call_is = refl; follows = follows });
           makes = follows_on texts login at to next w.seen r d.end follows d.leaves;
-          took = took_more so.count m.taken k f.kept d.end f.took (does_take login call y z f.kept d.end m (Answered answers.Ready) d.does);
+          took = took_more count m.taken k f.kept d.end f.took (does_take login call y z f.kept d.end m (Answered answers.Ready) d.does);
         };
-  }
+  })
 
-  pends_at : IsMaking first u.seen p → after ≡ Pending → Rose x.counts.holds z.counts.holds ⊎ (MOST_TAKEN ≤ so.count + m.taken)
+  pends_at : IsMaking first u.seen p → after ≡ Pending → Rose x.counts.holds z.counts.holds ⊎ (MOST_TAKEN ≤ count + m.taken)
   pends_at h e =
       let f = so.each h.0 h.1 h.2 in
-      let d : MadePoll h.0 at call w.seen y z r f.kept m Pending = polled_making h.0 v.seen w.seen y z q r m f.kept at call Pending (by_after Pending e) f.makes in
+      let d : MadePoll h.0 at call w.seen y z r f.kept m Pending = made_poll h.0 h.1 f Pending e in
       by_cause (same_counts texts h.0 (first_point first x h.1) (record { at = at; call = call; looks = y; kept = f.kept }) f.earlier f.leads) (does_pend h.0 call y z f.kept d.end m Pending d.does)
     where
-      by_cause : y.counts ≡ x.counts → PendsBy Pending y z m → Rose x.counts.holds z.counts.holds ⊎ (MOST_TAKEN ≤ so.count + m.taken)
+      by_cause : y.counts ≡ x.counts → PendsBy Pending y z m → Rose x.counts.holds z.counts.holds ⊎ (MOST_TAKEN ≤ count + m.taken)
       by_cause same (inl rose) = inl (subst (λ (c : Counts). Rose c.holds z.counts.holds) same rose)
       by_cause same (inr full) = inr (omega (arith, full))
 
-  pub stays : IsMaking first u.seen p → after ≡ Pending → StaysMaking texts now first at x z u w p r
-  stays h e = record {
-    count = so.count + m.taken;
+  pub stays : IsMaking first u.seen p → after ≡ Pending → (all : Met) → all ≡ sum → StaysMaking texts now first at x z u w p r all
+  stays h e all is = subst (λ (n : Met). StaysMaking texts now first at x z u w p r n) (sym is) (record {
     lives = all_lives;
     pends = pends_at h e;
     each = λ login k h.
         let f = so.each login k h in
-        let d : MadePoll login at call w.seen y z r f.kept m Pending = polled_making login v.seen w.seen y z q r m f.kept at call Pending (by_after Pending e) f.makes in (
-          d.end,
-          d.leaves,
-          took_more so.count m.taken k f.kept d.end f.took (does_take login call y z f.kept d.end m Pending d.does),
-          record { earlier = f.earlier; last = record { at = at; call = call; looks = y; kept = f.kept }; leads = f.leads; met = m; does = d.does },
-          refl,
-        );
-  }
+        let d : MadePoll login at call w.seen y z r f.kept m Pending = made_poll login k f Pending e in
+        let c = calls login k f Pending d in
+        (d.end, d.leaves, c.0, c.1);
+  })
 
-  pub is_made : (answer : Answer) → after ≡ Answered answer → Ends texts at → IsMade texts now first x z u w p r
-  is_made answer e ends = record {
-    count = so.count + m.taken;
+  pub is_made : (answer : Answer) → after ≡ Answered answer → Ends texts at → (all : Met) → all ≡ sum → IsMade texts now first x z u w p r all
+  is_made answer e ends all is = subst (λ (n : Met). IsMade texts now first x z u w p r n) (sym is) (record {
     lives = all_lives;
     each = λ login k h.
         let f = so.each login k h in
-        let d : MadePoll login at call w.seen y z r f.kept m (Answered answer) = polled_making login v.seen w.seen y z q r m f.kept at call (Answered answer) (by_after (Answered answer) e) f.makes in (
-          d.end,
-          d.leaves,
-          took_more so.count m.taken k f.kept d.end f.took (does_take login call y z f.kept d.end m (Answered answers.Ready) d.does),
-          record { earlier = f.earlier; last = record { at = at; call = call; looks = y; kept = f.kept }; leads = f.leads; met = m; does = d.does },
-          ends,
-        );
-  }
+        let d : MadePoll login at call w.seen y z r f.kept m (Answered answer) = made_poll login k f (Answered answer) e in
+        let c = calls login k f (Answered answer) d in
+        (d.end, d.leaves, c.0, subst (λ (a : Making). Ends texts a) (sym c.1) ends);
+  })
 
-  pub call_fails : (error : Error) → after ≡ Failed error → CallFails texts first x z u.seen p error
+  call_fails : (error : Error) → after ≡ Failed error → CallFails texts first x z u.seen p r sum error
   call_fails error e login k h =
       let f = so.each login k h in
-      let d : MadePoll login at call w.seen y z r f.kept m (Failed error) = polled_making login v.seen w.seen y z q r m f.kept at call (Failed error) (by_after (Failed error) e) f.makes in
-      (d.end, record { earlier = f.earlier; last = record { at = at; call = call; looks = y; kept = f.kept }; leads = f.leads; met = m; does = d.does })
+      let d : MadePoll login at call w.seen y z r f.kept m (Failed error) = made_poll login k f (Failed error) e in
+      (d.end, d.leaves, (calls login k f (Failed error) d).0)
 
-  pub refuses : (answer : Answer) → after ≡ Answered answer → (error : Error) → EndsRefused texts at error → AidRefuses texts first x z u.seen p error
-  refuses answer e error ends login k h =
-      let f = so.each login k h in
-      let d : MadePoll login at call w.seen y z r f.kept m (Answered answer) = polled_making login v.seen w.seen y z q r m f.kept at call (Answered answer) (by_after (Answered answer) e) f.makes in
-      (d.end, record { earlier = f.earlier; last = record { at = at; call = call; looks = y; kept = f.kept }; leads = f.leads; met = m; does = d.does }, ends)
+  refuses : (answer : Answer) → after ≡ Answered answer → (error : Error) → EndsRefused texts at error → AidRefuses texts first x z u.seen p r (record sum { refused = 1 }) error
+  refuses answer e error ends = record {
+    calls = sum;
+    met_is = refl;
+    each = λ login k h.
+        let f = so.each login k h in
+        let d : MadePoll login at call w.seen y z r f.kept m (Answered answer) = made_poll login k f (Answered answer) e in
+        let c = calls login k f (Answered answer) d in
+        (d.end, d.leaves.agrees, c.0, subst (λ (a : Making). EndsRefused texts a error) (sym c.1) ends);
+  }
 
-  -- why no connection was made, where none follows
-  pub not_made : (answer : Answer) → after ≡ Answered answer → (error : Error) → (error ≡ errors.NoMemory) ⊎ EndsRefused texts at error → WhyNotMade texts first x z u.seen p error
-  not_made answer e error (inl none) = inl none
-  not_made answer e error (inr ends) = inr (inr (refuses answer e error ends))
+  -- why no connection was made
+  pub failed_so : (error : Error) → after ≡ Failed error → (all : Met) → all ≡ sum → WhyNotMade texts first x z u.seen p r all error
+  failed_so error e all is = subst (λ (n : Met). WhyNotMade texts first x z u.seen p r n error) (sym is) (inl (call_fails error e))
+
+  pub refused_so : (answer : Answer) → after ≡ Answered answer → (error : Error) → EndsRefused texts at error → (all : Met) → all ≡ sum
+      → WhyNotMade texts first x z u.seen p r (record all { refused = 1 }) error
+  refused_so answer e error ends all is =
+      subst (λ (n : Met). WhyNotMade texts first x z u.seen p r (record n { refused = 1 }) error) (sym is) (inr (refuses answer e error ends))
 
 -- what follows, where the aid tells the same
-pub ends_so : (t texts : Texts) (at : Making) (o : Option (Making × Call)) → t ≡ texts → o ≡ None → FollowsBy t at (Ok o) → Ends texts at
-ends_so t texts at o same none w = subst (λ (t : Texts). Ends t at) same (subst (λ (o : Option (Making × Call)). FollowsBy t at (Ok o)) none w)
-
-pub follows_so : (t texts : Texts) (at : Making) (o : Option (Making × Call)) (to : Making) (call : Call) → t ≡ texts → o ≡ Some (to, call) → FollowsBy t at (Ok o) → Follows texts at to call
-follows_so t texts at o to call same some w = subst (λ (t : Texts). Follows t at to call) same (subst (λ (o : Option (Making × Call)). FollowsBy t at (Ok o)) some w)
+pub next_so : (t texts : Texts) (at : Making) (next to : Next) → t ≡ texts → next ≡ to → FollowsBy t at next → FollowsBy texts at to
+next_so t texts at next to same is w = subst (λ (t : Texts). FollowsBy t at to) same (subst (λ (n : Next). FollowsBy t at n) is w)

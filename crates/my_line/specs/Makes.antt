@@ -1,7 +1,5 @@
 -- What the making of a connection does to a line.
 use Rattle.std.specs.Prelude.{ℕ, ◌≡◌, ◌≤◌, ◌⊎◌, ◌+◌, List, [], ◌∷◌, length, Option, Some, None}
-use Rattle.std.specs.declared.result.Result.{Result}
-use Rattle.std.specs.declared.result.Result.TheVariants.{Ok, Err}
 use Rattle.my_frame.specs.Outside.{Rose}
 use Rattle.my_frame.specs.declared.limits.TheConstants.{MOST_TAKEN}
 use Rattle.my_grammar.specs.declared.login.Login.{Login}
@@ -13,7 +11,6 @@ use Rattle.my_reading.specs.declared.call.Call.{Call}
 use Rattle.my_reading.specs.declared.call.CallKind.{CallKind}
 use Rattle.my_reading.specs.declared.call.CallKind.TheVariants.{Connect}
 use Rattle.my_reading.specs.declared.error.Error.{Error}
-use Rattle.my_reading.specs.declared.error.Error.TheVariants as errors
 use Rattle.my_reading.specs.Calls.{kind_of}
 use Rattle.my_session.specs.Sessions.{Seen}
 use Rattle.my_session.specs.View.{View}
@@ -27,6 +24,8 @@ use Rattle.my_client.specs.Stands.{StandsAsked}
 use Rattle.my_line.specs.Calls.{Does, MayPoll}
 use Rattle.my_line.specs.Stands.{StandsFor}
 use Rattle.my_line.specs.Texts.{Ends, EndsRefused, Follows, kind_at}
+use Rattle.my_line.specs.declared.making.MakeStep.{MakeStep}
+use Rattle.my_line.specs.declared.making.MakeStep.TheVariants as steps
 use Rattle.my_line.specs.declared.texts.Making.{Making}
 use Rattle.my_line.specs.declared.texts.Making.TheVariants.{Shakes, Asks, Drops}
 
@@ -73,51 +72,53 @@ abbrev pub Leads : Texts → Login → Point → List Point → Point → Type 0
 Leads texts login p [] q = q ≡ p
 Leads texts login p (m ∷ ms) q = Leads texts login p ms m × Passes texts login m q
 
--- The calls of one poll: each but the last was answered, and the last returned this.
-pub record Polls (texts : Texts) (login : Login) (at : Making) (x y : Looks) (k end : Kept) (after : After) : Type 0 where
+-- what calls met of which the last one met this, and which received `n` bytes in all
+abbrev pub all_met : Met → ℕ → Met
+all_met met n = record met { taken = n }
+
+-- The calls of one poll: each but the last was answered, and the last returned this. They met what the last one met, and received all
+-- bytes that came.
+pub record Polls (texts : Texts) (login : Login) (at : Making) (x y : Looks) (k end : Kept) (m : Met) (after : After) : Type 0 where
   pub earlier : List Point
   pub last : Point
   pub leads : Leads texts login (first_point at x k) earlier last
   pub met : Met
   pub does : Does login last.call last.looks y last.kept end met after
-
--- `n` bytes more were taken
-abbrev pub Took : ℕ → Kept → Kept → Type 0
-Took n k end = length end.taken ≡ length k.taken + n
+  pub met_is : m ≡ all_met met m.taken
+  pub took : length end.taken ≡ length k.taken + m.taken
 
 -- it isn't made yet: a call of it is pending
-pub record StaysMaking (texts : Texts) (now : ℕ) (at to : Making) (x y : Looks) (u v : View) (p q : Option Tape) : Type 0 where
-  pub count : ℕ
-  pub lives : Lives now count u v
-  pub pends : Rose x.counts.holds y.counts.holds ⊎ (MOST_TAKEN ≤ count)
+pub record StaysMaking (texts : Texts) (now : ℕ) (at to : Making) (x y : Looks) (u v : View) (p q : Option Tape) (m : Met) : Type 0 where
+  pub lives : Lives now m.taken u v
+  pub pends : Rose x.counts.holds y.counts.holds ⊎ (MOST_TAKEN ≤ m.taken)
   pub each : (login : Login) (k : Kept) → MakesFor login at None u.seen p k
-      → (end : Kept) × MakesFor login to None v.seen q end × Took count k end
-      × (c : Polls texts login at x y k end Pending) × (c.last.at ≡ to)
+      → (end : Kept) × MakesFor login to None v.seen q end
+      × (c : Polls texts login at x y k end m Pending) × (c.last.at ≡ to)
 
 -- it is made: its last call was answered, and no further text follows
-pub record IsMade (texts : Texts) (now : ℕ) (at : Making) (x y : Looks) (u v : View) (p q : Option Tape) : Type 0 where
-  pub count : ℕ
-  pub lives : Lives now count u v
+pub record IsMade (texts : Texts) (now : ℕ) (at : Making) (x y : Looks) (u v : View) (p q : Option Tape) (m : Met) : Type 0 where
+  pub lives : Lives now m.taken u v
   pub each : (login : Login) (k : Kept) → MakesFor login at None u.seen p k
-      → (end : Kept) × StandsFor login v.seen q None end × Took count k end
-      × (c : Polls texts login at x y k end (Answered Ready)) × Ends texts c.last.at
+      → (end : Kept) × StandsFor login v.seen q None end
+      × (c : Polls texts login at x y k end m (Answered Ready)) × Ends texts c.last.at
 
--- a call of it failed
-abbrev pub CallFails : Texts → Making → Looks → Looks → Seen → Option Tape → Error → Type 0
-CallFails texts at x y s p e = (login : Login) (k : Kept) → MakesFor login at None s p k
-    → (end : Kept) × Polls texts login at x y k end (Failed e)
+-- a call of it failed; the tape has all that was done
+abbrev pub CallFails : Texts → Making → Looks → Looks → Seen → Option Tape → Option Tape → Met → Error → Type 0
+CallFails texts at x y s p q m e = (login : Login) (k : Kept) → MakesFor login at None s p k
+    → (end : Kept) × Agrees q end × Polls texts login at x y k end m (Failed e)
 
--- its last call was answered, and then the aid refused the connection
-abbrev pub AidRefuses : Texts → Making → Looks → Looks → Seen → Option Tape → Error → Type 0
-AidRefuses texts at x y s p e = (login : Login) (k : Kept) → MakesFor login at None s p k
-    → (end : Kept) × (c : Polls texts login at x y k end (Answered Ready)) × EndsRefused texts c.last.at e
+-- its last call was answered, and then the aid refused the connection, which is met, too
+pub record AidRefuses (texts : Texts) (at : Making) (x y : Looks) (s : Seen) (p q : Option Tape) (m : Met) (e : Error) : Type 0 where
+  pub calls : Met
+  pub met_is : m ≡ record calls { refused = 1 }
+  pub each : (login : Login) (k : Kept) → MakesFor login at None s p k
+      → (end : Kept) × Agrees q end × (c : Polls texts login at x y k end calls (Answered Ready)) × EndsRefused texts c.last.at e
 
--- why no connection was made, unless memory ran out
-abbrev pub WhyNotMade : Texts → Making → Looks → Looks → Seen → Option Tape → Error → Type 0
-WhyNotMade texts at x y s p e = (e ≡ errors.NoMemory) ⊎ (CallFails texts at x y s p e ⊎ AidRefuses texts at x y s p e)
+-- why no connection was made
+abbrev pub WhyNotMade : Texts → Making → Looks → Looks → Seen → Option Tape → Option Tape → Met → Error → Type 0
+WhyNotMade texts at x y s p q m e = CallFails texts at x y s p q m e ⊎ AidRefuses texts at x y s p q m e
 
-abbrev pub MakesTo : Texts → ℕ → Making → Looks → Looks → View → View → Option Tape → Option Tape
-    → Result (Option Making) Error → Type 0
-MakesTo texts now at x y u v p q (Ok (Some to)) = StaysMaking texts now at to x y u v p q
-MakesTo texts now at x y u v p q (Ok None) = IsMade texts now at x y u v p q
-MakesTo texts now at x y u v p q (Err e) = WhyNotMade texts at x y u.seen p e
+abbrev pub MakesTo : Texts → ℕ → Making → Looks → Looks → View → View → Option Tape → Option Tape → Met → MakeStep → Type 0
+MakesTo texts now at x y u v p q m (steps.Pending to) = StaysMaking texts now at to x y u v p q m
+MakesTo texts now at x y u v p q m steps.Made = IsMade texts now at x y u v p q m
+MakesTo texts now at x y u v p q m (steps.Failed e) = WhyNotMade texts at x y u.seen p q m e

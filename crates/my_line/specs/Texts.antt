@@ -1,7 +1,5 @@
 -- Which calls make a connection: the handshake, and for each text that the aid gives a query and a pass over what is left of its result.
-use Rattle.std.specs.Prelude.{ℕ, ◌≡◌, ◌⊎◌, ◌+◌, List, Option, Some, None}
-use Rattle.std.specs.declared.result.Result.{Result}
-use Rattle.std.specs.declared.result.Result.TheVariants.{Ok, Err}
+use Rattle.std.specs.Prelude.{ℕ, ◌≡◌, ◌+◌, List, Option, Some, None}
 use Rattle.my_link.specs.Aid.{IsTold, Texts}
 use Rattle.my_link.specs.declared.aid.AfterStep.TheVariants as after
 use Rattle.my_reading.specs.declared.call.Call.{Call}
@@ -12,6 +10,8 @@ use Rattle.my_reading.specs.declared.error.Error.{Error}
 use Rattle.my_reading.specs.declared.error.Error.TheVariants as errors
 use Rattle.my_line.specs.declared.texts.Making.{Making}
 use Rattle.my_line.specs.declared.texts.Making.TheVariants.{Shakes, Asks, Drops}
+use Rattle.my_line.specs.declared.texts.Next.{Next}
+use Rattle.my_line.specs.declared.texts.Next.TheVariants as nexts
 
 -- the call that is open, or begins, there
 abbrev pub kind_at : Making → CallKind
@@ -38,10 +38,10 @@ abbrev pub IsRefused : Texts → ℕ → Error → Type 0
 IsRefused texts n e = (text : List ℕ) × IsTold texts n (after.Refuse text) × (e ≡ errors.Other (record { text = text }))
 
 -- what asking for a text returns
-abbrev pub AsksBy : Texts → ℕ → Result (Option (Making × Call)) Error → Type 0
-AsksBy texts n (Ok (Some p)) = Sends texts n p.0 p.1
-AsksBy texts n (Ok None) = IsDone texts n
-AsksBy texts n (Err e) = (e ≡ errors.NoMemory) ⊎ IsRefused texts n e
+abbrev pub AsksBy : Texts → ℕ → Next → Type 0
+AsksBy texts n (nexts.Call to call) = Sends texts n to call
+AsksBy texts n nexts.Done = IsDone texts n
+AsksBy texts n (nexts.Refused e) = IsRefused texts n e
 
 -- this call follows
 abbrev pub Follows : Texts → Making → Making → Call → Type 0
@@ -57,7 +57,7 @@ Ends texts at = (n : ℕ) × (asked_at at ≡ Some n) × IsDone texts n
 abbrev pub EndsRefused : Texts → Making → Error → Type 0
 EndsRefused texts at e = (n : ℕ) × (asked_at at ≡ Some n) × IsRefused texts n e
 
-abbrev pub FollowsBy : Texts → Making → Result (Option (Making × Call)) Error → Type 0
-FollowsBy texts at (Ok (Some p)) = Follows texts at p.0 p.1
-FollowsBy texts at (Ok None) = Ends texts at
-FollowsBy texts at (Err e) = (e ≡ errors.NoMemory) ⊎ EndsRefused texts at e
+abbrev pub FollowsBy : Texts → Making → Next → Type 0
+FollowsBy texts at (nexts.Call to call) = Follows texts at to call
+FollowsBy texts at nexts.Done = Ends texts at
+FollowsBy texts at (nexts.Refused e) = EndsRefused texts at e

@@ -11,5 +11,5 @@ mod texts;
 pub use begin::{cancel_open, poll_once};
 pub use forget::forget_open;
 pub use handshake::{TOO_LONG, never_holds, shake_hands};
-pub use making::make;
+pub use making::{MakeStep, make};
 pub use texts::Making;

@@ -1,5 +1,5 @@
 //! The texts that follow a login: which call comes next.
-ghost use Rattle.std.specs.Prelude.{◌≡◌};
+ghost use Rattle.std.specs.Prelude.{◌≡◌, IfOk};
 ghost use Rattle.my_line.specs.Texts.{AsksBy, FollowsBy};
 
 use my_frame::NoMemory;
@@ -18,34 +18,44 @@ pub enum Making {
     Drops(u64),
 }
 
-// What follows the earlier texts, which are `n`: none where the connection is made.
-fn ask<A: AfterConnect>(alloc: Global, aid: &mut A, n: u64) -> Result<Option<(Making, Call)>, Error>
-    ensures asks { AsksBy (A.texts aid.old) n result }
+/// What follows once a call of the making was answered.
+pub(crate) enum Next {
+    /// This call begins.
+    Call(Making, Call),
+    /// The connection is made.
+    Done,
+    /// The aid refuses the connection.
+    Refused(Error),
+}
+
+// What follows the earlier texts, which are `n`.
+fn ask<A: AfterConnect>(alloc: Global, aid: &mut A, n: u64) -> Result<Next, NoMemory>
+    ensures asks { IfOk result (λ next. AsksBy (A.texts aid.old) n next) }
     ensures same { A.texts aid.new ≡ A.texts aid.old }
 {
     match aid.next(alloc, n) {
-        Ok(AfterStep::Query(text)) => Ok(Some((Making::Asks(n), Call::Query(text)))),
-        Ok(AfterStep::Done) => Ok(None),
-        Ok(AfterStep::Refuse(text)) => Err(Error::Other(OtherError { text })),
-        Err(NoMemory) => Err(Error::NoMemory),
+        Ok(AfterStep::Query(text)) => Ok(Next::Call(Making::Asks(n), Call::Query(text))),
+        Ok(AfterStep::Done) => Ok(Next::Done),
+        Ok(AfterStep::Refuse(text)) => Ok(Next::Refused(Error::Other(OtherError { text }))),
+        Err(NoMemory) => Err(NoMemory),
     }
 }
 
-/// Which call follows the one that was answered: none where the connection is made.
+/// What follows the call that was answered.
 pub(crate) fn follow<A: AfterConnect>(
     alloc: Global,
     aid: &mut A,
     at: Making,
-) -> Result<Option<(Making, Call)>, Error>
-    ensures follows { FollowsBy (A.texts aid.old) at result }
+) -> Result<Next, NoMemory>
+    ensures follows { IfOk result (λ next. FollowsBy (A.texts aid.old) at next) }
     ensures same { A.texts aid.new ≡ A.texts aid.old }
 {
     match at {
         Making::Shakes => ask(alloc, aid, 0),
-        Making::Asks(n) => Ok(Some((Making::Drops(n), Call::DropResult))),
+        Making::Asks(n) => Ok(Next::Call(Making::Drops(n), Call::DropResult)),
         Making::Drops(n) => match n.checked_add(1) {
             Some(more) => ask(alloc, aid, more),
-            None => Err(Error::NoMemory),
+            None => Err(NoMemory),
         },
     }
 }

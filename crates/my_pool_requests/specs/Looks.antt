@@ -4,6 +4,7 @@ use Rattle.my_frame.specs.Lists.{without}
 use Rattle.my_link.specs.Looks.{Looks}
 use Rattle.my_link.specs.declared.link.CheckStep.{CheckStep}
 use Rattle.my_link.specs.declared.link.CheckStep.TheVariants as checks
+use Rattle.my_link.specs.declared.met.Met.{Met}
 use Rattle.my_reading.specs.declared.error.DriverError.TheVariants.{PoolDisconnected, PoolFull}
 use Rattle.my_reading.specs.declared.error.Error.{Error}
 use Rattle.my_reading.specs.declared.error.Error.TheVariants as errors
@@ -42,7 +43,8 @@ pub record LooksOn {L : Type 0} (look : L → Looks) (age n : ℕ) (c : ConnSeen
     (turn : Option (AskTurn L)) : Type 0 where
   pub step : CheckStep
   pub after : ConnSeen L
-  pub checked : CheckedIs look c after step
+  pub met : Met
+  pub checked : CheckedIs look c after met step
   pub comes : LookedBy age n after step p q turn
 
 -- where it isn't good, the request has none, and no more are idle

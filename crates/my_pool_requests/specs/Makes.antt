@@ -9,6 +9,7 @@ use Rattle.my_link.specs.Looks.{Looks}
 use Rattle.my_link.specs.Outside.{no_counts}
 use Rattle.my_link.specs.declared.dialer.DialStep.{DialStep}
 use Rattle.my_link.specs.declared.dialer.DialStep.TheVariants as dials
+use Rattle.my_link.specs.declared.met.Met.{Met}
 use Rattle.my_opts.specs.Opts.{OptsView}
 use Rattle.my_opts_parts.specs.Pool.{deadline_of}
 use Rattle.my_reading.specs.declared.error.Error.{Error}
@@ -79,13 +80,14 @@ JudgedBy c (makings.Failed e) = (e ≡ connection_closed) × (IsFit c → ⊥)
 abbrev pub MadeBy : {L : Type 0} → Connected L → Made L → Type 0
 MadeBy (connecteds.Pending c) made = made ≡ makings.Pending c
 MadeBy (connecteds.Made c) made = JudgedBy c made
-MadeBy (connecteds.Failed e) made = made ≡ makings.Failed e
+MadeBy (connecteds.Failed left) made = made ≡ makings.Failed left.error
 
 -- one poll of it
 pub record MakesOn {L : Type 0} (look : L → Looks) (texts : Texts) (now : ℕ) (c : ConnectSeen L) (made : Made L)
     : Type 0 where
   pub connected : Connected L
-  pub connects : ConnectIs look texts now c connected
+  pub met : Met
+  pub connects : ConnectIs look texts now c met connected
   pub comes : MadeBy connected made
 
 -- it begins, with these options and at this moment

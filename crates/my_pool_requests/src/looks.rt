@@ -57,7 +57,8 @@ pub(crate) fn look<L: Link + Drop, J: Journal, W: Wake>(
     ensures leaves { LookLeaves age result pool.old pool.new }
 {
     let mut conn = conn;
-    match conn.check() {
+    let (step, _met) = conn.check();
+    match step {
         CheckStep::Alive => Some(lease(pool, age, number, conn)),
         CheckStep::NotYet => Some(AskTurn::Pending(Asking {
             age,

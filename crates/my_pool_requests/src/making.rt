@@ -58,10 +58,11 @@ pub(crate) fn make_on<L: Link + Drop, A: Aid>(
     ensures fits { MadeFits result }
     ensures texts { A.texts aid.new ≡ A.texts aid.old }
 {
-    match making.poll(alloc, aid, now) {
+    let (connected, _met) = making.poll(alloc, aid, now);
+    match connected {
         Connected::Pending(making) => Made::Pending(making),
         Connected::Made(conn) => judged(conn),
-        Connected::Failed(error) => Made::Failed(error),
+        Connected::Failed(left) => Made::Failed(left.into_error()),
     }
 }
 
@@ -75,14 +76,20 @@ fn begin<L: Link + Drop>(
     ensures { IfOk result (λ c. Begins L.socket opts.now moment link c) }
 {
     match opts.copy(alloc) {
-        Ok(opts) => Connecting::new(
+        Ok(opts) => match Connecting::new(
             alloc,
             opts,
             link,
             moment.now,
             moment.random,
             moment.keep_tape,
-        ),
+        ) {
+            Ok(making) => Ok(making),
+            Err(link) => {
+                drop(link);
+                Err(NoMemory)
+            }
+        },
         Err(error) => {
             drop(link);
             Err(error)

@@ -90,14 +90,15 @@ fn dialed(
 
 // A connection that is made by one poll.
 fn made(alloc: Global, connecting: Connecting<MemLink>, now: u64) -> Option<Conn<MemLink>> {
-    match connecting.poll(alloc, &mut NoAid, now) {
+    let (connected, _met) = connecting.poll(alloc, &mut NoAid, now);
+    match connected {
         Connected::Made(conn) => Some(conn),
         Connected::Pending(connecting) => {
             drop(connecting);
             None
         }
-        Connected::Failed(error) => {
-            drop(error);
+        Connected::Failed(left) => {
+            drop(left);
             None
         }
     }
@@ -115,11 +116,13 @@ pub fn connected(
         return Ok(None);
     };
     match opts.copy(alloc) {
-        Ok(opts) => Ok(made(
-            alloc,
-            Connecting::new(alloc, opts, link, now, 0, true)?,
-            now,
-        )),
+        Ok(opts) => match Connecting::new(alloc, opts, link, now, 0, true) {
+            Ok(connecting) => Ok(made(alloc, connecting, now)),
+            Err(link) => {
+                drop(link);
+                Err(NoMemory)
+            }
+        },
         Err(error) => {
             drop(link);
             Err(error)

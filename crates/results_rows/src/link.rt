@@ -96,7 +96,10 @@ fn link_of(alloc: Global, opts: &Opts, names: &str) -> Result<MemLink, Error> {
 fn conn_of(alloc: Global, names: &str) -> Result<Conn<ReadyLink<MemLink>>, Error> {
     let opts = opts_of(alloc)?;
     match link_of(alloc, &opts, names) {
-        Ok(link) => Conn::new(alloc, opts, ReadyLink::new(link), 5, 0),
+        Ok(link) => match Conn::new(alloc, opts, ReadyLink::new(link), 5, 0) {
+            Ok(conn) => Ok(conn),
+            Err(left) => Err(left.into_error()),
+        },
         Err(error) => {
             drop(opts);
             Err(error)

@@ -6,7 +6,7 @@ use Rattle.my_conn.proofs.Making.{begun_connects, new_is, unread_first}
 use Rattle.my_conn.proofs.conn.Conn.new.Goals as goal
 
 pub returns-in-Err : goal.returns-in-Err
-returns-in-Err g c = (g.L.Link.looks c.args.link, inl refl)
+returns-in-Err g c = rw (c.untaped.ensures) (record { why = inl refl; tape = refl })
 
 pub made-requires : goal.made-requires
 made-requires g c =
@@ -17,10 +17,11 @@ made-requires g c =
 pub returns-in-Err-shake_hands : goal.returns-in-Err-shake_hands
 returns-in-Err-shake_hands g c =
     let login = login_of c.args.opts in
-    let look = g.L.Link.looks in (
-      look c.shake_hands.new.link,
-      subst (λ l. WhyUnmade login (look l) (look c.shake_hands.new.link) c.in-Err-shake_hands.error) c.in-Ok.ensures.link (c.in-Err-shake_hands.ensures.shakes login (begun_connects login _ _ c.in-Ok.ensures.asked c.in-Ok.ensures.kept)),
-    )
+    let look = g.L.Link.looks in
+    rw (c.untaped-in-Err-shake_hands.ensures) (record {
+      why = subst (λ l. WhyUnmade login (look l) (look c.shake_hands.new.link) c.in-Err-shake_hands.error) c.in-Ok.ensures.link (c.in-Err-shake_hands.ensures.shakes login (begun_connects login _ _ c.in-Ok.ensures.asked c.in-Ok.ensures.kept));
+      tape = refl;
+    })
 
 pub returns-in-Ok-shake_hands : goal.returns-in-Ok-shake_hands
 returns-in-Ok-shake_hands g c =
