@@ -4,7 +4,6 @@ pub mod Taping
 use Rattle.std.proofs.Common.{◌≤◌, ℕ, ◌≡◌, ◌+◌, ◌<◌, ◌&&◌, suc, zero, List, [], ◌∷◌, ◌++◌, length, map, take, get_or, Option, Result, Ok, IfOk, OnOk, Bool, true, false, refl, sym, ap, ◌∙◌, subst, arith}
 use Rattle.std.proofs.lemmas.List.{length-append, map-append}
 use Rattle.my_grammar.specs.declared.login.Login.{Login}
-use Rattle.my_link.specs.declared.link.ReadItem.{ReadItem}
 use Rattle.my_steps.specs.declared.slot.Slot.{Slot}
 use Rattle.my_steps.specs.declared.slot.Slot.TheVariants.{Gone, Held, There, Ended}
 use Rattle.my_script.specs.declared.step.Step.{Step}
@@ -33,28 +32,19 @@ use Rattle.my_client.specs.Conn.{kept_of}
 use Rattle.my_steps.specs.Slot.{handle_with, handle_of, handles_from, handles_in}
 use Rattle.my_run.specs.Tapes.{all_in, links_at, links_in, tape_view, tape_at, tapes_in, with_links}
 use Rattle.my_client.proofs.Reading.{rests_read}
-use Rattle.my_run.proofs.Runs.Fitting.{IsFit, AllFit, step_fits}
+use Rattle.my_run.proofs.Runs.Taping.{all_same, link_same, tape_same}
 
 -- what is at each number is explained
-said_at : {L : Type 0} (look : L → Looks) (login : Login) (plan : Option (List ReadItem)) (items left : Option (List DialItem)) (s : Slot L) → IsStood login s → IsFit plan items (handle_with look left s) → IsExplained login plan items (handle_with look left s)
-said_at look login plan items left Gone w f = tt
-said_at look login plan items left Held w f = f
-said_at look login plan items left (There c) w f = (rests_read login c.session.seen (kept_of c) w, f)
-said_at look login plan items left (Ended c) w f = (rests_read login c.session.seen (kept_of c) w, f)
+said_at : {L : Type 0} (look : L → Looks) (login : Login) (left : Option (List DialItem)) (s : Slot L) → IsStood login s → IsExplained login (handle_with look left s)
+said_at look login left Gone w = tt
+said_at look login left Held w = tt
+said_at look login left (There c) w = rests_read login c.session.seen (kept_of c) w
+said_at look login left (Ended c) w = rests_read login c.session.seen (kept_of c) w
 
-all_said : {L : Type 0} (look : L → Looks) (login : Login) (plan : Option (List ReadItem)) (items : Option (List DialItem)) (left : ℕ → Option (List DialItem)) (k : ℕ) (ss : List (Slot L)) (m : ℕ) → AreStood login ss → IsFit plan items (at_number (handles_from look left k ss) m) → IsExplained login plan items (at_number (handles_from look left k ss) m)
-all_said look login plan items left k [] m w f = tt
-all_said look login plan items left k (s ∷ ss) zero w f = said_at look login plan items (left k) s w.0 f
-all_said look login plan items left k (s ∷ ss) (suc m) w f = all_said look login plan items left (suc k) ss m w.1 f
-
-is_fit : (login : Login) (plan : Option (List ReadItem)) (items : Option (List DialItem)) (h : Handle) → IsExplained login plan items h → IsFit plan items h
-is_fit login plan items Absent w = tt
-is_fit login plan items (Dialing left) w = w
-is_fit login plan items (Joined there k x) w = w.1
-
-all_fit : (login : Login) (plans : Plans) (lines : List Line) → EachExplained login plans lines → AllFit plans (handles_after lines)
-all_fit login plans [] w m = tt
-all_fit login plans (l ∷ ls) w m = is_fit login (plans.reads m) (plans.dials m) (at_number l.handles m) (w.0 m)
+all_said : {L : Type 0} (look : L → Looks) (login : Login) (left : ℕ → Option (List DialItem)) (k : ℕ) (ss : List (Slot L)) (m : ℕ) → AreStood login ss → IsExplained login (at_number (handles_from look left k ss) m)
+all_said look login left k [] m w = tt
+all_said look login left k (s ∷ ss) zero w = said_at look login (left k) s w.0
+all_said look login left k (s ∷ ss) (suc m) w = all_said look login left (suc k) ss m w.1
 
 count_steps : (ls : List Line) → length (steps_of ls) ≡ length ls
 count_steps [] = refl
@@ -94,8 +84,7 @@ step_on {L} look login plans before now later done next ss ts given bs step a fo
     let grows : StepGrows login plans known stated (handles_after u.lines) step a.outcome a.uses.items made =
     subst (λ (b : Bool). StepGrows login plans b stated (handles_after u.lines) step a.outcome a.uses.items made) finds
     (subst (λ (q : Option StatementView). StepGrows login plans found q (handles_after u.lines) step a.outcome a.uses.items made) names
-    (subst (λ (hs : List Handle). StepGrows login plans found named hs step a.outcome a.uses.items made) u.handles_are w.grows.1)) in
-    let fits : AllFit plans made = step_fits login plans known stated (handles_after u.lines) step a.outcome a.uses.items made (all_fit login plans u.lines u.explained) grows in (
+    (subst (λ (hs : List Handle). StepGrows login plans found named hs step a.outcome a.uses.items made) u.handles_are w.grows.1)) in (
       record {
         lines = lines;
         steps_are = ap (λ ss. ss ++ step ∷ []) u.steps_are ∙ sym f;
@@ -106,30 +95,12 @@ step_on {L} look login plans before now later done next ss ts given bs step a fo
         grown = (record { number = num ∙ ap (λ n. n + 1) (sym (ap length u.steps_are) ∙ count_steps u.lines); answer = grows }, u.grown);
         dialed = (now.dials, u.dialed, subst (λ (hs : List Handle). DialsTo now.dials later.dials (dial_met (has_dialed step hs) a.uses.items)) u.handles_are dials);
         moved = moves ∙ ap (λ (hs : List Handle). chance_by (has_dialed step hs) step now.chance) u.handles_are ∙ ap (chance_by (has_dialed step (handles_after u.lines)) step) u.moved;
-        explained = (λ m. all_said look login (plans.reads m) (plans.dials m) later.plans.dials 0 ts m w.stood (fits m), u.explained);
+        explained = (λ m. all_said look login later.plans.dials 0 ts m w.stood, u.explained);
         kept = stays ∙ u.kept;
       },
       λ n. refl,
       refl,
     )
-
--- a slot's tape doesn't tell what is left for dials
-tape_same : {L : Type 0} (look : L → Looks) (n : ℕ) (left : Option (List DialItem)) (s : Slot L) → tape_at n (handle_of look s) ≡ tape_at n (handle_with look left s)
-tape_same look n left Gone = refl
-tape_same look n left Held = refl
-tape_same look n left (There c) = refl
-tape_same look n left (Ended c) = refl
-
--- nor does its link
-link_same : {L : Type 0} (look : L → Looks) (n : ℕ) (left : Option (List DialItem)) (s : Slot L) → links_at n (handle_of look s) ≡ links_at n (handle_with look left s)
-link_same look n left Gone = refl
-link_same look n left Held = refl
-link_same look n left (There c) = refl
-link_same look n left (Ended c) = refl
-
-all_same : {L T : Type 0} (look : L → Looks) (at : ℕ → Handle → List T) (left : ℕ → Option (List DialItem)) (k : ℕ) (ss : List (Slot L)) → ((n : ℕ) (i : Option (List DialItem)) (s : Slot L) → at n (handle_of look s) ≡ at n (handle_with look i s)) → all_in at k (map (handle_of look) ss) ≡ all_in at k (handles_from look left k ss)
-all_same look at left k [] same = refl
-all_same look at left k (s ∷ ss) same = ap (λ ts. ts ++ all_in at (suc k) (map (handle_of look) ss)) (same k (left k) s) ∙ ap (λ ts. at k (handle_with look (left k) s) ++ ts) (all_same look at left (suc k) ss same)
 
 pub headline : {L : Type 0} (look : L → Looks) (login : Login) (plans : Plans) (before : Course) (world later : WorldSeen) (steps : List Step) (ss : List (Slot L)) (given : List StepAnswer) (tapes : List Tape) → SoFar look login plans before world steps ss given → map tape_view tapes ≡ tapes_in 0 (map (handle_of look) ss) → later.back ≡ with_links (links_in 0 (map (handle_of look) ss)) world.back → later.dials ≡ world.dials → later.chance ≡ world.chance → Headline login plans before (course_of later) steps given tapes
 headline look login plans before world later steps ss given tapes u e f d m = record {

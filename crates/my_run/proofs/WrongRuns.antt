@@ -56,11 +56,14 @@ use Rattle.my_script.specs.Beside.{beside_after, beside_by, finds}
 use Rattle.my_script.specs.Streams.{target}
 use Rattle.my_steps.specs.Grows.{Line, beside_of, handles_after, is_found, statements_of, AreGrown, StepGrows, CallsWhere, ExecutesAt, DialsNext, HasPlan, Dials, Holds, Fails, Links, ConnectShows, Connects, PolledOnce, Begins, BeginsOn, Calls, At, shown}
 use Rattle.my_steps.specs.Handle.{Handle, Absent, Dialing, Joined, at_number, put_at}
-use Rattle.my_run.specs.Headline.{AnswerView, answer_view, steps_of, answers_of, Headline, IsExplained, EachExplained}
+use Rattle.my_run.specs.Headline.{AnswerView, answer_view, steps_of, answers_of, Headline, IsExplained}
+use Rattle.my_script.specs.declared.reading.script.BadLine.{BadLine}
+use Rattle.my_run.specs.Fits.{IsFit}
+use Rattle.my_run.proofs.Runs.Fitting.{grown_fit}
 use Rattle.my_steps.specs.Sums.{use_of, quiet, held_use, failed_use}
 use Rattle.my_run.specs.Tapes.{TapeView, tape_view, tape_call, open_call, links_at, links_in, tapes_in, tape_of, tape_at, with_links}
-use Rattle.my_run.specs.Tool.{ToolEnds}
-use Rattle.my_run.specs.WrongRuns.{NoPlannedDialFault, NoWaitAsFault, NoHeldDialFault, NoHiddenDials, LinksHaveTapes, NoSecretDial, NoBytesAfter, MayFail, DialFault, NoStillMoment, one_fault, NoEarlyEnd, NoHoldAfterTurn, NoHoldInTurn, NoZeroSent, NoOtherTaken, NoFaultAtRest, HasRead, NoBrokenInput, NoClosedExecution, NoUngivenExecution, NoForgottenRollback}
+use Rattle.my_run.specs.Tool.{EndsBy}
+use Rattle.my_run.specs.WrongRuns.{NoPlannedDialFault, NoWaitAsFault, NoHeldDialFault, NoHiddenDials, LinksHaveTapes, NoSecretDial, NoStepsUnread, NoBytesAfter, MayFail, DialFault, NoStillMoment, one_fault, NoEarlyEnd, NoHoldAfterTurn, NoHoldInTurn, NoZeroSent, NoOtherTaken, NoFaultAtRest, HasRead, NoBrokenInput, NoClosedExecution, NoUngivenExecution, NoForgottenRollback}
 use Rattle.my_run.proofs.Polls.{all_calls, answered_by, met_so, returned_by, sent_so, taken_so, used_so}
 
 -- what was told
@@ -171,7 +174,7 @@ record IsLone (login : Login) (plans : Plans) (before later : Course) (a : StepA
   made : Handle
   dials : Dials login (plans.reads 0) (plans.writes 0) (plans.dials 0) 0 a.outcome a.uses.items made
   counts : DialsTo before.dials later.dials (dial_met true a.uses.items)
-  explained : IsExplained login (plans.reads 0) (plans.dials 0) made
+  fits : IsFit (plans.reads 0) (plans.dials 0) made
   shown : tapes ≡ tape_at 0 made ++ []
   ended : later.back ≡ with_links (links_at 0 made ++ []) before.back
 
@@ -188,14 +191,13 @@ lone login plans before later a tapes w =
     (subst (λ (us : List Use). DialsNext login plans [] l.outcome us l.handles) uses
     (subst (λ (s : Step). StepGrows login plans (is_found (target s) s []) (statement_named (named_statement s) (statements_of [])) [] s l.outcome l.uses l.handles) o.2 grown.0.answer)) in
     let dialed = subst (λ (ls : List Line). AreDialed before.dials ls later.dials) o.1 w.dialed in
-    let explained = subst (EachExplained login plans) o.1 w.explained in
     record {
       made = next.made;
       dials = next.dials;
       counts = subst (λ (c : DialCounts). DialsTo c later.dials (dial_met true a.uses.items)) dialed.1
           (subst (λ (us : List Use). DialsTo dialed.0 later.dials (dial_met true us)) uses
           (subst (λ (s : Step). DialsTo dialed.0 later.dials (dial_met (has_dialed s []) l.uses)) o.2 dialed.2));
-      explained = subst (λ (hs : List Handle). IsExplained login (plans.reads 0) (plans.dials 0) (at_number hs 0)) next.others (explained.0 0);
+      fits = subst (λ (hs : List Handle). IsFit (plans.reads 0) (plans.dials 0) (at_number hs 0)) next.others (grown_fit login plans (l ∷ []) grown 0);
       shown = w.tapes_are ∙ ap (λ (ls : List Line). tapes_in 0 (handles_after ls)) o.1 ∙ ap (tapes_in 0) next.others;
       ended = w.ended ∙ ap (λ (ls : List Line). with_links (links_in 0 (handles_after ls)) before.back) o.1 ∙ ap (λ (hs : List Handle). with_links (links_in 0 hs) before.back) next.others;
     }
@@ -278,6 +280,13 @@ no_secret_dial login plans before later a link links first last w =
     let none : link.number ∷ map (λ (b : Back). b.number) links ≡ [] = links_have_tapes login plans before later (steps.Conn ∷ []) (a ∷ []) [] (link ∷ links) first last w in
     cc
 
+-- a line that doesn't read
+idle_unread : (words : List (List ℕ)) (world later : WorldSeen) (s r : SourceSeen) (w v : SinkSeen) (t : Transcript) (status : Status) (line : BadLine) → status ≡ ends.Unread line → EndsBy words world later s r w v t status → later ≡ world
+idle_unread words world later s r w v t status line e c = (subst (EndsBy words world later s r w v t) e c).3.1
+
+pub no_steps_unread : NoStepsUnread
+no_steps_unread words world later s r w v report line is moved c = moved (idle_unread words world later s r w v report.transcript report.status line is c)
+
 -- what the first link that was handed back was sent
 first_got : Option (List Back) → Option (List ℕ)
 first_got None = None
@@ -289,14 +298,14 @@ first_sent [] = []
 first_sent (t ∷ ts) = t.sent
 
 -- it was sent what its tape says
-sent_as_told : (login : Login) (plan : Option (List ReadItem)) (items : Option (List DialItem)) (made : Handle) (t : TapeView) (later : Option (List Back)) (got : List ℕ) → IsExplained login plan items made → t ∷ [] ≡ tape_at 0 made ++ [] → later ≡ with_links (links_at 0 made ++ []) (Some []) → first_got later ≡ Some got → got ≡ t.sent
+sent_as_told : (plan : Option (List ReadItem)) (items : Option (List DialItem)) (made : Handle) (t : TapeView) (later : Option (List Back)) (got : List ℕ) → IsFit plan items made → t ∷ [] ≡ tape_at 0 made ++ [] → later ≡ with_links (links_at 0 made ++ []) (Some []) → first_got later ≡ Some got → got ≡ t.sent
 unfolding first_got first_sent
-sent_as_told login plan items Absent t later got said shown ended told = let no : t ∷ [] ≡ [] = shown in cc
-sent_as_told login plan items (Dialing left) t later got said shown ended told = let no : t ∷ [] ≡ [] = shown in cc
-sent_as_told login plan items (Joined there k y) t later got said shown ended told =
+sent_as_told plan items Absent t later got said shown ended told = let no : t ∷ [] ≡ [] = shown in cc
+sent_as_told plan items (Dialing left) t later got said shown ended told = let no : t ∷ [] ≡ [] = shown in cc
+sent_as_told plan items (Joined there k y) t later got said shown ended told =
     let same : y.got ≡ Some got = sym (ap first_got ended) ∙ told in
     let sent : t.sent ≡ k.sent = ap first_sent shown in
-    let fits : got ≡ k.sent = subst (λ o. HasGot o k.sent) same said.1.got in
+    let fits : got ≡ k.sent = subst (λ o. HasGot o k.sent) same said.got in
     fits ∙ sym sent
 
 pub no_bytes_after : NoBytesAfter
@@ -304,7 +313,7 @@ unfolding first_got
 no_bytes_after login plans before later a t x bytes some first last got w =
     let r = lone login plans before later a (t ∷ []) w in
     let back : later.back ≡ with_links (links_at 0 r.made ++ []) (Some []) = r.ended ∙ ap (with_links (links_at 0 r.made ++ [])) first in
-    let same : t.sent.items ++ bytes ≡ t.sent.items = sent_as_told login (plans.reads 0) (plans.dials 0) r.made (tape_view t) later.back (t.sent.items ++ bytes) r.explained r.shown back (ap first_got last ∙ got) in
+    let same : t.sent.items ++ bytes ≡ t.sent.items = sent_as_told (plans.reads 0) (plans.dials 0) r.made (tape_view t) later.back (t.sent.items ++ bytes) r.fits r.shown back (ap first_got last ∙ got) in
     omega (arith, ap length same, length-append t.sent.items bytes, some)
 
 -- what is left of the items after a planned fault
@@ -327,7 +336,7 @@ dial_fault login plans chance a may is =
       ended = refl;
     }
   where
-    nothing : (n : ℕ) → IsExplained login (plans.reads n) (plans.dials n) (at_number (Absent ∷ []) n)
+    nothing : (n : ℕ) → IsExplained login (at_number (Absent ∷ []) n)
     nothing zero = tt
     nothing (suc n) = tt
 
@@ -454,8 +463,7 @@ no_hold_in_turn login plans before later greeting ok pong a b t c n id v some_ok
     let handles : l.handles ≡ Joined true made.kept made.link ∷ [] = next.others ∙ ap (λ (h : Handle). h ∷ []) made.is in
     let begun : BeginsOn made.kept.pending login 0 Ping made.kept made.link m.outcome m.uses there.made = subst (λ (hs : List Handle). Calls login 0 Ping (at_number hs 0) m.outcome m.uses there.made) handles there.does in
     let r = pinged made.kept.pending login made.kept made.link m.outcome m.uses there.made second begun in
-    let explained = subst (EachExplained login plans) o.2 w.explained in
-    let fits : IsExplained login (plans.reads 0) (plans.dials 0) (Joined true made.kept made.link) = subst (λ (hs : List Handle). IsExplained login (plans.reads 0) (plans.dials 0) (at_number hs 0)) handles (explained.1.0 0) in
+    let fits : IsFit (plans.reads 0) (plans.dials 0) (Joined true made.kept made.link) = subst (λ (hs : List Handle). IsFit (plans.reads 0) (plans.dials 0) (at_number hs 0)) handles (grown_fit login plans (l ∷ []) grown.1 0) in
     let after_is : r.after ≡ after.Pending = pending_after r.after (sym second ∙ r.outcome) in
     let polled : IsPolled login (asked_by made.kept Ping) (asking made.kept Ping None) made.link r.used.met after.Pending r.end r.link = subst (λ (p : After). IsPolled login (asked_by made.kept Ping) (asking made.kept Ping None) made.link r.used.met p r.end r.link) after_is r.polled in
     let met_is : r.used.met ≡ record nothing_met { holds = 1 } = ap first_met (sym r.uses ∙ second_uses) in
@@ -474,7 +482,7 @@ no_hold_in_turn login plans before later greeting ok pong a b t c n id v some_ok
     let from : length made.kept.sent ≡ n = ap (λ (x : TapeCall). x.sent_from) (last_call (map tape_call r.end.calls) _ c _ open_is) in
     let some : 0 < length sent = omega (arith, longer, ap length sent_is, length-append made.kept.sent sent, from) in
     let unheld : made.link.writes ≡ Some [] = made.open_writes rules in
-    elim (items_left greeting ok pong some_ok some_pong (plans.reads 0) made.link.items made.kept.taken told taken_is fits.1.reads) as (λ _. ⊥) [
+    elim (items_left greeting ok pong some_ok some_pong (plans.reads 0) made.link.items made.kept.taken told taken_is fits.reads) as (λ _. ⊥) [
       | inl x ↦ no_hold_met login (asked_by made.kept Ping) (asking made.kept Ping None) r.end made.link r.link r.used.met pong sent [] met_is (inl x) unheld some end_sent polled
       | inr x ↦ no_hold_met login (asked_by made.kept Ping) (asking made.kept Ping None) r.end made.link r.link r.used.met x.0 sent x.1 met_is (inr x.2) unheld some end_sent polled
     ]
@@ -555,10 +563,10 @@ other_first (Some plan) (Some left) more taken e f s =
     let bytes : 2 ∷ spelled more ≡ 1 ∷ spelled left = sym (ap spelled is) ∙ s.bytes ∙ ap (λ bs. bs ++ spelled left) f in
     omega (arith, ap first_of bytes)
 
-taken_there : (login : Login) (plan : Option (List ReadItem)) (items : Option (List DialItem)) (more : List ReadItem) (h : Handle) (v : TapeView) → plan ≡ Some (Bytes (2 ∷ []) ∷ more) → v.taken ≡ 1 ∷ [] → v ∷ [] ≡ tape_at 0 h ++ [] → IsExplained login plan items h → ⊥
-taken_there login plan items more Absent v e f t w = let no : v ∷ [] ≡ [] = t in cc
-taken_there login plan items more (Dialing left) v e f t w = let no : v ∷ [] ≡ [] = t in cc
-taken_there login plan items more (Joined there k x) v e f t w = other_first plan x.items more k.taken e (sym (ap taken_in t) ∙ f) w.1.reads
+taken_there : (plan : Option (List ReadItem)) (items : Option (List DialItem)) (more : List ReadItem) (h : Handle) (v : TapeView) → plan ≡ Some (Bytes (2 ∷ []) ∷ more) → v.taken ≡ 1 ∷ [] → v ∷ [] ≡ tape_at 0 h ++ [] → IsFit plan items h → ⊥
+taken_there plan items more Absent v e f t w = let no : v ∷ [] ≡ [] = t in cc
+taken_there plan items more (Dialing left) v e f t w = let no : v ∷ [] ≡ [] = t in cc
+taken_there plan items more (Joined there k x) v e f t w = other_first plan x.items more k.taken e (sym (ap taken_in t) ∙ f) w.reads
   where
     taken_in : List TapeView → List ℕ
     taken_in [] = []
@@ -567,7 +575,7 @@ taken_there login plan items more (Joined there k x) v e f t w = other_first pla
 pub no_other_taken : NoOtherTaken
 no_other_taken login plans before later more a t told number taken w =
     let r = lone login plans before later a (t ∷ []) w in
-    taken_there login (plans.reads 0) (plans.dials 0) more r.made (tape_view t) told taken r.shown r.explained
+    taken_there (plans.reads 0) (plans.dials 0) more r.made (tape_view t) told taken r.shown r.fits
 
 -- a quit on a closed session
 pub no_fault_at_rest : NoFaultAtRest
@@ -581,12 +589,12 @@ no_fault_at_rest login k end x y u place closed w =
     cc
 
 -- an input that broke off
-broken_off : (words : List (List ℕ)) (world later : WorldSeen) (s r : SourceSeen) (w v : SinkSeen) (t : Transcript) (status : Status) → s.ends ≡ 0 → r.ends ≡ 0 → HasRead status → ToolEnds words world later s r w v t status → ⊥
-broken_off words world later s r w v t ends.Done e f h c = omega (arith, e, f, c.ends.ends.read.ended.1)
+broken_off : (words : List (List ℕ)) (world later : WorldSeen) (s r : SourceSeen) (w v : SinkSeen) (t : Transcript) (status : Status) → s.ends ≡ 0 → r.ends ≡ 0 → HasRead status → EndsBy words world later s r w v t status → ⊥
+broken_off words world later s r w v t ends.Done e f h c = omega (arith, e, f, c.input.read.ended.1)
 broken_off words world later s r w v t ends.NoCommand e f h c = h
-broken_off words world later s r w v t (ends.Unread line) e f h c = omega (arith, e, f, c.ends.ends.read.ended.1)
+broken_off words world later s r w v t (ends.Unread line) e f h c = omega (arith, e, f, c.2.read.ended.1)
 broken_off words world later s r w v t ends.SourceFailed e f h c = h
-broken_off words world later s r w v t ends.SinkFailed e f h c = omega (arith, e, f, c.ends.ends.read.ended.1)
+broken_off words world later s r w v t ends.SinkFailed e f h c = omega (arith, e, f, c.input.read.ended.1)
 broken_off words world later s r w v t (ends.Refused fault) e f h c = h
 broken_off words world later s r w v t ends.TooLong e f h c = h
 broken_off words world later s r w v t ends.NoMemory e f h c = h

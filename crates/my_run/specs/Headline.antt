@@ -1,12 +1,7 @@
 -- The theorem on a run.
-use Rattle.std.specs.Prelude.{ℕ, ◌≡◌, zero, suc, List, [], ◌∷◌, ◌++◌, map, Option}
+use Rattle.std.specs.Prelude.{ℕ, ◌≡◌, List, [], ◌∷◌, ◌++◌, map}
 use Rattle.my_grammar.specs.declared.login.Login.{Login}
-use Rattle.my_link.specs.declared.link.ReadItem.{ReadItem}
-use Rattle.my_link.specs.declared.dialer.DialItem.{DialItem}
-use Rattle.my_link.specs.declared.dialer.DialItem.TheVariants.{Wait}
-use Rattle.my_link.specs.Link.{Told}
 use Rattle.my_link.specs.Looks.{Looks}
-use Rattle.my_link.specs.Spent.{HasGot, ReadsSpent}
 use Rattle.my_steps.specs.declared.slot.Slot.{Slot}
 use Rattle.my_script.specs.declared.step.Step.{Step}
 use Rattle.my_script.specs.declared.transcript.Outcome.{Outcome}
@@ -20,7 +15,7 @@ use Rattle.my_client.specs.Reads.{IsRead}
 use Rattle.my_world.specs.World.{Plans, SamePlans, WorldSeen}
 use Rattle.my_steps.specs.Keeps.{AreStood, AreAwaited}
 use Rattle.my_steps.specs.Slot.{handles_in}
-use Rattle.my_run.specs.Tapes.{links_in, tape_view, tapes_in, with_links}
+use Rattle.my_run.specs.Tapes.{all_in, links_at, tape_at, tape_view, with_links}
 
 -- an answer, without where it lies in memory
 pub record AnswerView : Type 0 where
@@ -40,33 +35,16 @@ abbrev pub answers_of : List Line → List AnswerView
 answers_of [] = []
 answers_of (l ∷ ls) = answers_of ls ++ record { number = l.number; outcome = l.outcome; uses = l.uses } ∷ []
 
--- Where the link tells the bytes that it was sent, these are they; and where its plan is told, the bytes that it gave and those
--- that it has left are the planned ones.
-pub record FitsLink (plan : Option (List ReadItem)) (x : Looks) (sent taken : List ℕ) : Type 0 where
-  pub got : HasGot x.got sent
-  pub reads : ReadsSpent plan x.items taken
-
--- this number of dials that wait
-abbrev pub waits : ℕ → List DialItem
-waits zero = []
-waits (suc k) = Wait ∷ waits k
-
--- of the planned items for dials, those before the ones that are left waited, and one did at least
-abbrev pub HasWaited : List DialItem → List DialItem → Type 0
-HasWaited items left = (k : ℕ) × (items ≡ waits (suc k) ++ left)
-
--- A connection at a number, over the plan of its link and the items for its dials: each call of its tape ended, or is
--- open, exactly as the one reading of the tape says.
-abbrev pub IsExplained : Login → Option (List ReadItem) → Option (List DialItem) → Handle → Type 0
-IsExplained login plan items Absent = Unit {0}
-IsExplained login plan items (Dialing left) = Told items left HasWaited
-IsExplained login plan items (Joined there k x) = IsRead login k × FitsLink plan x k.sent k.taken
+-- A connection at a number: each call of its tape ended, or is open, exactly as the one reading of the tape says.
+abbrev pub IsExplained : Login → Handle → Type 0
+IsExplained login Absent = Unit {0}
+IsExplained login (Dialing left) = Unit {0}
+IsExplained login (Joined there k x) = IsRead login k
 
 -- so it holds at each number after each line
-abbrev pub EachExplained : Login → Plans → List Line → Type 0
-EachExplained login plans [] = Unit {0}
-EachExplained login plans (l ∷ ls) = ((n : ℕ) → IsExplained login (plans.reads n) (plans.dials n) (at_number l.handles n))
-    × EachExplained login plans ls
+abbrev pub EachExplained : Login → List Line → Type 0
+EachExplained login [] = Unit {0}
+EachExplained login (l ∷ ls) = ((n : ℕ) → IsExplained login (at_number l.handles n)) × EachExplained login ls
 
 -- What the steps came to, over a world with these plans, whose dials had these counts before them and after them, as the moment
 -- and the random words were.
@@ -83,12 +61,12 @@ pub record Headline (login : Login) (plans : Plans) (before later : Course) (ste
   pub dialed : AreDialed before.dials lines later.dials
   -- the moment and the random words are those that the steps made of the ones before
   pub moved : later.chance ≡ moved_by before.chance lines
-  -- after each line each connection's calls, bytes and rows are explained, and fit its link
-  pub explained : EachExplained login plans lines
+  -- after each line each connection's calls, bytes and rows are explained
+  pub explained : EachExplained login lines
   -- the tapes are what the connections kept
-  pub tapes_are : map tape_view tapes ≡ tapes_in 0 (handles_after lines)
+  pub tapes_are : map tape_view tapes ≡ all_in tape_at 0 (handles_after lines)
   -- each link was handed back as the last line left it, and no other link was dialed
-  pub ended : later.back ≡ with_links (links_in 0 (handles_after lines)) before.back
+  pub ended : later.back ≡ with_links (all_in links_at 0 (handles_after lines)) before.back
 
 -- so far in a run, in a world that is `now`
 pub record SoFar {L : Type 0} (look : L → Looks) (login : Login) (plans : Plans) (before : Course) (now : WorldSeen)
@@ -103,7 +81,7 @@ pub record SoFar {L : Type 0} (look : L → Looks) (login : Login) (plans : Plan
   pub grown : AreGrown login plans lines
   pub dialed : AreDialed before.dials lines now.dials
   pub moved : now.chance ≡ moved_by before.chance lines
-  pub explained : EachExplained login plans lines
+  pub explained : EachExplained login lines
   pub kept : now.back ≡ before.back
 
 -- so it is for all plans that are those which the world told

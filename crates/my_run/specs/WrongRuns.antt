@@ -33,6 +33,7 @@ use Rattle.my_steps.specs.Grows.{AreGrown, Line, statements_of}
 use Rattle.my_run.specs.declared.tool.Report.{Report}
 use Rattle.my_run.specs.declared.tool.Status.{Status}
 use Rattle.my_run.specs.declared.tool.Status.TheVariants.{Done, Unread, SinkFailed}
+use Rattle.my_script.specs.declared.reading.script.BadLine.{BadLine}
 use Rattle.my_run.specs.Headline.{Headline}
 use Rattle.my_steps.specs.Sums.{use_of, quiet, failed_use}
 use Rattle.my_run.specs.Tool.{IsReport}
@@ -90,6 +91,11 @@ NoBytesAfter = (login : Login) (plans : Plans) (before later : Course) (a : Step
     → 0 < length bytes → before.back ≡ Some [] → later.back ≡ Some (record { number = 0; looks = x } ∷ [])
     → x.got ≡ Some (t.sent.items ++ bytes)
     → Headline login plans before later (steps.Conn ∷ []) (a ∷ []) (t ∷ []) → ⊥
+
+-- a line didn't read, and steps were run
+abbrev pub NoStepsUnread : Type 0
+NoStepsUnread = (words : List (List ℕ)) (world later : WorldSeen) (s r : SourceSeen) (w v : SinkSeen) (report : Report)
+    (line : BadLine) → report.status ≡ Unread line → (later ≡ world → ⊥) → IsReport words world later s r w v report → ⊥
 
 -- it is right over a world that told no items for dials, or planned the fault, and counted it
 abbrev pub MayFail : Option (List DialItem) → Type 0

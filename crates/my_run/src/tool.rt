@@ -1,5 +1,5 @@
 //! The top call.
-ghost use Rattle.std.specs.Prelude.{◌≡◌, OnOk, IfOk, true, map, string_bytes};
+ghost use Rattle.std.specs.Prelude.{◌≡◌, ◌&&◌, not, ℕ, [], List, Some, OnOk, IfOk, true, map, string_bytes};
 ghost use Rattle.std.specs.List.{list_all};
 ghost use Rattle.my_script.specs.Script.{may_stand};
 ghost use Rattle.my_steps.specs.Dialing.{course_of};
@@ -7,9 +7,11 @@ ghost use Rattle.my_world.specs.Plan.{plans_after, chance_after};
 ghost use Rattle.my_world.specs.World.{SamePlans};
 ghost use Rattle.my_run.specs.Headline.{Headline};
 ghost use Rattle.my_session.specs.Login.{login_of};
-ghost use Rattle.my_script.specs.Script.{script_of};
+ghost use Rattle.my_script.specs.Script.{Good, script_of};
+ghost use Rattle.my_frame.specs.Sources.{SourceSeen};
 ghost use Rattle.my_script.specs.Text.{text_of};
-ghost use Rattle.my_run.specs.Tool.{IsEmpty, plans_with, course_with, code_of, ScriptEnds, TextEnds, InputEnds, WordEnds, planning, world_for, IsReport, LeavesWorld};
+ghost use Rattle.my_script.specs.Words.{CommandWords, command_of, command_view};
+ghost use Rattle.my_run.specs.Tool.{plans_with, course_with, code_of, EndsBy, IsAsked, IsInput, IsReport};
 
 use crate::input::{Came, read_all};
 use crate::output::write_all;
@@ -70,7 +72,8 @@ pub struct Report {
 
 fn blank(alloc: Global, status: Status) -> Report
     ensures status { result.status ≡ status }
-    ensures empty { IsEmpty result.transcript }
+    ensures answers { result.transcript.answers.items ≡ [] }
+    ensures tapes { result.transcript.tapes.items ≡ [] }
 {
     Report {
         status,
@@ -99,9 +102,9 @@ fn prepare_each<N: World>(world: &mut N, plan: &[WorldLine]) -> Result<(), NoMem
 fn prepare_all<N: World>(world: &mut N, plans: bool, plan: &[WorldLine]) -> Result<(), NoMemory>
     requires { plans ≡ true → (N.seen world.old).takes ≡ true }
     ensures plans { OnOk result
-        (SamePlans (N.seen world.new).plans (plans_with (planning plans (N.seen world.old)) plan.now)) }
+        (SamePlans (N.seen world.new).plans (plans_with plans plan.now (N.seen world.old).plans)) }
     ensures course { OnOk result
-        (course_of (N.seen world.new) ≡ course_with (planning plans (N.seen world.old)) plan.now) }
+        (course_of (N.seen world.new) ≡ course_with plans plan.now (course_of (N.seen world.old))) }
     ensures takes { (N.seen world.new).takes ≡ (N.seen world.old).takes }
 {
     if plans {
@@ -121,8 +124,8 @@ fn run_script<N: World>(
     requires takes { plans ≡ true → (N.seen world.old).takes ≡ true }
     requires stand { list_all (may_stand plans) script.now.steps.items ≡ true }
     ensures run { IfOk result (λ r. Headline (login_of opts.now)
-        (plans_with (planning plans (N.seen world.old)) script.now.plan.items)
-        (course_with (planning plans (N.seen world.old)) script.now.plan.items) (course_of (N.seen world.new))
+        (plans_with plans script.now.plan.items (N.seen world.old).plans)
+        (course_with plans script.now.plan.items (course_of (N.seen world.old))) (course_of (N.seen world.new))
         script.now.steps.items r.0.answers.items r.0.tapes.items) }
     ensures text { IfOk result (λ r. r.1.items ≡ text_of r.0.answers.items r.0.tapes.items) }
 {
@@ -142,11 +145,10 @@ fn run_good<W: Sink, N: World>(
 ) -> Report
     requires takes { plans ≡ true → (N.seen world.old).takes ≡ true }
     requires stand { list_all (may_stand plans) script.now.steps.items ≡ true }
-    ensures ends { ScriptEnds (login_of opts.now) (plans_with (planning plans (N.seen world.old)) script.now.plan.items)
-        (course_with (planning plans (N.seen world.old)) script.now.plan.items) (course_of (N.seen world.new))
-        script.now.steps.items
-        (W.seen out.old) (W.seen out.new) result.transcript result.status }
-    ensures world { LeavesWorld result.status (N.seen world.old) (N.seen world.new) }
+    ensures { (words : List (List ℕ)) (s r : SourceSeen)
+        → IsInput words (N.seen world.old) s r opts.now plans (Good script.now.plan.items script.now.steps.items)
+        → EndsBy words (N.seen world.old) (N.seen world.new) s r (W.seen out.old) (W.seen out.new)
+        result.transcript result.status }
 {
     match run_script(alloc, opts, script, plans, world) {
         Err(_) => blank(alloc, Status::NoMemory),
@@ -175,10 +177,10 @@ fn run_text<W: Sink, N: World>(
     world: &mut N,
 ) -> Report
     requires { plans ≡ true → (N.seen world.old).takes ≡ true }
-    ensures ends { TextEnds (login_of opts.now) (planning plans (N.seen world.old)) (N.seen world.new)
-        (script_of plans bytes.now)
-        (W.seen out.old) (W.seen out.new) result.transcript result.status }
-    ensures world { LeavesWorld result.status (N.seen world.old) (N.seen world.new) }
+    ensures { (words : List (List ℕ)) (s r : SourceSeen)
+        → IsInput words (N.seen world.old) s r opts.now plans (script_of plans bytes.now)
+        → EndsBy words (N.seen world.old) (N.seen world.new) s r (W.seen out.old) (W.seen out.new)
+        result.transcript result.status }
 {
     match read_script(alloc, plans, bytes) {
         Err(_) => blank(alloc, Status::NoMemory),
@@ -196,9 +198,10 @@ fn run_input<S: Source, W: Sink, N: World>(
     world: &mut N,
 ) -> Report
     requires { plans ≡ true → (N.seen world.old).takes ≡ true }
-    ensures ends { InputEnds (login_of opts.now) (planning plans (N.seen world.old)) (N.seen world.new)
-        (S.seen src.old) (S.seen src.new) (W.seen out.old) (W.seen out.new) result.transcript result.status }
-    ensures world { LeavesWorld result.status (N.seen world.old) (N.seen world.new) }
+    ensures { (words : List (List ℕ)) (command : CommandWords) → IsAsked words command opts.now
+        → plans ≡ (not command.live && (N.seen world.old).takes)
+        → EndsBy words (N.seen world.old) (N.seen world.new) (S.seen src.old) (S.seen src.new)
+        (W.seen out.old) (W.seen out.new) result.transcript result.status }
 {
     match read_all(alloc, src) {
         Err(_) => blank(alloc, Status::NoMemory),
@@ -215,9 +218,9 @@ fn run_command<S: Source, W: Sink, N: World>(
     out: &mut W,
     world: &mut N,
 ) -> Report
-    ensures ends { WordEnds command.entry.word.now (world_for command.entry.is_live (N.seen world.old)) (N.seen world.new)
-        (S.seen src.old) (S.seen src.new) (W.seen out.old) (W.seen out.new) result.transcript result.status }
-    ensures world { LeavesWorld result.status (N.seen world.old) (N.seen world.new) }
+    ensures { (words : List (List ℕ)) → command_of words ≡ Some (command_view command.entry)
+        → EndsBy words (N.seen world.old) (N.seen world.new) (S.seen src.old) (S.seen src.new)
+        (W.seen out.old) (W.seen out.new) result.transcript result.status }
 {
     let plans = !command.is_live && world.plans();
     match read_word(alloc, command.word) {
@@ -244,9 +247,8 @@ pub fn run_tool<S: Source, W: Sink, N: World>(
     out: &mut W,
     world: &mut N,
 ) -> Report
-    ensures report { IsReport (map string_bytes words.now) (N.seen world.old) (N.seen world.new)
+    ensures { IsReport (map string_bytes words.now) (N.seen world.old) (N.seen world.new)
         (S.seen src.old) (S.seen src.new) (W.seen out.old) (W.seen out.new) result }
-    ensures world { LeavesWorld result.status (N.seen world.old) (N.seen world.new) }
 {
     match read_command(words) {
         None => blank(alloc, Status::NoCommand),

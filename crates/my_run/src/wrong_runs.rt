@@ -1,5 +1,5 @@
 //! Runs that no user would call right, each of which the headline refutes, and beside them runs that it accepts.
-ghost use Rattle.my_run.specs.WrongRuns.{NoPlannedDialFault, NoWaitAsFault, NoHeldDialFault, NoHiddenDials, LinksHaveTapes, NoSecretDial, NoBytesAfter, DialFault, NoStillMoment, NoEarlyEnd, NoHoldAfterTurn, NoHoldInTurn, NoZeroSent, NoOtherTaken, NoFaultAtRest, NoBrokenInput, NoClosedExecution, NoUngivenExecution, NoForgottenRollback};
+ghost use Rattle.my_run.specs.WrongRuns.{NoPlannedDialFault, NoWaitAsFault, NoHeldDialFault, NoHiddenDials, LinksHaveTapes, NoSecretDial, NoStepsUnread, NoBytesAfter, DialFault, NoStillMoment, NoEarlyEnd, NoHoldAfterTurn, NoHoldInTurn, NoZeroSent, NoOtherTaken, NoFaultAtRest, NoBrokenInput, NoClosedExecution, NoUngivenExecution, NoForgottenRollback};
 
 /// Over a world that planned no wait and no fault of the dial, none is said to have failed.
 pub fn no_planned_dial_fault()
@@ -34,6 +34,11 @@ pub fn no_secret_dial()
 /// No link is sent bytes after the last step.
 pub fn no_bytes_after()
     ensures { NoBytesAfter }
+{}
+
+/// Where a line doesn't read no step is run.
+pub fn no_steps_unread()
+    ensures { NoStepsUnread }
 {}
 
 /// A dial that failed, as the world counted it, is accepted.

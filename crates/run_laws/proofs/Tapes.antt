@@ -1,8 +1,6 @@
 -- Each connection's tape in a run is one that the reading accepts.
-use Rattle.std.proofs.Common.{ℕ, ◌≡◌, List, [], ◌∷◌, map, Bool, true, false, not, Option, refl}
+use Rattle.std.proofs.Common.{ℕ, ◌≡◌, List, [], ◌∷◌, map, Bool, true, false, not, refl}
 use Rattle.my_grammar.specs.declared.login.Login.{Login}
-use Rattle.my_link.specs.declared.dialer.DialItem.{DialItem}
-use Rattle.my_link.specs.declared.link.ReadItem.{ReadItem}
 use Rattle.my_reading.specs.Calls.{kind_of, is_connect}
 use Rattle.my_reading.specs.Endings.{connects_first, connects_none}
 use Rattle.my_reading.specs.Place.{Place, first_place}
@@ -10,11 +8,11 @@ use Rattle.my_reading.specs.Reading.{read_calls, reading}
 use Rattle.my_reading.specs.Tape.{Tape, TapeCall, spans_from}
 use Rattle.my_client.specs.Reads.{calls_kept, tape_kept}
 use Rattle.my_world.specs.World.{Plans}
-use Rattle.my_steps.specs.Grows.{Line, handles_after}
+use Rattle.my_steps.specs.Grows.{AreGrown, Line, handles_after}
 use Rattle.my_steps.specs.Handle.{Handle, Absent, Dialing, Joined, at_number}
 use Rattle.my_run.specs.Headline.{EachExplained, IsExplained}
 use Rattle.history_laws.proofs.Gathering.{each_is_lawful}
-use Rattle.run_laws.specs.Tapes.{HasLaw, HasTape, EachTapeIsLawful, EachTapeIsRead}
+use Rattle.run_laws.specs.Tapes.{AtEach, HasLaw, HasTape, EachTapeIsLawful, EachTapeIsRead}
 use Rattle.run_laws.proofs.Connecting.{IsOnce, at_once, both, connects_once, grown_once, left_of, none_connects, right_of}
 use Rattle.run_laws.proofs.Growing.{HasAt}
 use Rattle.run_laws.proofs.Ordering.{IsOrdered, grown_ordered}
@@ -30,30 +28,40 @@ unfolding read_calls
 first_read login t [] closed p e = refl
 first_read login t (c ∷ cs) closed p e = both _ _ (left_of _ (none_connects (map (λ c. c.call) cs)) e) (none_read login t cs _ _ (right_of (is_connect (kind_of c.call)) _ e))
 
-explained_now : (login : Login) (plans : Plans) (lines : List Line) → EachExplained login plans lines → (n : ℕ) → IsExplained login (plans.reads n) (plans.dials n) (at_number (handles_after lines) n)
-explained_now login plans [] w n = tt
-explained_now login plans (l ∷ ls) w n = w.0 n
-
-tape_at : (login : Login) (plan : Option (List ReadItem)) (items : Option (List DialItem)) (h : Handle) → IsOnce h → HasAt IsOrdered h → IsExplained login plan items h → HasTape login h
+tape_at : (login : Login) (h : Handle) → IsOnce h → HasAt IsOrdered h → IsExplained login h → HasTape login h
 unfolding reading
-tape_at login plan items Absent w o e = tt
-tape_at login plan items (Dialing left) w o e = tt
-tape_at login plan items (Joined there k x) w o e = record {
+tape_at login Absent w o e = tt
+tape_at login (Dialing left) w o e = tt
+tape_at login (Joined there k x) w o e = record {
   first = first_read login (tape_kept k) (calls_kept k.calls k.pending) false (first_place login) w;
-  calls = e.0;
+  calls = e;
   order = record { first = o.first (tape_kept k); order = o.order };
 }
 
+tapes_after : (login : Login) (plans : Plans) (lines : List Line) → AreGrown login plans lines → EachExplained login lines → AtEach (HasTape login) lines
+tapes_after login plans [] g w = tt
+tapes_after login plans (l ∷ ls) g w = (
+  λ n. tape_at login (at_number l.handles n) (at_once login l.handles n (grown_once login plans (l ∷ ls) g)) (grown_ordered login plans (l ∷ ls) n g) (w.0 n),
+  tapes_after login plans ls g.1 w.1,
+)
+
 pub each_tape_is_read : EachTapeIsRead
-each_tape_is_read login plans before later steps answers tapes h n =
-    tape_at login (plans.reads n) (plans.dials n) (at_number (handles_after h.lines) n) (at_once login (handles_after h.lines) n (grown_once login plans h.lines h.grown))
-    (grown_ordered login plans h.lines n h.grown) (explained_now login plans h.lines h.explained n)
+each_tape_is_read login plans before later steps answers tapes h = tapes_after login plans h.lines h.grown h.explained
 
 law_at : (login : Login) (h : Handle) → HasTape login h → HasLaw login h
 law_at login Absent w = tt
 law_at login (Dialing left) w = tt
 law_at login (Joined there k x) w = λ bytes. each_is_lawful login (tape_kept k) bytes w
 
+laws_after : (login : Login) (lines : List Line) → AtEach (HasTape login) lines → AtEach (HasLaw login) lines
+laws_after login [] w = tt
+laws_after login (l ∷ ls) w = (λ n. law_at login (at_number l.handles n) (w.0 n), laws_after login ls w.1)
+
 pub each_tape_is_lawful : EachTapeIsLawful
-each_tape_is_lawful login plans before later steps answers tapes h n =
-    law_at login (at_number (handles_after h.lines) n) (each_tape_is_read login plans before later steps answers tapes h n)
+each_tape_is_lawful login plans before later steps answers tapes h =
+    laws_after login h.lines (each_tape_is_read login plans before later steps answers tapes h)
+
+-- at the end of a run
+pub last_has : (login : Login) (lines : List Line) (n : ℕ) → AtEach (HasTape login) lines → HasTape login (at_number (handles_after lines) n)
+last_has login [] n w = tt
+last_has login (l ∷ ls) n w = w.0 n

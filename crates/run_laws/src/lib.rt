@@ -2,6 +2,7 @@
 //! judges of transcripts and of plans find of a run, and what a transcript's text says of it.
 #![tactic(auto)]
 
+ghost use Rattle.my_run.specs.Fits.{LinksFit};
 ghost use Rattle.run_laws.specs.Accepts.{EachRefusalRefutes, EachRunIsRight};
 ghost use Rattle.run_laws.specs.Planned.{EachPlannedRefusalRefutes, EachPlannedRunIsRight, MemoryTells};
 ghost use Rattle.run_laws.specs.Tapes.{EachTapeIsLawful, EachTapeIsRead};
@@ -11,7 +12,7 @@ ghost use Rattle.run_laws.specs.WrongStreams.{AreNoStreams};
 ghost use Rattle.run_laws.specs.WrongTranscripts.{AreWrong};
 ghost use Rattle.run_laws.specs.Written.{ReadsAsItself};
 
-/// At the end of a run each connection's tape is one of a client that logs in so, by the reading of my_reading: so the
+/// After each line of a run each connection's tape is one of a client that logs in so, by the reading of my_reading: so the
 /// tapes that a transcript prints are beginnings of conversations that begin with one handshake. The calls of each
 /// stand in order: the first one begins with the first bytes, no other one before the one that precedes it or after the
 /// tape's end, and only the newest may be open.
@@ -24,6 +25,13 @@ pub fn each_tape_is_read()
 /// were received, with each error.
 pub fn each_tape_is_lawful()
     ensures { EachTapeIsLawful }
+{}
+
+/// After each line of a run each link fits its connection: one that shows the bytes that it was sent was sent those of the
+/// tape, what is left of a plan for reads follows the bytes that the tape received, and a dial that isn't ready waited as
+/// often as the plan says.
+pub fn each_link_fits()
+    ensures { LinksFit }
 {}
 
 /// No run has one of these transcripts: a row, an end or an error that the bytes don't hold, an answer that comes too

@@ -24,20 +24,15 @@ use Rattle.my_script.specs.declared.step.Step.{Step}
 use Rattle.my_script.specs.declared.step.Step.TheVariants as steps
 use Rattle.my_script.specs.declared.transcript.Outcome.{Outcome}
 use Rattle.my_script.specs.declared.transcript.Use.{Use}
-use Rattle.my_script.specs.Streams.{is_skip}
+use Rattle.my_script.specs.Numbered.{named_statement, statement_named}
+use Rattle.my_script.specs.Streams.{is_skip, target}
 use Rattle.my_client.specs.Kept.{Asked, Kept, asking, asked_by}
 use Rattle.my_world.specs.World.{Plans, HeldBy, IsFresh}
 use Rattle.my_client.specs.Polls.{IsPolled}
-use Rattle.my_steps.specs.Grows.{IsRefused, OnConnection, PolledOnce, IsClosed, Begins, BeginsOn, Calls, ConnectShows, Connects, HasPlan, IsNew, Dials, Holds, Fails, Links, Gathers, GathersOn, Collects, CollectsOn, CollectsAt, PollsOn, PollsCall, ThenTakes, Skips, Takes, TakesOn, StreamsAt, CallsWhere, LetsGoWith, UnstreamsAt, ExecutesAt, ClosesAt, GoesOnWith, GoesOn, CancelsWith, Cancels, TellsWith, TellsFields, At, StepGrows, is_done, skips_first}
+use Rattle.my_steps.specs.Grows.{AreGrown, Line, handles_after, is_found, statements_of, IsRefused, OnConnection, PolledOnce, IsClosed, Begins, BeginsOn, Calls, ConnectShows, Connects, HasPlan, IsNew, Dials, Holds, Fails, Links, Gathers, GathersOn, Collects, CollectsOn, CollectsAt, PollsOn, PollsCall, ThenTakes, Skips, Takes, TakesOn, StreamsAt, CallsWhere, LetsGoWith, UnstreamsAt, ExecutesAt, ClosesAt, GoesOnWith, GoesOn, CancelsWith, Cancels, TellsWith, TellsFields, At, StepGrows, is_done, skips_first}
 use Rattle.my_steps.specs.Handle.{Handle, Absent, Dialing, Joined, at_number, put_at}
-use Rattle.my_run.specs.Headline.{FitsLink, HasWaited, waits}
+use Rattle.my_run.specs.Fits.{AllFit, EachFits, FitsLink, HasWaited, IsFit, LinksFit, waits}
 use Rattle.my_run.proofs.Polls.{sent_so, taken_so, used_so}
-
--- what is at a number fits its link's plan, and the items for its dials
-abbrev pub IsFit : Option (List ReadItem) → Option (List DialItem) → Handle → Type 0
-IsFit plan items Absent = Unit {0}
-IsFit plan items (Dialing left) = Told items left HasWaited
-IsFit plan items (Joined there k x) = FitsLink plan x k.sent k.taken
 
 no_rules : (plan left : Option (List ReadItem)) (rest : Option (List WriteItem)) → FaultsSpent plan left None rest 0
 no_rules None left rest = tt
@@ -242,9 +237,6 @@ push_all P t [] all p (suc m) = all (suc m)
 push_all P t (h ∷ hs) all p zero = all zero
 push_all P t (h ∷ hs) all p (suc m) = push_all (λ i. P (suc i)) t hs (λ i. all (suc i)) p m
 
-abbrev pub AllFit : Plans → List Handle → Type 0
-AllFit plans hs = (m : ℕ) → IsFit (plans.reads m) (plans.dials m) (at_number hs m)
-
 at_fits : (plans : Plans) (n : ℕ) (R : Handle → Outcome → List Use → Handle → Type 0) (hs ts : List Handle) (o : Outcome) (us : List Use) → ((h t : Handle) → IsFit (plans.reads n) (plans.dials n) h → R h o us t → IsFit (plans.reads n) (plans.dials n) t) → AllFit plans hs → At n R hs o us ts → AllFit plans ts
 at_fits plans n R hs ts o us f w r = subst (AllFit plans) (sym r.others) (put_all (λ m. IsFit (plans.reads m) (plans.dials m)) n r.made hs w (f (at_number hs n) r.made (w n) r.does))
 
@@ -273,3 +265,15 @@ step_fits login plans found named hs (steps.Poll n) o us ts w r = at_fits plans 
 step_fits login plans found named hs (steps.Cancel n) o us ts w r = at_fits plans n _ hs ts o us (λ h t. cancels_fits (plans.reads n) (plans.dials n) login o us h t) w r
 step_fits login plans found named hs (steps.Advance by) o us ts w r = subst (AllFit plans) (sym r.same) w
 step_fits login plans found named hs (steps.Random word) o us ts w r = subst (AllFit plans) (sym r.same) w
+
+-- so it is after each line
+pub grown_fit : (login : Login) (plans : Plans) (lines : List Line) → AreGrown login plans lines → AllFit plans (handles_after lines)
+grown_fit login plans [] w m = tt
+grown_fit login plans (l ∷ ls) w m = step_fits login plans (is_found (target l.step) l.step ls) (statement_named (named_statement l.step) (statements_of ls)) (handles_after ls) l.step l.outcome l.uses l.handles (grown_fit login plans ls w.1) w.0.answer m
+
+lines_fit : (login : Login) (plans : Plans) (lines : List Line) → AreGrown login plans lines → EachFits plans lines
+lines_fit login plans [] w = tt
+lines_fit login plans (l ∷ ls) w = (grown_fit login plans (l ∷ ls) w, lines_fit login plans ls w.1)
+
+pub links_fit : LinksFit
+links_fit login plans before later steps answers tapes w = lines_fit login plans w.lines w.grown

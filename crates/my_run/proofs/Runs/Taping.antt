@@ -5,11 +5,13 @@ use Rattle.std.proofs.lemmas.List.{append-nil, append_assoc, map-append, reverse
 use Rattle.my_steps.specs.declared.slot.Slot.{Slot}
 use Rattle.my_client.specs.declared.tape.DoneCall.{DoneCall}
 use Rattle.my_script.specs.declared.transcript.TapeCall.{TapeCall}
-use Rattle.my_steps.specs.Slot.{handle_of}
+use Rattle.my_link.specs.declared.dialer.DialItem.{DialItem}
+use Rattle.my_steps.specs.declared.slot.Slot.TheVariants.{Gone, Held, There, Ended}
+use Rattle.my_steps.specs.Slot.{handle_of, handle_with, handles_from}
 use Rattle.my_link.specs.Looks.{Looks}
 use Rattle.my_steps.specs.Handle.{Handle}
 use Rattle.my_world.specs.World.{Back}
-use Rattle.my_run.specs.Tapes.{all_in, tape_call, with_links}
+use Rattle.my_run.specs.Tapes.{all_in, links_at, tape_at, tape_call, with_links}
 
 -- a call goes from the calls to the tape, which is in reverse order
 pub call_on : (calls rest : List DoneCall) (call : DoneCall) (tape more all : List TapeCall) (t : TapeCall) → calls ≡ rest ++ call ∷ [] → t ≡ tape_call call → more ≡ tape ++ t ∷ [] → map tape_call calls ++ reverse tape ≡ all → map tape_call rest ++ reverse more ≡ all
@@ -48,3 +50,21 @@ pub link_on : {L : Type 0} (look : L → Looks) (at : ℕ → Handle → List Ba
 link_on look at n k ss rest s back more all h e f g j i =
     ap (with_links (all_in at k (map (handle_of look) rest))) g ∙ with_two (at n (handle_of look s)) (all_in at k (map (handle_of look) rest)) back
     ∙ ap (λ ls. with_links ls back) (first_of_all look at n k ss rest s h e f j) ∙ i
+
+-- a slot's tape doesn't tell what is left for dials
+pub tape_same : {L : Type 0} (look : L → Looks) (n : ℕ) (left : Option (List DialItem)) (s : Slot L) → tape_at n (handle_of look s) ≡ tape_at n (handle_with look left s)
+tape_same look n left Gone = refl
+tape_same look n left Held = refl
+tape_same look n left (There c) = refl
+tape_same look n left (Ended c) = refl
+
+-- nor does its link
+pub link_same : {L : Type 0} (look : L → Looks) (n : ℕ) (left : Option (List DialItem)) (s : Slot L) → links_at n (handle_of look s) ≡ links_at n (handle_with look left s)
+link_same look n left Gone = refl
+link_same look n left Held = refl
+link_same look n left (There c) = refl
+link_same look n left (Ended c) = refl
+
+pub all_same : {L T : Type 0} (look : L → Looks) (at : ℕ → Handle → List T) (left : ℕ → Option (List DialItem)) (k : ℕ) (ss : List (Slot L)) → ((n : ℕ) (i : Option (List DialItem)) (s : Slot L) → at n (handle_of look s) ≡ at n (handle_with look i s)) → all_in at k (map (handle_of look) ss) ≡ all_in at k (handles_from look left k ss)
+all_same look at left k [] same = refl
+all_same look at left k (s ∷ ss) same = ap (λ ts. ts ++ all_in at (suc k) (map (handle_of look) ss)) (same k (left k) s) ∙ ap (λ ts. at k (handle_with look (left k) s) ++ ts) (all_same look at left (suc k) ss same)

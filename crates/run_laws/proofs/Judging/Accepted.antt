@@ -4,8 +4,6 @@ use Rattle.std.proofs.lemmas.Bool.Decides.{nat_tests}
 use Rattle.std.proofs.lemmas.List.{append-nil, length-map}
 use Rattle.my_statements.specs.Prepared.{StatementView}
 use Rattle.my_grammar.specs.declared.login.Login.{Login}
-use Rattle.my_link.specs.declared.dialer.DialItem.{DialItem}
-use Rattle.my_link.specs.declared.link.ReadItem.{ReadItem}
 use Rattle.my_reading.specs.Endings.{AreCalls}
 use Rattle.my_reading.specs.Reading.{read_calls, reading}
 use Rattle.my_reading.specs.Tape.{TapeCall as ReadCall}
@@ -139,15 +137,15 @@ dialed_so login plans (l ∷ ls) grown =
     omega arith
 
 -- at each number
-explained_at : (login : Login) (plans : Plans) (lines : List Line) → EachExplained login plans lines → (n : ℕ) → IsExplained login (plans.reads n) (plans.dials n) (at_number (handles_after lines) n)
-explained_at login plans [] w n = tt
-explained_at login plans (l ∷ ls) w n = w.0 n
+explained_at : (login : Login) (lines : List Line) → EachExplained login lines → (n : ℕ) → IsExplained login (at_number (handles_after lines) n)
+explained_at login [] w n = tt
+explained_at login (l ∷ ls) w n = w.0 n
 
-all_for : (login : Login) (plan : Option (List ReadItem)) (items : Option (List DialItem)) (h : Handle) → IsExplained login plan items h → AreCalls login (reading login (tape_for h)).calls
+all_for : (login : Login) (h : Handle) → IsExplained login h → AreCalls login (reading login (tape_for h)).calls
 unfolding reading read_calls
-all_for login plan items Absent e = tt
-all_for login plan items (Dialing left) e = tt
-all_for login plan items (Joined there k x) e = e.0
+all_for login Absent e = tt
+all_for login (Dialing left) e = tt
+all_for login (Joined there k x) e = e
 
 over_placed : (login : Login) (hs : List Handle) (n : ℕ) (w : Walk) → AreCalls login (reading login (tape_for (at_number hs n))).calls → Placed login (tape_for (at_number hs n)) n hs w
     → IsOver login (shown_tape (tape_for (at_number hs n))) w w.spot.status
@@ -185,7 +183,7 @@ each_run_is_right login plans before later steps answers tapes h = record {
     lines_at : (n : ℕ) → AreLines login n (shown_tape (tape_for (at_number (handles_after h.lines) n))) 0 nothing_made (start login n) steps answers
     lines_at n =
         let last = at_number (handles_after h.lines) n in
-        let all = all_for login (plans.reads n) (plans.dials n) last (explained_at login plans h.lines h.explained n) in
+        let all = all_for login last (explained_at login h.lines h.explained n) in
         let r : RanSo login plans (tape_for last) all n h.lines = ran login plans (tape_for last) all n h.lines h.grown h.explained (has_for last) in
         let shown = r.reaches [] [] (over_placed login (handles_after h.lines) n r.walk all r.placed) in
         shown_lines login n (shown_tape (tape_for last)) 0 nothing_made (start login n) steps answers

@@ -1,8 +1,6 @@
 -- Which errors the open call returns by its bytes; a call that is read while it is open isn't on a closed connection.
-use Rattle.std.proofs.Common.{◌≡◌, ℕ, List, [], ◌∷◌, ◌++◌, Bool, true, false, ◌&&◌, not, if◌then◌else◌, Option, Some, None, refl, sym, ap, ◌∙◌, subst, inl}
+use Rattle.std.proofs.Common.{◌≡◌, ℕ, List, [], ◌∷◌, ◌++◌, Bool, true, false, ◌&&◌, not, if◌then◌else◌, Some, None, refl, sym, ap, ◌∙◌, subst, inl}
 use Rattle.my_grammar.specs.declared.login.Login.{Login}
-use Rattle.my_link.specs.declared.dialer.DialItem.{DialItem}
-use Rattle.my_link.specs.declared.link.ReadItem.{ReadItem}
 use Rattle.my_link.specs.declared.met.Met.{Met}
 use Rattle.my_reading.specs.declared.error.DriverError.{DriverError}
 use Rattle.my_reading.specs.declared.error.DriverError.TheVariants as drivers
@@ -26,7 +24,6 @@ use Rattle.my_session.specs.Sessions.{is_refused}
 use Rattle.my_client.proofs.Ending.{same_stop}
 use Rattle.my_client.proofs.Resting.{spans_closed}
 use Rattle.my_client.proofs.Stopping.{AreTold, TellsSo, run_tells}
-use Rattle.my_world.specs.World.{Plans}
 use Rattle.my_steps.specs.Grows.{Line, handles_after}
 use Rattle.my_steps.specs.Handle.{Handle, Absent, Dialing, Joined, at_number}
 use Rattle.my_run.specs.Headline.{EachExplained, IsExplained}
@@ -130,11 +127,11 @@ IsLive Absent = Unit {0}
 IsLive (Dialing left) = Unit {0}
 IsLive (Joined there k x) = (a : Asked) → k.pending ≡ Some a → has_closed (made_of k.calls) ≡ false
 
-live_at : (login : Login) (plan : Option (List ReadItem)) (items : Option (List DialItem)) (h : Handle) → IsExplained login plan items h → IsLive h
-live_at login plan items Absent e = tt
-live_at login plan items (Dialing left) e = tt
-live_at login plan items (Joined there k x) e = λ a pending. open_live login k a pending e.0
+live_at : (login : Login) (h : Handle) → IsExplained login h → IsLive h
+live_at login Absent e = tt
+live_at login (Dialing left) e = tt
+live_at login (Joined there k x) e = λ a pending. open_live login k a pending e
 
-pub lines_live : (login : Login) (plans : Plans) (lines : List Line) → EachExplained login plans lines → (n : ℕ) → IsLive (at_number (handles_after lines) n)
-lines_live login plans [] w n = tt
-lines_live login plans (l ∷ ls) w n = live_at login (plans.reads n) (plans.dials n) (at_number l.handles n) (w.0 n)
+pub lines_live : (login : Login) (lines : List Line) → EachExplained login lines → (n : ℕ) → IsLive (at_number (handles_after lines) n)
+lines_live login [] w n = tt
+lines_live login (l ∷ ls) w n = live_at login (at_number l.handles n) (w.0 n)

@@ -69,7 +69,7 @@ module _ (login : Login) (plans : Plans) (t : Tape) (all : AreCalls login (readi
     pub reaches : (ss : List Step) (vs : List AnswerView) → AreShown login n (shown_tape t) (length ls) (made_of n ls) walk ss vs
         → AreShown login n (shown_tape t) 0 nothing_made (start login n) (steps_of ls ++ ss) (answers_of ls ++ vs)
 
-  pub ran : (ls : List Line) → AreGrown login plans ls → EachExplained login plans ls → HasTape t (at_number (handles_after ls) n) → RanSo ls
+  pub ran : (ls : List Line) → AreGrown login plans ls → EachExplained login ls → HasTape t (at_number (handles_after ls) n) → RanSo ls
   ran [] grown said has = record {
     walk = start login n;
     placed = record {
@@ -84,7 +84,7 @@ module _ (login : Login) (plans : Plans) (t : Tape) (all : AreCalls login (readi
       let grows : StepGrows login plans (is_found (target l.step) l.step ls) statement (handles_after ls) l.step l.outcome l.uses l.handles =
       grown.0.answer in
       let s : RunsSo login t n found statement (handles_after ls) l.handles l.step l.outcome l.uses =
-      line_so login t all n found (is_found (target l.step) l.step ls) statement plans (handles_after ls) l.handles l.step l.outcome l.uses (ap (λ q. is_found q l.step ls)) (lines_live login plans ls said.1) (grown_once login plans ls grown.1) grows has in
+      line_so login t all n found (is_found (target l.step) l.step ls) statement plans (handles_after ls) l.handles l.step l.outcome l.uses (ap (λ q. is_found q l.step ls)) (lines_live login ls said.1) (grown_once login plans ls grown.1) grows has in
       let before : RanSo ls = ran ls grown.1 said.1 s.back in
       let line : RunsLine login t n found statement l.handles l.step l.outcome l.uses before.walk = s.forth before.walk before.placed in
       let view : AnswerView = record { number = l.number; outcome = l.outcome; uses = l.uses } in

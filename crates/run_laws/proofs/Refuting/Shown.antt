@@ -51,7 +51,7 @@ use Rattle.run_laws.specs.Shown.{step_of, is_stepped, outcome_of, taken_in, Show
 use Rattle.run_laws.specs.Tapes.{HasTape}
 use Rattle.run_laws.proofs.Connecting.{left_of, right_of}
 use Rattle.run_laws.proofs.Polls.{Polled, polled_of}
-use Rattle.run_laws.proofs.Tapes.{each_tape_is_read}
+use Rattle.run_laws.proofs.Tapes.{each_tape_is_read, last_has}
 use Rattle.run_laws.proofs.Refuting.Chain.{Chain, chain_split, grown_chain}
 
 -- how a call ended, by its step's answer
@@ -407,7 +407,7 @@ shown_tape login plans before later a vs t s ss connects ready plain w h =
     (subst (λ (xs : List Step). Chain login plans [] xs (answers_of h.lines) (handles_after h.lines)) h.steps_are (grown_chain login plans h.lines h.grown)) in
     let all = led_all login plans a vs t s ss (handles_after h.lines) connects ready plain w chain in
     let tape = kept_shown a vs t s ss (handles_after h.lines) w all h.tapes_are in
-    let read : HasTape login (Joined true all.kept all.link) = subst (λ (hs : List Handle). HasTape login (at_number hs 0)) all.left (each_tape_is_read login plans before later _ _ _ h 0) in
+    let read : HasTape login (Joined true all.kept all.link) = subst (λ (hs : List Handle). HasTape login (at_number hs 0)) all.left (last_has login h.lines 0 (each_tape_is_read login plans before later _ _ _ h)) in
     subst (IsTape login) tape read
 
 -- `fields` on the connection
