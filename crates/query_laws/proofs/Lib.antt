@@ -1,0 +1,17 @@
+pub mod Running
+pub mod Cleaning
+pub mod Firsts
+pub mod Answering
+pub mod Heading
+pub mod Items
+pub mod Dropping
+pub mod Committing
+pub mod Finding
+pub mod Taping
+pub mod Driving
+pub mod Since
+pub mod Commits
+pub mod Steps
+pub mod Gathering
+pub mod Beginning
+pub mod Trying

@@ -1,0 +1,7 @@
+pub mod Begins
+pub mod Found
+pub mod Stood
+pub mod Made
+pub mod Commits
+pub mod Answers
+pub mod Tried
