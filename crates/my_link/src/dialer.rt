@@ -1,5 +1,5 @@
 //! What dials links.
-ghost use Rattle.std.specs.Prelude.{◌≡◌, OnOk};
+ghost use Rattle.std.specs.Prelude.{◌≡◌, None, OnOk, OnErr};
 ghost use Rattle.my_link.specs.Outside.{no_counts};
 ghost use Rattle.my_link.specs.Dials.{WorldSeen, SameBut, SameLink, SamePlans, IfLink, IfNoLink, PlaysDial, CountsDial, IsFresh, with_back};
 
@@ -47,9 +47,11 @@ pub trait Dialer {
         ensures dials { CountsDial (seen self.old).dials (seen self.new).dials result }
         ensures back { (seen self.new).back ≡ (seen self.old).back };
 
-    /// Takes back the link of `number`, which ends it. Out of memory the link ends, too, but isn't noted.
+    /// Takes back the link of `number`, which ends it. Out of memory the link ends, too, and from then on what was handed back
+    /// isn't told.
     fn hang_up(&mut self, number: u64, link: Self::L) -> Result<(), NoMemory>
         ensures back { OnOk result ((seen self.new).back ≡ with_back number (Self.L.looks link) (seen self.old).back) }
+        ensures untold { OnErr result ((seen self.new).back ≡ None) }
         ensures plans { SamePlans (seen self.old).plans (seen self.new).plans }
         ensures takes { (seen self.new).takes ≡ (seen self.old).takes }
         ensures chance { (seen self.new).chance ≡ (seen self.old).chance }

@@ -1,5 +1,5 @@
 -- What clauses see of a world in memory.
-use Rattle.std.specs.Prelude.{ℕ, List, Some, map, true}
+use Rattle.std.specs.Prelude.{ℕ, List, Some, None, map, Bool, true, if◌then◌else◌}
 use Rattle.my_link.specs.Planned.{PlannedItems, items_at}
 use Rattle.my_world.specs.declared.memory.dials.PlannedDial.{PlannedDial}
 use Rattle.my_world.specs.MemDials.{dials_at}
@@ -17,12 +17,12 @@ plans_of links dials = record {
 abbrev pub back_of : EndedLink → Back
 back_of e = record { number = e.number; looks = looks_of e.link }
 
--- it takes a plan, and tells all that it does
-abbrev pub world_of : List PlannedItems → List PlannedDial → DialCounts → ℕ → List ℕ → List EndedLink → WorldSeen
-world_of links dials counts moment randoms ended = record {
+-- It takes a plan, and tells all that it does; what was handed back it tells as long as none of it was lost for want of memory.
+abbrev pub world_of : List PlannedItems → List PlannedDial → DialCounts → ℕ → List ℕ → List EndedLink → Bool → WorldSeen
+world_of links dials counts moment randoms ended lost = record {
   takes = true;
   plans = plans_of links dials;
   dials = counts;
   chance = record { moment = Some moment; randoms = Some randoms };
-  back = Some (map back_of ended);
+  back = if lost then None else Some (map back_of ended);
 }

@@ -1,5 +1,5 @@
 //! A world in memory, which plays its plan.
-ghost use Rattle.std.specs.Prelude.{ℕ, ◌≡◌, ◌≢◌, ◌∷◌, [], true, length, IfOk, OnOk, OnErr, ◌==◌, ◌<◌, if◌then◌else◌};
+ghost use Rattle.std.specs.Prelude.{ℕ, ◌≡◌, ◌≢◌, ◌∷◌, [], true, false, length, IfOk, OnOk, OnErr, ◌==◌, ◌<◌, if◌then◌else◌};
 ghost use Rattle.my_link.specs.MemLink.{unread, unwritten, counted, sent_to};
 ghost use Rattle.my_link.specs.Outside.{no_counts};
 ghost use Rattle.my_link.specs.Link.{accept_back};
@@ -43,6 +43,8 @@ pub struct MemWorld {
     randoms: VecDeque<u64>,
     // The links that were handed back, the first of them first.
     ended: Vec<EndedLink>,
+    // Whether one was handed back that isn't there, for want of memory.
+    lost: bool,
 }
 
 fn packet_bytes(alloc: Global, number: u8, payload: &[u8]) -> Result<Vec<u8>, NoMemory>
@@ -152,6 +154,7 @@ impl MemWorld {
         ensures moment { result.moment ≡ 0 }
         ensures randoms { result.randoms.items ≡ [] }
         ensures ended { result.ended.items ≡ [] }
+        ensures lost { result.lost ≡ false }
     {
         MemWorld {
             alloc,
@@ -162,6 +165,7 @@ impl MemWorld {
             moment: 0,
             randoms: VecDeque::new(alloc),
             ended: Vec::new(alloc),
+            lost: false,
         }
     }
 }
@@ -251,7 +255,7 @@ impl Dialer for MemWorld {
     type L = MemLink;
 
     ghost seen = { λ w. world_of w.links.items w.dials.items (record { faults = w.faults; holds = w.holds })
-        w.moment w.randoms.items w.ended.items };
+        w.moment w.randoms.items w.ended.items w.lost };
 
     // Every target is at the links in memory.
     fn dial(&mut self, number: u64, _target: &Target) -> DialStep<MemLink> {
@@ -269,8 +273,13 @@ impl Dialer for MemWorld {
     }
 
     fn hang_up(&mut self, number: u64, link: MemLink) -> Result<(), NoMemory> {
-        self.ended.push(EndedLink { number, link })?;
-        Ok(())
+        match self.ended.push(EndedLink { number, link }) {
+            Ok(()) => Ok(()),
+            Err(_) => {
+                self.lost = true;
+                Err(NoMemory)
+            }
+        }
     }
 }
 
