@@ -3,6 +3,8 @@
 #![tactic(auto)]
 
 #[cfg(test)]
+mod auth;
+#[cfg(test)]
 mod client;
 #[cfg(test)]
 mod frames;

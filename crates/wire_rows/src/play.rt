@@ -1,5 +1,6 @@
 //! Plays the rows.
 
+use crate::auth::{auth, named, scramble};
 use crate::client::sent;
 use crate::frames::{chunks, copied, drips, follow, length, shortest, stream, unsent};
 use crate::link::{polls, pool, posts};
@@ -17,6 +18,9 @@ fn play(notes: &mut Notes, kind: &str, given: &str) {
         "shortest" => shortest(notes, given),
         "copied" => copied(notes, given),
         "stream" => stream(notes, given),
+        "named" => named(notes, given),
+        "scramble" => scramble(notes, given),
+        "auth" => auth(notes, given),
         "drips" => drips(notes, given),
         "unsent" => unsent(notes, given),
         "follow" => follow(notes, given),
@@ -61,7 +65,7 @@ fn count_of(rt: &impl Abort, alloc: Global, rows: &str) -> u64 {
 
 #[test]
 fn ample_rows(rt: HostRuntime) {
-    assert_eq!(rt; count_of(&rt, rt.alloc(), ROWS), 148);
+    assert_eq!(rt; count_of(&rt, rt.alloc(), ROWS), 190);
     assert_eq!(rt; StatusFlags::SERVER_STATUS_AUTOCOMMIT.0, 2);
 }
 

@@ -1,0 +1,4 @@
+pub mod Chain
+pub mod Laws
+pub mod Plugins
+pub mod Scrambles
