@@ -3,3 +3,4 @@ pub mod Listed
 pub mod Woken
 pub mod Shelves
 pub mod Slots
+pub mod Views

@@ -1,13 +1,18 @@
--- What a journal tells of a pool's events.
+-- What is noted, one after the other, and what a journal tells of a pool's events.
 use Rattle.std.specs.Prelude.{◌≡◌, ◌⊎◌, Option, Some, None, List, [], ◌∷◌, ◌++◌}
 use Rattle.my_pool_core.specs.declared.event.PoolEvent.{PoolEvent}
 use Rattle.my_pool_core.specs.State.{State}
 use Rattle.my_pool_core.specs.Steps.{AllMay, after}
 
--- events that are told are told with one more at their end, or no more; events that aren't told stay so
-abbrev pub IsNoted : Option (List PoolEvent) → PoolEvent → Option (List PoolEvent) → Type 0
-IsNoted None event new = new ≡ None
-IsNoted (Some events) event new = (new ≡ None) ⊎ (new ≡ Some (events ++ event ∷ []))
+-- notes that are there are there with one more at their end, or no more; notes that are missing stay so
+abbrev pub IsNoted : {T : Type 0} → Option (List T) → T → Option (List T) → Type 0
+IsNoted None one new = new ≡ None
+IsNoted (Some notes) one new = (new ≡ None) ⊎ (new ≡ Some (notes ++ one ∷ []))
+
+-- where there is one
+abbrev pub MayNote : {T : Type 0} → Option (List T) → Option T → Option (List T) → Type 0
+MayNote old None new = new ≡ old
+MayNote old (Some one) new = IsNoted old one new
 
 -- each event may happen when its turn comes, from the first state on, and they lead to the second one
 pub record Leads (first : State) (events : List PoolEvent) (s : State) : Type 0 where

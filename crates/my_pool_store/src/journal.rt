@@ -3,6 +3,7 @@
 ghost use Rattle.std.specs.Prelude.{Some, None, []};
 ghost use Rattle.my_pool_store.specs.Noted.{IsNoted};
 
+use crate::notes::Notes;
 use my_frame::NoMemory;
 use my_pool_core::PoolEvent;
 use std::alloc::Global;
@@ -23,8 +24,7 @@ pub trait Journal: Drop {
 /// The events are kept. Where there is no memory for one, it and all later ones are missing.
 #[derive(Drop)]
 pub struct Kept {
-    events: Vec<PoolEvent>,
-    cut: bool,
+    events: Notes<PoolEvent>,
 }
 
 /// The events aren't kept.
@@ -40,8 +40,7 @@ impl Kept {
         ensures { kept_events result ≡ Some [] }
     {
         Kept {
-            events: Vec::new(alloc),
-            cut: false,
+            events: Notes::new(alloc),
         }
     }
 
@@ -49,12 +48,7 @@ impl Kept {
     pub fn copy(&self, alloc: Global) -> Result<Vec<PoolEvent>, NoMemory>
         ensures { IfOk result (λ events. kept_events self.now ≡ Some events.items) }
     {
-        if self.cut {
-            return Err(NoMemory);
-        }
-        let mut copied = Vec::new(alloc);
-        copied.extend_from_slice(&self.events)?;
-        Ok(copied)
+        self.events.copy(alloc)
     }
 }
 
@@ -64,9 +58,7 @@ impl Journal for Kept {
     ghost told = { kept_events };
 
     fn note(&mut self, event: PoolEvent) {
-        if !self.cut && self.events.push(event).is_err() {
-            self.cut = true;
-        }
+        self.events.note(event);
     }
 }
 

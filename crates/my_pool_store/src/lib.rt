@@ -1,12 +1,16 @@
-//! What a pool has beside its core: the connections that it keeps, the wakers of requests that wait, and a journal of its
-//! events.
+//! What a pool has beside its core: the connections that it keeps, the wakers of requests that wait, a journal of its events,
+//! and notes of what else happens.
 #![tactic(auto)]
 
 mod journal;
 pub mod laws;
+mod notes;
 mod shelf;
+mod view;
 mod wakers;
 
 pub use journal::{Dropped, Journal, Kept};
+pub use notes::Notes;
 pub use shelf::{Shelf, Slot};
+pub use view::PoolView;
 pub use wakers::{NoWake, Wake, Wakers};
