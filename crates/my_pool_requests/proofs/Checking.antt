@@ -37,6 +37,15 @@ module _ {L : Type 0} where
   pub leased-empty : (look : L → Looks) (age n : ℕ) (c : ConnSeen L) (p q : Pool L) (held : ConnEntry L) → LooksOn look age n c p q (Some (turns.Held held)) → left_over c ≡ []
   leased-empty look age n c p q held w = leased-by look age n c w.after p q held w.step w.checked.checks w.comes
 
+  alive-by : (age n : ℕ) (after : ConnSeen L) (p q : Pool L) (held : ConnEntry L) (step : CheckStep) → LookedBy age n after step p q (Some (turns.Held held)) → step ≡ checks.Alive
+  alive-by age n after p q held checks.Alive w = refl
+  alive-by age n after p q held checks.NotYet w = absurd (let e = w.1 in cc)
+  alive-by age n after p q held checks.Dead w = absurd (let e = w.1 in cc)
+  alive-by age n after p q held checks.Failed w = absurd (let e = w.1 in cc)
+
+  pub leased-alive : (look : L → Looks) (age n : ℕ) (c : ConnSeen L) (p q : Pool L) (held : ConnEntry L) → (looks : LooksOn look age n c p q (Some (turns.Held held))) → looks.step ≡ checks.Alive
+  leased-alive look age n c p q held looks = alive-by age n looks.after p q held looks.step looks.comes
+
   dead-why : (look : L → Looks) (c : ConnSeen L) (bytes : List ℕ) (y : L) → left_over c ≡ bytes → ChecksBy look bytes c.link y checks.Dead → IsntGood look c
   dead-why look c [] y e k = record { after = y; why = inr (inl k.1) }
   dead-why look c (b ∷ more) y e k = record { after = y; why = inl (λ f. cc) }
