@@ -5,9 +5,7 @@ use Rattle.my_link.specs.Looks.{Looks}
 use Rattle.my_reading.specs.declared.answer.Answer.{Answer}
 use Rattle.my_reading.specs.declared.answer.Answer.TheVariants as answers
 use Rattle.my_reading.specs.declared.call.Call.{Call}
-use Rattle.my_reading.specs.declared.call.Call.TheVariants as calls
 use Rattle.my_reading.specs.declared.call.CallKind.{CallKind}
-use Rattle.my_reading.specs.declared.call.CallKind.TheVariants as kinds
 use Rattle.my_reading.specs.declared.error.Error.{Error}
 use Rattle.my_reading.specs.declared.error.Error.TheVariants as errors
 use Rattle.my_reading.specs.Calls.{is_connect, is_quit, kind_of}
@@ -16,7 +14,7 @@ use Rattle.my_reading.specs.Told.{closes_by, told}
 use Rattle.my_reading.specs.Told.{closes as told_closes}
 use Rattle.my_client.specs.declared.tape.DoneCall.{DoneCall}
 use Rattle.my_client.specs.declared.tape.Said.TheVariants as says
-use Rattle.my_client.specs.Kept.{Kept, asked_by, asking, made_of, told_by}
+use Rattle.my_client.specs.Kept.{Kept, asking, made_of, told_by}
 use Rattle.my_client.specs.Made.{has_closed}
 use Rattle.my_client.proofs.Resting.{stands_closed}
 use Rattle.my_client.specs.Polls.{moved_by}

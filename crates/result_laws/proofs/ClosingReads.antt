@@ -9,11 +9,10 @@ use Rattle.my_reading.specs.declared.error.Error.{Error}
 use Rattle.my_session.specs.Sessions.{is_taken}
 use Rattle.my_conn.specs.Answers.{done_of, next_of, taken_of}
 use Rattle.my_conn.specs.Conn.{ConnSeen}
-use Rattle.my_conn.specs.Drives.{DriveIs, NextIs, waited_by}
-use Rattle.my_conn.specs.Streams.{SkipEnds, SkipIs, StreamBegins}
+use Rattle.my_conn.specs.Drives.{DriveIs}
+use Rattle.my_conn.specs.Streams.{SkipEnds, StreamBegins}
 use Rattle.my_conn.specs.declared.drive.NextAnswer.TheVariants.{Row, SetEnd, NoSet}
-use Rattle.my_query.specs.Gathers.{SetIs}
-use Rattle.my_query.specs.Reads.{ItemIs, ReadFails, ReadsEnd, ReadsRows}
+use Rattle.my_query.specs.Reads.{ReadFails, ReadsEnd, ReadsRows}
 use Rattle.my_query.specs.declared.error.QueryError.{QueryError}
 use Rattle.my_query.specs.declared.error.QueryError.TheVariants.{Client, FromRow}
 use Rattle.result_laws.specs.Closing.{CloseQuery, ClosesBy, DropCloses, ItemCloses, NextCloses, RestsAt, SetCloses, StreamCloses, closes, closes_in, is_closed}

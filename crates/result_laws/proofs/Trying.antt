@@ -1,7 +1,5 @@
 -- The definitions of this crate accept right values, and refute wrong ones.
 use Rattle.std.proofs.Common.{◌≡◌, ◌∙◌, true, false, refl, sym}
-use Rattle.my_conn.specs.Conn.{ConnSeen}
-use Rattle.result_laws.specs.Closing.{is_closed}
 use Rattle.result_laws.specs.Tried.{ClosingIsTried}
 
 no : true ≡ false → ⊥
