@@ -1,0 +1,5 @@
+pub mod Unread
+pub mod Taken
+pub mod Streams
+pub mod Starts
+pub mod Tried

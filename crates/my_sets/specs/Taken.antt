@@ -1,0 +1,38 @@
+-- What is known of a set that a stream took.
+use Rattle.std.specs.Prelude.{◌≡◌, Bool, not}
+use Rattle.std.specs.declared.result.Result.{Result}
+use Rattle.std.specs.declared.result.Result.TheVariants.{Ok, Err}
+use Rattle.my_link.specs.Looks.{Looks}
+use Rattle.my_reading.specs.declared.error.Error.{Error}
+use Rattle.my_reading.specs.declared.error.Error.TheVariants as errors
+use Rattle.my_conn.specs.Conn.{ConnSeen}
+use Rattle.my_conn.specs.Streams.{StreamWaits}
+use Rattle.my_sets.specs.Unread.{next_columns}
+use Rattle.my_sets.specs.declared.taken.TakenSet.{TakenSet}
+
+-- The set has the columns that are unread, and the last OK, at this connection.
+abbrev pub HeadIs : {L : Type 0} → TakenSet → ConnSeen L → Type 0
+HeadIs set c = (set.columns ≡ next_columns c) × (set.ok ≡ c.seen.stand.facts.ok)
+
+-- The taking failed with this error, or memory ran out after it.
+abbrev pub FailsBy : Result Bool Error → Error → Type 0
+FailsBy (Ok taken) error = error ≡ errors.NoMemory
+FailsBy (Err e) error = error ≡ e
+
+-- A set was taken, and is known as it is then. Where nothing is left the stream ended.
+abbrev pub TakesSet : {L : Type 0} → (L → Looks) → ConnSeen L → ConnSeen L → Result TakenSet Error → Type 0
+TakesSet look old new (Ok set) = (taken : Bool) × StreamWaits look old new (Ok taken) × (set.ended ≡ not taken)
+    × HeadIs set new
+TakesSet look old new (Err error) = (r : Result Bool Error) × StreamWaits look old new r × FailsBy r error
+
+-- Where the call that begins an answer was done, its first set was taken; where it failed, no call followed.
+abbrev pub TakesAfter : {L : Type 0} → (L → Looks) → Result (Unit {0}) Error → ConnSeen L → ConnSeen L
+    → Result TakenSet Error → Type 0
+TakesAfter look (Ok done) old new result = TakesSet look old new result
+TakesAfter look (Err error) old new result = (result ≡ Err error) × (new ≡ old)
+
+-- An answer was begun so, and its first set taken. The first of these that failed was the last.
+abbrev pub TakesFirst : {L : Type 0} → (L → Looks) → (ConnSeen L → ConnSeen L → Result (Unit {0}) Error → Type 0)
+    → ConnSeen L → ConnSeen L → Result TakenSet Error → Type 0
+TakesFirst {L} look begins old new result = (r : Result (Unit {0}) Error) × (mid : ConnSeen L) × begins old mid r
+    × TakesAfter look r mid new result

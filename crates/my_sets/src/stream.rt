@@ -1,0 +1,147 @@
+//! The rows of one set, read one at a time of a result that the stream owns.
+ghost use Rattle.std.specs.Prelude.{◌≡◌, IfOk, None, true};
+ghost use Rattle.std.specs.Option.{option_copied};
+ghost use Rattle.my_conn.specs.Facts.{affected_by, id_of, info_by, insert_by, warnings_by};
+ghost use Rattle.my_results.specs.Streams.{CollectsLeft, ItemLeftIs};
+
+use crate::taken::TakenSet;
+use my_frame::NoMemory;
+use my_query::{Calls, QueryError};
+use my_reading::SetColumns;
+use my_reply::{Column, OkPacket};
+use my_results::{QueryResult, ResultSetStream};
+use my_value::FromRow;
+use std::alloc::Global;
+use std::marker::PhantomData;
+
+/// The rows of one set of a result that is the stream's own. A stream that is let go before its end leaves the rest of the
+/// set, which the next command of the holder passes over.
+#[derive(Drop)]
+pub struct SetStream<C, T, P> {
+    pub result: QueryResult<C, P>,
+    pub set: TakenSet,
+    pub item: PhantomData<T>,
+}
+
+impl<C: Calls, T: FromRow, P> SetStream<C, T, P> {
+    /// What the next row becomes. `None`: the set ended, or a read failed before; then nothing is read.
+    pub fn next(&mut self, alloc: Global) -> Result<Option<T>, QueryError>
+        requires { (C.conn_of self.old.result.holder).pending ≡ None }
+        ensures idle { (C.conn_of self.new.result.holder).pending ≡ None }
+        ensures loans { C.loans_of self.new.result.holder ≡ C.loans_of self.old.result.holder }
+        ensures item { ItemLeftIs C.L.looks T.row_converts T.row_becomes self.old.set.ended self.new.set.ended
+            (C.conn_of self.old.result.holder) (C.conn_of self.new.result.holder) result }
+        ensures columns { self.new.set.columns ≡ self.old.set.columns }
+        ensures ok { self.new.set.ok ≡ self.old.set.ok }
+    {
+        let mut left = ResultSetStream::<C, T, P> {
+            over: &mut self.result,
+            ended: self.set.ended,
+            item: PhantomData,
+        };
+        let read = left.next(alloc);
+        let ended = left.ended;
+        self.set.ended = ended;
+        read
+    }
+}
+
+impl<C: Calls, T: FromRow + Drop, P> SetStream<C, T, P> {
+    /// What the rows that are left of the set become, in order. A row that doesn't convert ends it.
+    pub fn collect(&mut self, alloc: Global) -> Result<Vec<T>, QueryError>
+        requires { (C.conn_of self.old.result.holder).pending ≡ None }
+        ensures idle { (C.conn_of self.new.result.holder).pending ≡ None }
+        ensures loans { C.loans_of self.new.result.holder ≡ C.loans_of self.old.result.holder }
+        ensures ended { self.new.set.ended ≡ true }
+        ensures left { CollectsLeft C.L.looks T.row_converts T.row_becomes self.old.set.ended
+            (C.conn_of self.old.result.holder) (C.conn_of self.new.result.holder) result }
+        ensures columns { self.new.set.columns ≡ self.old.set.columns }
+        ensures ok { self.new.set.ok ≡ self.old.set.ok }
+    {
+        let mut left = ResultSetStream::<C, T, P> {
+            over: &mut self.result,
+            ended: self.set.ended,
+            item: PhantomData,
+        };
+        let items = left.collect(alloc);
+        self.set.ended = true;
+        items
+    }
+}
+
+// An id of 0 is none.
+fn id_of(id: u64) -> Option<u64>
+    ensures { result ≡ id_of id }
+{
+    if id == 0 { None } else { Some(id) }
+}
+
+impl<C, T, P> SetStream<C, T, P> {
+    /// Whether it ended: nothing more is read.
+    pub fn is_terminated(&self) -> bool
+        ensures { result ≡ self.now.set.ended }
+    {
+        self.set.ended
+    }
+
+    /// The columns of its set.
+    pub fn columns_ref(&self) -> &[Column]
+        ensures { result.now ≡ self.now.set.columns }
+    {
+        self.set.columns.as_slice()
+    }
+
+    /// Another holder of the columns of its set.
+    pub fn columns(&self) -> Result<SetColumns, NoMemory>
+        ensures { IfOk result (λ columns. columns ≡ self.now.set.columns) }
+    {
+        self.set.columns.share()
+    }
+
+    /// The connection's last OK as the set was taken; none after an ERR.
+    pub fn ok_packet(&self) -> Option<&OkPacket>
+        ensures { option_copied result ≡ self.now.set.ok }
+    {
+        self.set.ok.as_ref()
+    }
+
+    /// The number of rows that the statement changed, by that OK; 0 without one.
+    pub fn affected_rows(&self) -> u64
+        ensures { result ≡ affected_by self.now.set.ok }
+    {
+        match &self.set.ok {
+            None => 0,
+            Some(ok) => ok.affected,
+        }
+    }
+
+    /// The id that the server generated for the last new row, by that OK; none where it generated none, or without an OK.
+    pub fn last_insert_id(&self) -> Option<u64>
+        ensures { result ≡ insert_by self.now.set.ok }
+    {
+        match &self.set.ok {
+            None => None,
+            Some(ok) => id_of(ok.insert),
+        }
+    }
+
+    /// The number of warnings, by that OK; 0 without one.
+    pub fn get_warnings(&self) -> u16
+        ensures { result ≡ warnings_by self.now.set.ok }
+    {
+        match &self.set.ok {
+            None => 0,
+            Some(ok) => ok.warnings,
+        }
+    }
+
+    /// That OK's remark for people; empty without one.
+    pub fn info(&self) -> &[u8]
+        ensures { result.now ≡ info_by self.now.set.ok }
+    {
+        match &self.set.ok {
+            None => &[],
+            Some(ok) => ok.info.as_slice(),
+        }
+    }
+}
