@@ -1,6 +1,6 @@
 //! What reads return, as texts.
 
-use my_results::{Error, FromRowError, QueryError};
+use my_sets::{Error, FromRowError, QueryError};
 use std::alloc::{AllocError, Global};
 use std::fmt::Debug;
 

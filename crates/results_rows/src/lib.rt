@@ -8,8 +8,12 @@ mod answers;
 #[cfg(test)]
 mod link;
 #[cfg(test)]
+mod queries;
+#[cfg(test)]
 mod reads;
 #[cfg(test)]
 mod rows;
 #[cfg(test)]
 mod streams;
+#[cfg(test)]
+mod unread;

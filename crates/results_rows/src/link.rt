@@ -5,7 +5,7 @@ use my_frame::{Blob, NoMemory};
 use my_link::{DialStep, Dialer, MemLink, ReadyLink};
 use my_opts::Opts;
 use my_opts_parts::limits::LONGEST_URL;
-use my_results::{Client, Conn, Error};
+use my_sets::{Client, Conn, Error};
 use my_world::{MemWorld, World, WorldLine};
 use std::alloc::Global;
 

@@ -2,9 +2,11 @@
 
 use crate::answers::{add, failure, kinds, shown};
 use crate::link::{Near, client_of};
+use crate::queries::{asked, batched, given};
 use crate::rows::ROWS;
 use crate::streams::{firsts, sets, streamed};
-use my_results::{
+use crate::unread;
+use my_sets::{
     Calls, Error, Lent, Params, QueryError, QueryResult, Results, Row, TextProtocol, Value,
     positional,
 };
@@ -58,6 +60,7 @@ fn read(alloc: Global, answer: &mut Answer<'_>, how: &str) -> Result<String, All
         "stream" => streamed(alloc, answer),
         "sets" => sets(alloc, answer),
         "firsts" => firsts(alloc, answer),
+        "unread" => unread::unread(alloc, answer),
         "collect" => shown(alloc, answer.collect::<(u64, String)>(alloc)),
         "try_collect" => kinds(alloc, answer.try_collect::<(u64, String)>(alloc)),
         "map" => shown(alloc, answer.map::<usize, _>(alloc, |row| row.len())),
@@ -90,6 +93,7 @@ fn read_and_drop(alloc: Global, answer: Answer<'_>, how: &str) -> Result<String,
 fn answered(alloc: Global, client: &mut Near, how: &str) -> Result<String, AllocError> {
     match client.query_iter(alloc, &"SELECT n, t FROM people") {
         Ok(answer) => match how.split_once(' ') {
+            Some(("own", how)) => unread::owned(alloc, answer, how),
             Some((how, _drop)) => read_and_drop(alloc, answer, how),
             None => {
                 let mut answer = answer;
@@ -109,6 +113,16 @@ fn executed(alloc: Global, client: &mut Near) -> Result<String, AllocError> {
     }
 }
 
+// What the other calls return.
+fn called(alloc: Global, client: &mut Near, how: &str) -> Result<String, AllocError> {
+    match how {
+        "exec" => executed(alloc, client),
+        "exec_stream" => unread::executed(alloc, client),
+        "batch" => batched(alloc, client),
+        _ => answered(alloc, client, how),
+    }
+}
+
 // One more read, of what the result left at its holder.
 fn left(alloc: Global, client: &mut Near) -> &'static str {
     let mut rest = Answer::of(client);
@@ -120,9 +134,11 @@ fn left(alloc: Global, client: &mut Near) -> &'static str {
 
 // Whether the reads and one more return what they should, and a ping is answered then.
 fn is_read(alloc: Global, client: &mut Near, how: &str, wanted: &str, more: &str) -> bool {
-    let text = match how {
-        "exec" => executed(alloc, client),
-        _ => answered(alloc, client, how),
+    let text = match how.split_once(' ') {
+        Some(("query_stream", how)) => unread::queried(alloc, client, how),
+        Some(("text", how)) => asked(alloc, client, how),
+        Some(("with", how)) => given(alloc, client, how),
+        _ => called(alloc, client, how),
     };
     let right = match text {
         Ok(text) => text.as_str() == wanted,
@@ -159,6 +175,6 @@ fn results_are_read(rt: HostRuntime) -> Result<(), Fail> {
         assert!(rt; is_right(rt.alloc(), row), "{row}");
         ran = ran.wrapping_add(1);
     }
-    assert!(rt; ran == 34);
+    assert!(rt; ran == 71);
     Ok(())
 }

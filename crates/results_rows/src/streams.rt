@@ -2,7 +2,7 @@
 
 use crate::answers::{add, failed, refused};
 use crate::reads::Answer;
-use my_results::{QueryError, Row};
+use my_sets::{QueryError, Row};
 use std::alloc::{AllocError, Global};
 
 type Numbered = (u64, String);
