@@ -4,6 +4,7 @@ pub mod Beginning
 pub mod Cancelling
 pub mod Connecting
 pub mod Gathered
+pub mod Midst
 pub mod Numbers
 pub mod Ordering
 pub mod Readying
@@ -31,7 +32,7 @@ use Rattle.my_steps.specs.Handle.{Handle, Absent, Dialing, Joined}
 use Rattle.my_steps.specs.Keeps.{StandsBy, IsStood, AreStood, IsAwaited, AreAwaited}
 use Rattle.my_steps.specs.Slot.{HasLink, handle_of, handles_in}
 use Rattle.my_steps.proofs.Working.Awaiting.{linked_awaited, linked_handle}
-use Rattle.my_steps.proofs.Working.Numbers.{stepped_at, stepped_past}
+use Rattle.my_steps.proofs.Working.Numbers.{set_twice, stepped_at, stepped_past}
 
 -- a work by what it is
 pub work_is : {L : Type 0} (look : L → Looks) (login : Login) (n : ℕ) (work known : Work) (o : Outcome) (us : List Use) (s t : Slot L) → work ≡ known → Did look login (does_at login untold n known) o us s t → Did look login (does_at login untold n work) o us s t
@@ -122,12 +123,6 @@ in_held look login plans before later n work o us s t e w = slot_known look logi
 -- a number that no step took
 pub work_past : {L : Type 0} (look : L → Looks) (login : Login) (plans now : Plans) (n : ℕ) (work : Work) (o : Outcome) (us : List Use) (ss : List (Slot L)) → o ≡ NoSuchHandle → us ≡ [] → length ss < suc n → AreAwaited plans now 0 ss → AreStood login ss → Stepped login ss ss (AreAwaited plans now 0 ss × At n (does_at login plans n work) (handles_in look now ss) o us (handles_in look now ss))
 work_past look login plans now n work o us ss e f past awaited st = stepped_past look login plans now n (does_at login plans n work) o us ss (omega (arith, past)) (absent_refuses login plans n work o us (refusal Absent o us e f)) awaited st
-
--- what is taken out of a place and put there again
-set_twice : {X : Type 0} (n : ℕ) (xs : List X) (x y : X) → slice_set (slice_set xs n x) n y ≡ slice_set xs n y
-set_twice n [] x y = refl
-set_twice zero (z ∷ xs) x y = refl
-set_twice (suc n) (z ∷ xs) x y = ap (λ ys. z ∷ ys) (set_twice n xs x y)
 
 pub work_put : {L : Type 0} (look : L → Looks) (login : Login) (plans before later : Plans) (n : ℕ) (work : Work) (o : Outcome) (us : List Use) (ss ts : List (Slot L)) (old new : Slot L) → n < length ss → old ≡ get_or ss n old → ts ≡ slice_set (slice_set ss n Gone) n new → SameBut n before later → DidAt look login plans before later n (does_at login plans n work) o us old new → AreAwaited plans before 0 ss → AreStood login ss → Stepped login ss ts (AreAwaited plans later 0 ts × At n (does_at login plans n work) (handles_in look before ss) o us (handles_in look later ts))
 work_put {L} look login plans before later n work o us ss ts old new h e is same w awaited st = subst (λ (xs : List (Slot L)). Stepped login ss xs (AreAwaited plans later 0 xs × At n (does_at login plans n work) (handles_in look before ss) o us (handles_in look later xs))) (sym (is ∙ set_twice n ss Gone new)) (stepped_at look login plans before later n (does_at login plans n work) o us ss old new h e same w awaited st)

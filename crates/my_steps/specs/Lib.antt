@@ -10,3 +10,4 @@ pub mod Orders
 pub mod Connecting
 pub mod Gathering
 pub mod Streaming
+pub mod Midst

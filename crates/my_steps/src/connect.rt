@@ -1,8 +1,8 @@
 //! Dials a connection, and connects it.
-ghost use Rattle.std.specs.Prelude.{◌≡◌, ◌∷◌, [], suc, length, true, IfOk, OnOk};
+ghost use Rattle.std.specs.Prelude.{◌≡◌, ◌∷◌, [], suc, length, Some, true, IfErr, IfOk, OnOk};
 ghost use Rattle.my_reading.specs.Errors.{io_error};
 ghost use Rattle.my_session.specs.Login.{login_of};
-ghost use Rattle.my_world.specs.World.{SameBut, SamePlans, drawn};
+ghost use Rattle.my_world.specs.World.{IsFresh, SameBut, SamePlans, drawn};
 ghost use Rattle.my_client.specs.Kept.{first_asked, first_kept};
 ghost use Rattle.my_client.specs.Conn.{kept_of};
 ghost use Rattle.my_client.specs.Stands.{StandsAsked};
@@ -11,6 +11,7 @@ ghost use Rattle.my_steps.specs.Slot.{placed};
 ghost use Rattle.my_steps.specs.Dialing.{DialsTo, dial_met};
 ghost use Rattle.my_steps.specs.Did.{StepsOn};
 ghost use Rattle.my_steps.specs.Grows.{DialsNext};
+ghost use Rattle.my_steps.specs.Midst.{InMidst, TriesDial};
 ghost use Rattle.my_steps.specs.Sums.{quiet};
 
 use crate::outcome::{StepResult, Worked, used_once};
@@ -106,6 +107,7 @@ fn begin_on<L: Link>(alloc: Global, opts: &Opts, link: L, given: Given) -> Resul
     ensures asked { IfOk result (λ c. StandsAsked (login_of opts.now) c.session.seen (kept_of c) first_asked) }
     ensures kept { IfOk result (λ c. kept_of c ≡ first_kept) }
     ensures link { IfOk result (λ c. c.link ≡ link) }
+    ensures back { IfErr result (λ l. l ≡ link) }
 {
     match opts.copy(alloc) {
         Ok(opts) => begin_over(alloc, opts, link, given.now, given.random),
@@ -121,7 +123,9 @@ fn first_call<L: Link>(
     number: u64,
     given: Given,
 ) -> Result<(Slot<L>, Result<StepResult, NoMemory>), L>
-    ensures { IfOk result (λ r. IfOk r.1 (λ d. JoinsFirst L.looks (login_of opts.now) number (L.looks link) r.0 d)) }
+    ensures joins { IfOk result (λ r. IfOk r.1 (λ d.
+        JoinsFirst L.looks (login_of opts.now) number (L.looks link) r.0 d)) }
+    ensures back { IfErr result (λ l. l ≡ link) }
 {
     let mut conn = begin_on(alloc, opts, link, given)?;
     match join(alloc, &mut conn, number, given.now) {
@@ -141,6 +145,7 @@ fn join_world<N: World>(
 ) -> (Slot<N::L>, Result<StepResult, NoMemory>)
     ensures joins { IfOk result.1 (λ d. JoinsFirst N.L.looks (login_of opts.now) number (N.L.looks link) result.0 d) }
     ensures world { OnOk result.1 (N.seen world.new ≡ N.seen world.old) }
+    ensures tried { IsFresh (N.L.looks link).got → TriesDial (Some number) (N.seen world.old) (N.seen world.new) }
     ensures plans { SamePlans (N.seen world.old).plans (N.seen world.new).plans }
     ensures takes { (N.seen world.new).takes ≡ (N.seen world.old).takes }
     ensures chance { (N.seen world.new).chance ≡ (N.seen world.old).chance }
@@ -167,6 +172,7 @@ fn dial_to<N: World>(
     ensures takes { (N.seen world.new).takes ≡ (N.seen world.old).takes }
     ensures chance { (N.seen world.new).chance ≡ (N.seen world.old).chance }
     ensures back { OnOk result.1 ((N.seen world.new).back ≡ (N.seen world.old).back) }
+    ensures tried { TriesDial (Some number) (N.seen world.old) (N.seen world.new) }
     ensures counts { IfOk result.1 (λ d.
         DialsTo (N.seen world.old).dials (N.seen world.new).dials (dial_met true d.uses.items)) }
     ensures dialed { IfOk result.1 (λ d. Dialed N.L.looks (login_of opts.now) number
@@ -210,6 +216,7 @@ pub(crate) fn dial_at<N: World>(
     ensures takes { (N.seen world.new).takes ≡ (N.seen world.old).takes }
     ensures chance { OnOk result.1 ((N.seen world.new).chance ≡ drawn (N.seen world.old).chance) }
     ensures back { OnOk result.1 ((N.seen world.new).back ≡ (N.seen world.old).back) }
+    ensures tried { TriesDial (Some number) (N.seen world.old) (N.seen world.new) }
     ensures counts { IfOk result.1 (λ d.
         DialsTo (N.seen world.old).dials (N.seen world.new).dials (dial_met true d.uses.items)) }
     ensures dialed { IfOk result.1 (λ d. Dialed N.L.looks (login_of opts.now) number
@@ -237,6 +244,8 @@ pub(crate) fn connect<N: World>(
     ensures chance { OnOk result ((N.seen world.new).chance ≡ drawn (N.seen world.old).chance) }
     ensures back { OnOk result ((N.seen world.new).back ≡ (N.seen world.old).back) }
     ensures count { OnOk result (length slots.new.items ≡ suc (length slots.old.items)) }
+    ensures midst { InMidst true (Some (length slots.old.items)) (N.seen world.old) (N.seen world.new)
+        slots.old.items slots.new.items }
     ensures counts { IfOk result (λ d.
         DialsTo (N.seen world.old).dials (N.seen world.new).dials (dial_met true d.uses.items)) }
     ensures steps { IfOk result (λ d.

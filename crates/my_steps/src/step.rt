@@ -9,6 +9,7 @@ ghost use Rattle.my_steps.specs.Dialing.{DialsTo, chance_by, dial_met, has_diale
 ghost use Rattle.my_steps.specs.Did.{IsMoving, StepsOn, at_place, close_work, execute_work, found_work, order_of, unstream_work};
 ghost use Rattle.my_steps.specs.Orders.{Carries, MayCarry, chance_of, dials_by};
 ghost use Rattle.my_steps.specs.Grows.{StepGrows};
+ghost use Rattle.my_steps.specs.Midst.{InMidst, number_by, number_of};
 ghost use Rattle.my_steps.specs.Ready.{AreReady};
 ghost use Rattle.my_steps.specs.Slot.{handles_in};
 
@@ -164,6 +165,9 @@ fn carry_out<N: World>(
     ensures longer { OnOk result (length slots.old.items ≤ length slots.new.items) }
     ensures takes { (N.seen world.new).takes ≡ (N.seen world.old).takes }
     ensures back { OnOk result ((N.seen world.new).back ≡ (N.seen world.old).back) }
+    ensures midst { InMidst (dials_by order (handles_in N.L.looks (N.seen world.old).plans slots.old.items))
+        (number_by order (length slots.old.items)) (N.seen world.old) (N.seen world.new)
+        slots.old.items slots.new.items }
     ensures chance { OnOk result ((N.seen world.new).chance ≡
         chance_of order (handles_in N.L.looks (N.seen world.old).plans slots.old.items) (N.seen world.old).chance) }
     ensures counts { IfOk result (λ d. DialsTo (N.seen world.old).dials (N.seen world.new).dials
@@ -190,7 +194,7 @@ fn carry_out<N: World>(
 /// are at one moment.
 ///
 /// What the step comes to is what `StepGrows` lets it come to after the earlier ones, for any plans that the world
-/// told.
+/// told. Also out of memory the other numbers are what they were.
 pub fn run_step<N: World>(
     alloc: Global,
     opts: &Opts,
@@ -205,6 +209,9 @@ pub fn run_step<N: World>(
     ensures longer { OnOk result (length slots.old.items ≤ length slots.new.items) }
     ensures takes { (N.seen world.new).takes ≡ (N.seen world.old).takes }
     ensures back { OnOk result ((N.seen world.new).back ≡ (N.seen world.old).back) }
+    ensures midst { InMidst (has_dialed step.now (handles_in N.L.looks (N.seen world.old).plans slots.old.items))
+        (number_of step.now (length slots.old.items)) (N.seen world.old) (N.seen world.new)
+        slots.old.items slots.new.items }
     ensures chance { OnOk result ((N.seen world.new).chance ≡
         chance_by (has_dialed step.now (handles_in N.L.looks (N.seen world.old).plans slots.old.items))
         step.now (N.seen world.old).chance) }

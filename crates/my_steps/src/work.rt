@@ -1,5 +1,5 @@
 //! What a step does at a connection's number.
-ghost use Rattle.std.specs.Prelude.{◌≡◌, length, IfOk, OnOk};
+ghost use Rattle.std.specs.Prelude.{◌≡◌, length, Some, true, IfOk, OnOk};
 ghost use Rattle.my_session.specs.Login.{login_of};
 ghost use Rattle.my_world.specs.World.{SameBut};
 ghost use Rattle.my_steps.specs.Dialing.{DialsTo, chance_dialed, dial_met};
@@ -7,6 +7,7 @@ ghost use Rattle.my_steps.specs.Did.{does_at, EachDid, DoesAt, StepsOn, is_poll,
 ghost use Rattle.my_steps.specs.Handle.{at_number};
 ghost use Rattle.my_steps.specs.Slot.{HasLink, handle_of, handles_in, placed};
 ghost use Rattle.my_steps.specs.Grows.{At};
+ghost use Rattle.my_steps.specs.Midst.{InMidst, LinkStays, MayTry, is_linked};
 ghost use Rattle.my_steps.specs.Ready.{ConnReady, SlotReady, AreReady};
 ghost use Rattle.my_steps.specs.declared.slot.Slot.TheVariants.{Held as HeldAt};
 
@@ -105,6 +106,7 @@ fn work_conn<L: Link>(
     requires { ConnReady conn }
     ensures did { IfOk result.1 (λ d. EachDid L.looks number work conn result.0 d) }
     ensures linked { OnOk result.1 (HasLink result.0) }
+    ensures joined { is_linked result.0 ≡ true }
 {
     match work_there(alloc, &mut conn, number, now, work) {
         Ok(worked) => (place(conn, worked.there), Ok(worked.did)),
@@ -126,6 +128,8 @@ fn work_held<N: World>(
     ensures chance { OnOk result.1 (
         (N.seen world.new).chance ≡ chance_dialed (is_poll work.now) (N.seen world.old).chance) }
     ensures back { OnOk result.1 ((N.seen world.new).back ≡ (N.seen world.old).back) }
+    ensures tried { MayTry (is_poll work.now) (Some number) (N.seen world.old) (N.seen world.new) }
+    ensures links { LinkStays (is_poll work.now) HeldAt result.0 }
     ensures counts { IfOk result.1 (λ d. DialsTo (N.seen world.old).dials (N.seen world.new).dials
         (dial_met (is_poll work.now) d.uses.items)) }
     ensures did { IfOk result.1 (λ d. DoesAt N.L.looks (login_of opts.now)
@@ -155,6 +159,8 @@ fn work_on<N: World>(
     ensures chance { OnOk result.1 ((N.seen world.new).chance ≡
         chance_dialed (redials (handle_of N.L.looks slot) work) (N.seen world.old).chance) }
     ensures back { OnOk result.1 ((N.seen world.new).back ≡ (N.seen world.old).back) }
+    ensures tried { MayTry (redials (handle_of N.L.looks slot) work) (Some number) (N.seen world.old) (N.seen world.new) }
+    ensures links { LinkStays (redials (handle_of N.L.looks slot) work) slot result.0 }
     ensures counts { IfOk result.1 (λ d. DialsTo (N.seen world.old).dials (N.seen world.new).dials
         (dial_met (redials (handle_of N.L.looks slot) work) d.uses.items)) }
     ensures did { IfOk result.1 (λ d. DoesAt N.L.looks (login_of opts.now)
@@ -190,6 +196,8 @@ pub(crate) fn work_at<N: World>(
 ) -> Result<StepResult, NoMemory>
     requires { AreReady slots.old.items }
     ensures count { OnOk result (length slots.new.items ≡ length slots.old.items) }
+    ensures midst { InMidst (redials (at_number (handles_in N.L.looks (N.seen world.old).plans slots.old.items) number) work)
+        (Some number) (N.seen world.old) (N.seen world.new) slots.old.items slots.new.items }
     ensures takes { (N.seen world.new).takes ≡ (N.seen world.old).takes }
     ensures back { OnOk result ((N.seen world.new).back ≡ (N.seen world.old).back) }
     ensures chance { OnOk result ((N.seen world.new).chance ≡ chance_dialed

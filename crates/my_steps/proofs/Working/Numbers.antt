@@ -34,6 +34,12 @@ stepped_past {L} look login plans before n R o us ss h r awaited st =
       grows = (awaited, record { made = Absent; does = subst (λ (h : Handle). R h o us Absent) (sym (past_at n (handles_in look before ss) past)) r; others = past_put n Absent (handles_in look before ss) past });
     }
 
+-- what is taken out of a place and put there again
+pub set_twice : {X : Type 0} (n : ℕ) (xs : List X) (x y : X) → slice_set (slice_set xs n x) n y ≡ slice_set xs n y
+set_twice n [] x y = refl
+set_twice zero (z ∷ xs) x y = refl
+set_twice (suc n) (z ∷ xs) x y = ap (λ ys. z ∷ ys) (set_twice n xs x y)
+
 stood_set : {L : Type 0} (login : Login) (ss : List (Slot L)) (n : ℕ) (y : Slot L) → IsStood login y → AreStood login ss → AreStood login (slice_set ss n y)
 stood_set login [] n y w st = tt
 stood_set login (s ∷ ss) zero y w st = (w, st.1)

@@ -1,11 +1,13 @@
-use Rattle.std.proofs.Common.{true, sym, subst, ◌∙◌, refl, rules}
+use Rattle.std.proofs.Common.{Some, true, sym, subst, ◌∙◌, refl, rules}
 use Rattle.my_session.specs.Login.{login_of}
 use Rattle.my_world.specs.World.{WorldSeen}
 use Rattle.my_steps.specs.Connecting.{Dialed}
 use Rattle.my_steps.specs.Dialing.{DialsTo, dial_met}
+use Rattle.my_steps.specs.Midst.{Faulted, Waited}
 use Rattle.my_steps.specs.Sums.{quiet, held_use, failed_use}
 use Rattle.my_steps.proofs.Working.Awaiting.{at_trans}
 use Rattle.my_steps.proofs.Working.Connecting.{linked, dial_held, dial_failed, dial_same, dial_met_by}
+use Rattle.my_steps.proofs.Working.Midst.{tried_from}
 use Rattle.my_steps.proofs.Working.Numbers.{did_ok, did_so}
 use Rattle.my_steps.proofs.connect.dial_to.Goals as goal
 
@@ -29,3 +31,12 @@ returns-in-Failed-clause-counts g c = did_ok c.used_once-in-Failed.result _ _ _ 
 
 pub returns-in-Link-clause-others : goal.returns-in-Link-clause-others
 returns-in-Link-clause-others g c = λ n apart. at_trans (g.N.Dialer.seen c.args.world.now).plans (g.N.Dialer.seen c.dial.new.self).plans (g.N.Dialer.seen c.join_world.new.world).plans n (c.dial.ensures.others n apart) (c.join_world.ensures.plans n)
+
+pub returns-in-Link-clause-tried : goal.returns-in-Link-clause-tried
+returns-in-Link-clause-tried g c = tried_from (Some c.args.number) (g.N.Dialer.seen c.args.world.now).dials (g.N.Dialer.seen c.dial.new.self).dials (g.N.Dialer.seen c.join_world.new.world).dials (g.N.Dialer.seen c.args.world.now).back (g.N.Dialer.seen c.dial.new.self).back (g.N.Dialer.seen c.join_world.new.world).back c.in-Link.ensures.dials c.dial.ensures.back (c.join_world.ensures.tried c.in-Link.ensures.got)
+
+pub returns-in-NotYet-clause-tried : goal.returns-in-NotYet-clause-tried
+returns-in-NotYet-clause-tried g c = Waited c.in-NotYet.ensures.dials c.dial.ensures.back
+
+pub returns-in-Failed-clause-tried : goal.returns-in-Failed-clause-tried
+returns-in-Failed-clause-tried g c = Faulted c.in-Failed.ensures.dials c.dial.ensures.back

@@ -7,8 +7,8 @@ use Rattle.my_steps.specs.Slot.{placed}
 use Rattle.my_steps.proofs.Working.Connecting.{joins_first}
 use Rattle.my_steps.proofs.connect.first_call.Goals as goal
 
-pub returns-in-Ok : goal.returns-in-Ok
-returns-in-Ok g c =
+pub returns-in-Ok-clause-joins : goal.returns-in-Ok-clause-joins
+returns-in-Ok-clause-joins g c =
     let r = c.in-Ok.ensures (login_of c.args.opts.now) first_asked c.in_ok-conn.ensures.asked in
     subst (λ (s : Slot g.row.L.Denot). JoinsFirst g.L.Link.looks (login_of c.args.opts.now) c.args.number (g.L.Link.looks c.args.link) s c.in-Ok.worked.did) (sym c.place.ensures) (
       r.0,

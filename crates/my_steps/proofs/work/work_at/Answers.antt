@@ -1,10 +1,11 @@
-use Rattle.std.proofs.Common.{◌≡◌, ◌<◌, ◌≤◌, Bool, suc, length, get_or, sym, ap, ◌∙◌, subst, rules}
+use Rattle.std.proofs.Common.{◌≡◌, ◌<◌, ◌≤◌, Bool, Some, suc, length, get_or, sym, ap, ◌∙◌, refl, subst, rules}
 use Rattle.std.proofs.lemmas.Result.{IfOk-weaker}
 use Rattle.my_session.specs.Login.{login_of}
 use Rattle.my_steps.specs.Dialing.{DialsTo, chance_dialed, dial_met}
 use Rattle.my_steps.specs.Did.{redials}
 use Rattle.my_steps.specs.Handle.{at_number}
 use Rattle.my_steps.specs.Slot.{handle_of, handles_in}
+use Rattle.my_steps.proofs.Working.Midst.{midst_put, midst_same}
 use Rattle.my_steps.proofs.Working.Numbers.{awaited_here, redials_here, redials_past, stood_here}
 use Rattle.my_steps.proofs.Working.Ordering.{on_ok}
 use Rattle.my_steps.proofs.Working.Readying.{ready_here}
@@ -45,3 +46,13 @@ pub returns-then-number-len-clause-chance : goal.returns-then-number-len-clause-
 returns-then-number-len-clause-chance g c =
     let past : length c.args.slots.now.items ≤ c.args.number = search rules in
     ap (λ (b : Bool). chance_dialed b (g.N.Dialer.seen c.args.world.now).chance) (sym (redials_past g.N.L.Link.looks (g.N.Dialer.seen c.args.world.now).plans c.args.slots.now.items c.args.number c.args.work past))
+
+pub returns-then-number-len-clause-midst : goal.returns-then-number-len-clause-midst
+returns-then-number-len-clause-midst g c = midst_same (redials (at_number (handles_in g.N.L.Link.looks (g.N.Dialer.seen c.args.world.now).plans c.args.slots.now.items) c.args.number) c.args.work) (Some c.args.number) (g.N.Dialer.seen c.args.world.now) c.args.slots.now.items c.args.slots.now.items refl
+
+pub returns-clause-midst : goal.returns-clause-midst
+returns-clause-midst g c =
+    let within : c.args.number < length c.args.slots.now.items = search rules in
+    let got : c.replace-slot.result ≡ get_or c.args.slots.now.items c.args.number c.replace-slot.result = search rules in
+    let same : redials (at_number (handles_in g.N.L.Link.looks (g.N.Dialer.seen c.args.world.now).plans c.args.slots.now.items) c.args.number) c.args.work ≡ redials (handle_of g.N.L.Link.looks c.replace-slot.result) c.args.work = redials_here g.N.L.Link.looks (g.N.Dialer.seen c.args.world.now).plans c.args.slots.now.items c.args.number c.replace-slot.result c.args.work within got in
+    midst_put _ (redials (handle_of g.N.L.Link.looks c.replace-slot.result) c.args.work) c.args.number (g.N.Dialer.seen c.args.world.now) (g.N.Dialer.seen c.work_on-slot.new.world) c.args.slots.now.items _ c.replace-slot.result c.work_on-slot.result.0 same within got (search rules) c.work_on-slot.ensures.links c.work_on-slot.ensures.tried

@@ -1,7 +1,11 @@
+use Rattle.std.proofs.Common.{Some, sym, subst}
 use Rattle.std.proofs.lemmas.Result.{IfOk-weaker}
 use Rattle.my_session.specs.Login.{login_of}
 use Rattle.my_steps.specs.declared.slot.Slot.TheVariants.{Gone, Held}
+use Rattle.my_steps.specs.declared.work.Work.{Work}
 use Rattle.my_steps.specs.declared.work.Work.TheVariants as works
+use Rattle.my_steps.specs.Did.{is_poll}
+use Rattle.my_steps.specs.Midst.{MayTry}
 use Rattle.my_steps.proofs.Working.Resuming.{dial_resumed}
 use Rattle.my_steps.proofs.Working.{work_at_is, held_did, dropped_did}
 use Rattle.my_steps.proofs.work.work_held.Goals as goal
@@ -14,3 +18,6 @@ returns-in-Cancel-clause-did g c = λ plans awaited w. work_at_is g.N.L.Link.loo
 
 pub returns-in-Begin-clause-did : goal.returns-in-Begin-clause-did
 returns-in-Begin-clause-did g c = λ plans awaited w. held_did g.N.L.Link.looks (login_of c.args.opts.now) plans (g.N.Dialer.seen c.args.world.now).plans c.args.number c.args.work.now c.unused-in-Begin.result.outcome c.unused-in-Begin.result.uses.items c.in-Begin.is c.unused-in-Begin.ensures.outcome c.unused-in-Begin.ensures.uses awaited
+
+pub returns-in-Poll-clause-tried : goal.returns-in-Poll-clause-tried
+returns-in-Poll-clause-tried g c = subst (λ (w : Work). MayTry (is_poll w) (Some c.args.number) (g.N.Dialer.seen c.args.world.now) (g.N.Dialer.seen c.dial_at.new.world)) (sym c.in-Poll.is) c.dial_at.ensures.tried
