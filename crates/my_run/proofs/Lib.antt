@@ -3,3 +3,4 @@ pub mod MadeBeside
 pub mod Polls
 pub mod Runs
 pub mod WrongRuns
+pub mod WrongStops

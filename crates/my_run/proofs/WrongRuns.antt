@@ -317,7 +317,7 @@ no_bytes_after login plans before later a t x bytes some first last got w =
     omega (arith, ap length same, length-append t.sent.items bytes, some)
 
 -- what is left of the items after a planned fault
-fault_left : (items : Option (List DialItem)) → MayFail items → (left : Option (List DialItem)) × FailedBy items left
+pub fault_left : (items : Option (List DialItem)) → MayFail items → (left : Option (List DialItem)) × FailedBy items left
 fault_left None may = (None, refl)
 fault_left (Some items) may = (Some [], may)
 

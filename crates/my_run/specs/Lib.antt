@@ -4,5 +4,6 @@ pub mod Tapes
 pub mod Beside
 pub mod Headline
 pub mod Fits
+pub mod Stopped
 pub mod Tool
 pub mod WrongRuns

@@ -1,5 +1,5 @@
 -- Runs that no user would call right, each refuted; and beside them runs that are accepted.
-use Rattle.std.specs.Prelude.{ℕ, ◌≡◌, ◌<◌, ◌≤◌, List, [], ◌∷◌, ◌++◌, length, map, Option, Some, None, true}
+use Rattle.std.specs.Prelude.{ℕ, ◌≡◌, ◌≢◌, ◌<◌, ◌≤◌, List, [], ◌∷◌, ◌++◌, length, map, Option, Some, None, true}
 use Rattle.my_grammar.specs.declared.login.Login.{Login}
 use Rattle.my_frame.specs.Sources.{SourceSeen}
 use Rattle.my_frame.specs.Sinks.{SinkSeen}
@@ -8,6 +8,7 @@ use Rattle.my_link.specs.declared.link.ReadItem.TheVariants.{Bytes, Turn}
 use Rattle.my_link.specs.declared.met.Met.{Met}
 use Rattle.my_link.specs.Looks.{Looks}
 use Rattle.my_link.specs.Met.{nothing_met}
+use Rattle.my_link.specs.Spent.{HasGot}
 use Rattle.my_handshake.specs.declared.version.ServerVersion.{ServerVersion}
 use Rattle.my_reading.specs.declared.call.Call.TheVariants.{Ping, Quit}
 use Rattle.my_reading.specs.declared.error.IoKind.TheVariants.{Dial, Link}
@@ -25,6 +26,7 @@ use Rattle.my_client.specs.declared.poll.After.{After}
 use Rattle.my_client.specs.declared.poll.After.TheVariants as after
 use Rattle.my_client.specs.Kept.{Asked, Kept, made_of, asking, asked_by}
 use Rattle.my_client.specs.Polls.{IsPolled}
+use Rattle.my_client.specs.Reads.{IsRead}
 use Rattle.my_link.specs.declared.dialer.DialItem.{DialItem}
 use Rattle.my_link.specs.declared.dialer.DialItem.TheVariants.{Wait, Fail}
 use Rattle.my_world.specs.World.{Back, Plans, WorldSeen, DialCounts, Chance, no_dials, drawn}
@@ -35,6 +37,7 @@ use Rattle.my_run.specs.declared.tool.Status.{Status}
 use Rattle.my_run.specs.declared.tool.Status.TheVariants.{Done, Unread, SinkFailed}
 use Rattle.my_script.specs.declared.reading.script.BadLine.{BadLine}
 use Rattle.my_run.specs.Headline.{Headline}
+use Rattle.my_run.specs.Stopped.{Stopped, one_link}
 use Rattle.my_steps.specs.Sums.{use_of, quiet, failed_use}
 use Rattle.my_run.specs.Tool.{IsReport}
 
@@ -185,3 +188,33 @@ abbrev pub NoForgottenRollback : Type 0
 NoForgottenRollback = (login : Login) (plans : Plans) (ls : List Line) (l m : Line) (n : ℕ) → m.step ≡ steps.ForgetTransaction n
     → m.outcome ≡ outcomes.Done → l.step ≡ steps.Rollback n → (l.outcome ≡ NoSuchHandle → ⊥)
     → AreGrown login plans (l ∷ m ∷ ls) → ⊥
+
+-- of each of these links
+abbrev pub EachLink : (Back → Type 0) → List Back → Type 0
+EachLink P [] = Unit {0}
+EachLink P (b ∷ bs) = P b × EachLink P bs
+
+-- the link was sent what a connection sent whose calls and bytes the reading explains
+pub record SentAsRead (login : Login) (b : Back) : Type 0 where
+  pub kept : Kept
+  pub read : IsRead login kept
+  pub got : HasGot b.looks.got kept.sent
+
+-- so it is where memory ran out, for each link but that of one number
+abbrev pub SentAtStop : Type 0
+SentAtStop = (login : Login) (plans : Plans) (before later : Course) (steps : List Step) (links : List Back)
+    → before.back ≡ Some [] → later.back ≡ Some links → Stopped later login plans before steps
+    → (number : Option ℕ) × EachLink (λ b. number ≢ Some b.number → SentAsRead login b) links
+
+-- memory ran out in a run of one `conn`, and a link was handed back that no step named
+abbrev pub NoSecretAtStop : Type 0
+NoSecretAtStop = (login : Login) (plans : Plans) (before later : Course) (front more : List Back) (link : Back)
+    → before.back ≡ Some [] → later.back ≡ Some (front ++ link ∷ more) → (link.number ≡ 0 → ⊥)
+    → Stopped later login plans before (steps.Conn ∷ []) → ⊥
+
+-- The first of two dials failed, and memory ran out in the second, whose link may have been sent bytes: that is right over a
+-- world that told no items for dials, or planned the fault.
+abbrev pub StoppedInSecond : Type 0
+StoppedInSecond = (login : Login) (plans : Plans) (first last : Chance) (x : Looks) → MayFail (plans.dials 0)
+    → Stopped (record { dials = one_fault; chance = last; back = Some (one_link 1 x) })
+    login plans (record { dials = no_dials; chance = first; back = Some [] }) (steps.Conn ∷ steps.Conn ∷ [])

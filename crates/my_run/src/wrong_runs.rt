@@ -1,5 +1,5 @@
 //! Runs that no user would call right, each of which the headline refutes, and beside them runs that it accepts.
-ghost use Rattle.my_run.specs.WrongRuns.{NoPlannedDialFault, NoWaitAsFault, NoHeldDialFault, NoHiddenDials, LinksHaveTapes, NoSecretDial, NoStepsUnread, NoBytesAfter, DialFault, NoStillMoment, NoEarlyEnd, NoHoldAfterTurn, NoHoldInTurn, NoZeroSent, NoOtherTaken, NoFaultAtRest, NoBrokenInput, NoClosedExecution, NoUngivenExecution, NoForgottenRollback};
+ghost use Rattle.my_run.specs.WrongRuns.{NoPlannedDialFault, NoWaitAsFault, NoHeldDialFault, NoHiddenDials, LinksHaveTapes, NoSecretDial, NoStepsUnread, NoBytesAfter, DialFault, NoStillMoment, NoEarlyEnd, NoHoldAfterTurn, NoHoldInTurn, NoZeroSent, NoOtherTaken, NoFaultAtRest, NoBrokenInput, NoClosedExecution, NoUngivenExecution, NoForgottenRollback, SentAtStop, NoSecretAtStop, StoppedInSecond};
 
 /// Over a world that planned no wait and no fault of the dial, none is said to have failed.
 pub fn no_planned_dial_fault()
@@ -99,4 +99,19 @@ pub fn no_ungiven_execution()
 /// A transaction that was given up isn't rolled back by a step of its own.
 pub fn no_forgotten_rollback()
     ensures { NoForgottenRollback }
+{}
+
+/// Where memory ran out each link was sent what a connection sent whose calls are read, but for the links of one number.
+pub fn sent_at_stop()
+    ensures { SentAtStop }
+{}
+
+/// Nor is a link dialed there that no step names.
+pub fn no_secret_at_stop()
+    ensures { NoSecretAtStop }
+{}
+
+/// Memory that runs out in the second step is accepted.
+pub fn stopped_in_second()
+    ensures { StoppedInSecond }
 {}
