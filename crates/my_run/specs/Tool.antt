@@ -1,5 +1,5 @@
 -- The theorem on the top call: what it means that a run ended with a status.
-use Rattle.std.specs.Prelude.{◌≡◌, ◌&&◌, not, ℕ, List, [], Some, None, Ok, Err, Bool, if◌then◌else◌}
+use Rattle.std.specs.Prelude.{◌≡◌, ◌⊎◌, ◌&&◌, not, ℕ, List, [], Some, None, Ok, Err, Bool, if◌then◌else◌}
 use Rattle.my_frame.specs.declared.limits.TheConstants.{MOST_INPUT}
 use Rattle.my_grammar.specs.declared.login.Login.{Login}
 use Rattle.my_opts.specs.Opts.{OptsView}
@@ -13,6 +13,7 @@ use Rattle.my_run.specs.declared.tool.Status.TheVariants.{Done, NoCommand, Unrea
 use Rattle.my_run.specs.Input.{IsRead, IsTooLong, IsBroken}
 use Rattle.my_run.specs.Output.{WroteAll, WrotePart}
 use Rattle.my_run.specs.Headline.{Headline}
+use Rattle.my_run.specs.Stopped.{Stopped}
 use Rattle.my_frame.specs.Sources.{SourceSeen}
 use Rattle.my_frame.specs.Sinks.{SinkSeen}
 use Rattle.my_world.specs.World.{Plans, WorldSeen}
@@ -75,6 +76,10 @@ Ran wrote later w v t login plans before steps =
     Headline login plans before (course_of later) steps t.answers.items t.tapes.items
     × wrote w (text_of t.answers.items t.tapes.items) v
 
+-- what may have become of a world where memory ran out: nothing, or all lines read and steps were begun
+abbrev pub IsStopped : List (List ℕ) → WorldSeen → WorldSeen → SourceSeen → SourceSeen → Type 0
+IsStopped words world later s r = (later ≡ world) ⊎ HasScript words world s r (Stopped (course_of later))
+
 -- How a run ended, over a world that was `world` before it and `later` after it. Each status comes exactly where its line says, in
 -- this order: the words, the second word, the source, its bytes' number, its lines, the sink; out of memory may come at any
 -- place.
@@ -91,7 +96,7 @@ EndsBy words world later s r w v t (Unread line) = (opts : OptsView) × (planned
     × IsInput words world s r opts planned (Bad line.number line.text) × IsIdle world later w v t
 EndsBy words world later s r w v t SinkFailed = HasScript words world s r (Ran WrotePart later w v t)
 EndsBy words world later s r w v t Done = HasScript words world s r (Ran WroteAll later w v t)
-EndsBy words world later s r w v t NoMemory = IsBlank w v t
+EndsBy words world later s r w v t NoMemory = IsBlank w v t × IsStopped words world later s r
 
 abbrev pub IsReport : List (List ℕ) → WorldSeen → WorldSeen → SourceSeen → SourceSeen → SinkSeen → SinkSeen → Report
     → Type 0

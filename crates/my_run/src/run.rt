@@ -1,11 +1,12 @@
 //! Runs steps in order.
-ghost use Rattle.std.specs.Prelude.{◌≡◌, ◌++◌, [], map, true, IfOk, OnOk};
+ghost use Rattle.std.specs.Prelude.{◌≡◌, ◌++◌, [], map, true, IfOk, OnErr, OnOk};
 ghost use Rattle.std.specs.List.{list_all};
 ghost use Rattle.my_script.specs.Script.{may_stand};
 ghost use Rattle.my_steps.specs.Dialing.{course_of};
 ghost use Rattle.my_client.specs.Conn.{kept_of};
 ghost use Rattle.my_session.specs.Login.{login_of};
 ghost use Rattle.my_run.specs.Headline.{RunSoFar, RunsTo};
+ghost use Rattle.my_run.specs.Stopped.{HandedBack, RunStopped, StopsIn, one_link};
 ghost use Rattle.my_steps.specs.Slot.{handle_of};
 ghost use Rattle.my_run.specs.Tapes.{links_at, links_in, tape_view, tape_of, tape_at, tapes_in, with_links};
 ghost use Rattle.my_world.specs.World.{with_back};
@@ -32,8 +33,10 @@ fn run_each<N: World>(
     requires no_slots { slots.old.items ≡ [] }
     requires no_answers { answers.old.items ≡ [] }
     requires stand { list_all (may_stand (N.seen world.old).takes) steps.now ≡ true }
-    ensures { OnOk result (RunSoFar N.L.looks (login_of opts.now) (N.seen world.old).plans
+    ensures ok { OnOk result (RunSoFar N.L.looks (login_of opts.now) (N.seen world.old).plans
         (course_of (N.seen world.old)) (N.seen world.new) steps.now slots.new.items answers.new.items) }
+    ensures err { OnErr result (RunStopped N.L.looks (login_of opts.now) (N.seen world.old).plans
+        (course_of (N.seen world.old)) (N.seen world.new) steps.now slots.new.items) }
 {
     let mut beside = BesideEach::new(alloc);
     let mut statements = NumberedStatements::new(alloc);
@@ -61,6 +64,8 @@ fn end_tape<N: World>(
 ) -> Result<Tape, NoMemory>
     ensures tape { IfOk result (λ t. tape_view t ≡ tape_of number (kept_of conn)) }
     ensures back { OnOk result ((N.seen world.new).back ≡ with_back number (N.L.looks conn.link) (N.seen world.old).back) }
+    ensures err { OnErr result (
+        HandedBack (one_link number (N.L.looks conn.link)) (N.seen world.old).back (N.seen world.new).back) }
     ensures dials { (N.seen world.new).dials ≡ (N.seen world.old).dials }
     ensures chance { (N.seen world.new).chance ≡ (N.seen world.old).chance }
 {
@@ -98,6 +103,8 @@ fn keep_tape<N: World>(
         map tape_view tapes.new.items ≡ map tape_view tapes.old.items ++ tape_at number (handle_of N.L.looks slot)) }
     ensures back { OnOk result ((N.seen world.new).back ≡
         with_links (links_at number (handle_of N.L.looks slot)) (N.seen world.old).back) }
+    ensures err { OnErr result (
+        HandedBack (links_at number (handle_of N.L.looks slot)) (N.seen world.old).back (N.seen world.new).back) }
     ensures dials { (N.seen world.new).dials ≡ (N.seen world.old).dials }
     ensures chance { (N.seen world.new).chance ≡ (N.seen world.old).chance }
 {
@@ -120,6 +127,8 @@ fn tapes_of<N: World>(
         map tape_view tapes.items ≡ tapes_in 0 (map (handle_of N.L.looks) slots.items)) }
     ensures back { OnOk result ((N.seen world.new).back ≡
         with_links (links_in 0 (map (handle_of N.L.looks) slots.items)) (N.seen world.old).back) }
+    ensures err { OnErr result (HandedBack (links_in 0 (map (handle_of N.L.looks) slots.items))
+        (N.seen world.old).back (N.seen world.new).back) }
     ensures dials { (N.seen world.new).dials ≡ (N.seen world.old).dials }
     ensures chance { (N.seen world.new).chance ≡ (N.seen world.old).chance }
 {
@@ -141,7 +150,7 @@ fn tapes_of<N: World>(
     Ok(tapes)
 }
 
-/// Runs the steps, and returns what they came to. At the end each link is handed back.
+/// Runs the steps, and returns what they came to. At the end each link is handed back, also out of memory.
 pub(crate) fn run_steps<N: World>(
     alloc: Global,
     opts: &Opts,
@@ -149,8 +158,10 @@ pub(crate) fn run_steps<N: World>(
     steps: &[Step],
 ) -> Result<Transcript, NoMemory>
     requires { list_all (may_stand (N.seen world.old).takes) steps.now ≡ true }
-    ensures { IfOk result (λ t. RunsTo (login_of opts.now) (N.seen world.old).plans
+    ensures ok { IfOk result (λ t. RunsTo (login_of opts.now) (N.seen world.old).plans
         (course_of (N.seen world.old)) (course_of (N.seen world.new)) steps.now t.answers.items t.tapes.items) }
+    ensures err { OnErr result (StopsIn (login_of opts.now) (N.seen world.old).plans
+        (course_of (N.seen world.old)) (course_of (N.seen world.new)) steps.now) }
 {
     let mut slots = Vec::new(alloc);
     let mut answers = Vec::new(alloc);

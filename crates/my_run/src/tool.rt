@@ -1,11 +1,12 @@
 //! The top call.
-ghost use Rattle.std.specs.Prelude.{◌≡◌, ◌&&◌, not, ℕ, [], List, Some, OnOk, IfOk, true, map, string_bytes};
+ghost use Rattle.std.specs.Prelude.{◌≡◌, ◌&&◌, not, ℕ, [], List, Some, OnErr, OnOk, IfOk, true, map, string_bytes};
 ghost use Rattle.std.specs.List.{list_all};
 ghost use Rattle.my_script.specs.Script.{may_stand};
 ghost use Rattle.my_steps.specs.Dialing.{course_of};
 ghost use Rattle.my_world.specs.Plan.{plans_after, chance_after};
 ghost use Rattle.my_world.specs.World.{SamePlans};
 ghost use Rattle.my_run.specs.Headline.{Headline};
+ghost use Rattle.my_run.specs.Stopped.{Stopped};
 ghost use Rattle.my_session.specs.Login.{login_of};
 ghost use Rattle.my_script.specs.Script.{Good, script_of};
 ghost use Rattle.my_frame.specs.Sources.{SourceSeen};
@@ -105,6 +106,8 @@ fn prepare_all<N: World>(world: &mut N, plans: bool, plan: &[WorldLine]) -> Resu
         (SamePlans (N.seen world.new).plans (plans_with plans plan.now (N.seen world.old).plans)) }
     ensures course { OnOk result
         (course_of (N.seen world.new) ≡ course_with plans plan.now (course_of (N.seen world.old))) }
+    ensures dials { (N.seen world.new).dials ≡ (N.seen world.old).dials }
+    ensures back { (N.seen world.new).back ≡ (N.seen world.old).back }
     ensures takes { (N.seen world.new).takes ≡ (N.seen world.old).takes }
 {
     if plans {
@@ -128,6 +131,9 @@ fn run_script<N: World>(
         (course_with plans script.now.plan.items (course_of (N.seen world.old))) (course_of (N.seen world.new))
         script.now.steps.items r.0.answers.items r.0.tapes.items) }
     ensures text { IfOk result (λ r. r.1.items ≡ text_of r.0.answers.items r.0.tapes.items) }
+    ensures stopped { OnErr result (Stopped (course_of (N.seen world.new)) (login_of opts.now)
+        (plans_with plans script.now.plan.items (N.seen world.old).plans)
+        (course_with plans script.now.plan.items (course_of (N.seen world.old))) script.now.steps.items) }
 {
     prepare_all(world, plans, &script.plan)?;
     let transcript = run_steps(alloc, opts, world, &script.steps)?;
@@ -239,7 +245,8 @@ fn run_command<S: Source, W: Sink, N: World>(
 ///
 /// The status is the first of these that comes: no command, a word that is refused, a source that fails or has more
 /// than 67,108,864 bytes, a line that doesn't read, a sink that fails; out of memory may come at any place. Where a run ends
-/// before the first step, and memory didn't run out, the world is left as it was.
+/// before the first step, and memory didn't run out, the world is left as it was. Where memory ran out in a step each number
+/// but its own is what the lines before leave, and each link is handed back.
 pub fn run_tool<S: Source, W: Sink, N: World>(
     alloc: Global,
     words: &[String],

@@ -12,6 +12,7 @@ use Rattle.my_script.specs.Streams.{target}
 use Rattle.my_run.specs.Headline.{SoFar}
 use Rattle.my_run.proofs.MadeBeside.{found_same}
 use Rattle.my_run.proofs.Runs.{none_yet, step_on, stands_at, count_up}
+use Rattle.my_run.proofs.Stopping.{err_at, stopped_at}
 use Rattle.my_run.proofs.run.run_each.Goals as goal
 
 pub loop-i-preserved : goal.loop-i-preserved
@@ -32,8 +33,8 @@ loop-i-preserved g c =
       takes = c.run_step.ensures.takes ∙ so.takes;
     }
 
-pub returns : goal.returns
-returns g c =
+pub returns-clause-ok : goal.returns-clause-ok
+returns-clause-ok g c =
     let past : length c.args.steps.now ≤ c.loop-i.i = search rules in
     let whole : take c.loop-i.i c.args.steps.now ≡ c.args.steps.now = take_all c.loop-i.i c.args.steps.now past in
     λ plans same. subst (λ (xs : List Step). SoFar g.N.L.Link.looks (login_of c.args.opts.now) plans (course_of (g.N.Dialer.seen c.args.world.now)) (g.N.Dialer.seen c.loop-i.world) xs c.loop-i.slots.items c.loop-i.answers.items) whole (c.loop-i.invariant.so_far plans same).0
@@ -49,3 +50,27 @@ pub run_step-requires-clause-stands : goal.run_step-requires-clause-stands
 run_step-requires-clause-stands g c =
     let this : c.index-steps-i.result ≡ get_or c.args.steps.now c.loop-i.i c.index-steps-i.result = search rules in
     subst (λ (b : Bool). may_stand b c.index-steps-i.result ≡ true) (sym c.loop-i.invariant.takes) (ap (may_stand (g.N.Dialer.seen c.args.world.now).takes) this ∙ stands_at (may_stand (g.N.Dialer.seen c.args.world.now).takes) c.args.steps.now c.loop-i.i c.index-steps-i.result c.requires.stand c.loop-i-test.true)
+
+pub returns-in_err-did-clause-err : goal.returns-in_err-did-clause-err
+returns-in_err-did-clause-err g c =
+    let this : c.index-steps-i.result ≡ get_or c.args.steps.now c.loop-i.i c.index-steps-i.result = search rules in
+    let next : take (c.loop-i.i + 1) c.args.steps.now ≡ take c.loop-i.i c.args.steps.now ++ c.index-steps-i.result ∷ [] = take_more c.args.steps.now c.loop-i.i c.index-steps-i.result c.loop-i-test.true ∙ ap (λ (s : Step). take c.loop-i.i c.args.steps.now ++ s ∷ []) (sym this) in
+    err_at c.from_residual.result _ (stopped_at g.N.L.Link.looks (login_of c.args.opts.now) (g.N.Dialer.seen c.args.world.now).plans (course_of (g.N.Dialer.seen c.args.world.now)) (g.N.Dialer.seen c.loop-i.world) (g.N.Dialer.seen c.run_step.new.world) c.loop-i.i c.args.steps.now c.index-steps-i.result c.loop-i.slots.items c.run_step.new.slots.items c.loop-i.answers.items (λ plans same. (c.loop-i.invariant.so_far plans same).0) c.run_step.ensures.midst next)
+
+pub returns-in_err-note-clause-err : goal.returns-in_err-note-clause-err
+returns-in_err-note-clause-err g c =
+    let this : c.index-steps-i.result ≡ get_or c.args.steps.now c.loop-i.i c.index-steps-i.result = search rules in
+    let next : take (c.loop-i.i + 1) c.args.steps.now ≡ take c.loop-i.i c.args.steps.now ++ c.index-steps-i.result ∷ [] = take_more c.args.steps.now c.loop-i.i c.index-steps-i.result c.loop-i-test.true ∙ ap (λ (s : Step). take c.loop-i.i c.args.steps.now ++ s ∷ []) (sym this) in
+    err_at c.from_residual-in_err-note.result _ (stopped_at g.N.L.Link.looks (login_of c.args.opts.now) (g.N.Dialer.seen c.args.world.now).plans (course_of (g.N.Dialer.seen c.args.world.now)) (g.N.Dialer.seen c.loop-i.world) (g.N.Dialer.seen c.run_step.new.world) c.loop-i.i c.args.steps.now c.index-steps-i.result c.loop-i.slots.items c.run_step.new.slots.items c.loop-i.answers.items (λ plans same. (c.loop-i.invariant.so_far plans same).0) c.run_step.ensures.midst next)
+
+pub returns-in_err-note-2-clause-err : goal.returns-in_err-note-2-clause-err
+returns-in_err-note-2-clause-err g c =
+    let this : c.index-steps-i.result ≡ get_or c.args.steps.now c.loop-i.i c.index-steps-i.result = search rules in
+    let next : take (c.loop-i.i + 1) c.args.steps.now ≡ take c.loop-i.i c.args.steps.now ++ c.index-steps-i.result ∷ [] = take_more c.args.steps.now c.loop-i.i c.index-steps-i.result c.loop-i-test.true ∙ ap (λ (s : Step). take c.loop-i.i c.args.steps.now ++ s ∷ []) (sym this) in
+    err_at c.from_residual-in_err-note-2.result _ (stopped_at g.N.L.Link.looks (login_of c.args.opts.now) (g.N.Dialer.seen c.args.world.now).plans (course_of (g.N.Dialer.seen c.args.world.now)) (g.N.Dialer.seen c.loop-i.world) (g.N.Dialer.seen c.run_step.new.world) c.loop-i.i c.args.steps.now c.index-steps-i.result c.loop-i.slots.items c.run_step.new.slots.items c.loop-i.answers.items (λ plans same. (c.loop-i.invariant.so_far plans same).0) c.run_step.ensures.midst next)
+
+pub returns-in_err-push-clause-err : goal.returns-in_err-push-clause-err
+returns-in_err-push-clause-err g c =
+    let this : c.index-steps-i.result ≡ get_or c.args.steps.now c.loop-i.i c.index-steps-i.result = search rules in
+    let next : take (c.loop-i.i + 1) c.args.steps.now ≡ take c.loop-i.i c.args.steps.now ++ c.index-steps-i.result ∷ [] = take_more c.args.steps.now c.loop-i.i c.index-steps-i.result c.loop-i-test.true ∙ ap (λ (s : Step). take c.loop-i.i c.args.steps.now ++ s ∷ []) (sym this) in
+    err_at c.from_residual-in_err-push.result _ (stopped_at g.N.L.Link.looks (login_of c.args.opts.now) (g.N.Dialer.seen c.args.world.now).plans (course_of (g.N.Dialer.seen c.args.world.now)) (g.N.Dialer.seen c.loop-i.world) (g.N.Dialer.seen c.run_step.new.world) c.loop-i.i c.args.steps.now c.index-steps-i.result c.loop-i.slots.items c.run_step.new.slots.items c.loop-i.answers.items (λ plans same. (c.loop-i.invariant.so_far plans same).0) c.run_step.ensures.midst next)

@@ -1,6 +1,8 @@
-use Rattle.std.proofs.Common.{◌≡◌, ◌<◌, ◌+◌, suc, length, map, true, false, sym, ◌∙◌, vec_len, rules, arith}
-use Rattle.my_run.specs.Tapes.{links_at, tape_at, tape_view}
+use Rattle.std.proofs.Common.{◌≡◌, ◌<◌, ◌+◌, [], suc, length, map, true, false, sym, ◌∙◌, vec_len, rules, arith}
+use Rattle.my_steps.specs.Slot.{handle_of}
+use Rattle.my_run.specs.Tapes.{links_at, links_in, tape_at, tape_view}
 use Rattle.my_run.proofs.Runs.Taping.{link_on, tape_on}
+use Rattle.my_run.proofs.Stopping.{hands_end, hands_on, hands_out, nil_of}
 use Rattle.my_run.proofs.run.tapes_of.Goals.{in-Ok, in-Err}
 use Rattle.my_run.proofs.run.tapes_of.Goals as goal
 
@@ -18,7 +20,17 @@ slots-preserved g c =
         | in-Ok w ↦ link_on g.N.L.Link.looks links_at c.slots.number (c.slots.number + 1) c.slots.slots.items c.remove.new.self.items c.remove.result (g.N.Dialer.seen c.slots.world).back (g.N.Dialer.seen c.keep_tape.new.world).back _ some c.remove.ensures.value c.remove.ensures.items w.in-Ok.ensures.back more (c.slots.invariant.back (sym w.is_whole-is ∙ whole))
         | in-Err w ↦ absurd (let no : false ≡ true = sym w.is_whole-is ∙ whole in cc)
       ];
+      hands = elim c.match-keep_tape.branch [
+        | in-Ok w ↦ hands_on g.N.L.Link.looks c.slots.number (c.slots.number + 1) c.slots.slots.items c.remove.new.self.items c.remove.result c.slots.is_whole _ (g.N.Dialer.seen c.slots.world).back (g.N.Dialer.seen c.keep_tape.new.world).back _ some c.remove.ensures.value c.remove.ensures.items more w.is_whole-is w.in-Ok.ensures.back c.slots.invariant.hands
+        | in-Err w ↦ hands_out g.N.L.Link.looks c.slots.number (c.slots.number + 1) c.slots.slots.items c.remove.new.self.items c.remove.result c.slots.is_whole _ (g.N.Dialer.seen c.slots.world).back (g.N.Dialer.seen c.keep_tape.new.world).back _ some c.remove.ensures.value c.remove.ensures.items more w.is_whole-is w.in-Err.ensures.err c.slots.invariant.hands
+      ];
       dials = c.keep_tape.ensures.dials ∙ c.slots.invariant.dials;
       chance = c.keep_tape.ensures.chance ∙ c.slots.invariant.chance;
       count = omega (arith, left, c.slots.invariant.count);
     }
+
+pub returns-then-not-is_whole-clause-err : goal.returns-then-not-is_whole-clause-err
+returns-then-not-is_whole-clause-err g c =
+    let zero : length c.slots.slots.items ≡ 0 = first_of (search rules, grind rules) in
+    let none : c.slots.slots.items ≡ [] = nil_of c.slots.slots.items zero in
+    hands_end g.N.L.Link.looks c.slots.number c.slots.slots.items c.slots.is_whole (links_in 0 (map (handle_of g.N.L.Link.looks) c.args.slots.items)) (g.N.Dialer.seen c.args.world.now).back (g.N.Dialer.seen c.slots.world).back none c.slots.invariant.hands
