@@ -1,5 +1,5 @@
 -- What the judge of plans finds of a run over a world that told its plan.
-use Rattle.std.specs.Prelude.{ℕ, ◌≡◌, List, [], Some, true}
+use Rattle.std.specs.Prelude.{ℕ, ◌≡◌, List, [], Some, Bool, true}
 use Rattle.my_grammar.specs.declared.login.Login.{Login}
 use Rattle.my_link.specs.Items.{no_items}
 use Rattle.my_link.specs.Planned.{PlannedItems, items_at}
@@ -40,6 +40,6 @@ EachPlannedRefusalRefutes = (login : Login) (lines : List WorldLine) (steps : Li
 -- A world in memory without items is handed these lines.
 abbrev pub MemoryTells : Type 0
 MemoryTells = (links : List PlannedItems) (dials : List PlannedDial) (counts : DialCounts) (moment : ℕ)
-    (randoms : List ℕ) (ended : List EndedLink) (lines : List WorldLine) → ((n : ℕ) → items_at n links ≡ no_items)
+    (randoms : List ℕ) (ended : List EndedLink) (lost : Bool) (lines : List WorldLine) → ((n : ℕ) → items_at n links ≡ no_items)
     → ((n : ℕ) → dials_at n dials ≡ [])
-    → ArePlansOf lines (plans_with true lines (world_of links dials counts moment randoms ended).plans)
+    → ArePlansOf lines (plans_with true lines (world_of links dials counts moment randoms ended lost).plans)

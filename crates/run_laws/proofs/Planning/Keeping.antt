@@ -152,7 +152,7 @@ each_refusal_refutes login lines steps answers tapes line f plans before later t
     by_found (Wrong one) plan t p e = judged.each_refusal_refutes login steps answers tapes one t plans before later h
 
 pub memory_tells : MemoryTells
-memory_tells links dials counts moment randoms ended lines none free = record {
+memory_tells links dials counts moment randoms ended lost lines none free = record {
   reads = λ n. ap (λ is. Some (is.reads ++ all_given items_of n lines)) (none n);
   writes = λ n. ap (λ is. Some (is.writes ++ all_given writes_of n lines)) (none n);
   dials = λ n. ap (λ is. Some (is ++ all_given dials_of n lines)) (free n);
