@@ -9,6 +9,7 @@ use crate::links::{connected, opts_of, play};
 use crate::play::looks;
 use crate::queries::queried;
 use crate::runs::replayed;
+use crate::views::view_of;
 use crate::words::{event_of, is_wanted, numbers_of, told};
 use my_conn::Conn;
 use my_frame::NoMemory;
@@ -224,6 +225,7 @@ impl Table {
             }
             "query" => Ok(self.query(alloc, number) == want),
             "rung" => Ok(is_wanted(want, "ages", &[self.rung()], 0)),
+            "view" => Ok(is_wanted(want, "shows", &view_of(alloc, self.pool.core())?, 0)),
             "told" => match self.count_told(alloc)? {
                 Some(count) => Ok(is_wanted(want, "events", &[count], 0)),
                 None => Ok(false),

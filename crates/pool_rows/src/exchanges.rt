@@ -9,7 +9,8 @@
 //! `turn MOMENT = left 1`: a turn, after which one connection is at work. `query NUMBER`: a connection in hand asks for a set,
 //! of which nothing is read. `rung = ages 12`: the wakers of the ages 1 and 2 were called, in this order, and no other since it
 //! was asked last. `told = events 5`: the journal tells five events, and they lead to this pool. `request AGE`, `place NUMBER`,
-//! `oldest`, `live`, `working` and `metrics` look.
+//! `oldest`, `live`, `working` and `metrics` look. `view = shows 1 2 0 1 1000`: one connection is counted, two requests wait,
+//! none was woken, the pool is closed, and the connection that came to its place last has the number 1000.
 
 pub const EXCHANGES: &str = "\
 # pool_min=1&pool_max=1 a woken request that is given up wakes the next one; each waker is called once, in the event that wakes its request
@@ -175,8 +176,10 @@ ask = age 1
 ask = age 2
 poll 2 0 = wait
 poll 1 0 = wait
+view = shows 1 2 0 0 1000
 close = done
 rung = ages 21
+view = shows 1 0 2 1 1000
 close = done
 rung = ages 0
 poll 1 0 = closed
@@ -218,6 +221,7 @@ ask = age 1
 poll 1 0 = wait
 turn 0 = left 0
 rung = ages 1
+view = shows 1 0 1 0 1000
 metrics = counts 1 1 0 0 0 0 1 0 0 0 1 0
 poll 1 0 = take 1000
 told = events 12
@@ -264,8 +268,10 @@ ready 0 1000 = done
 give 1000 = done
 turn 0 = left 0
 close = done
+view = shows 1 0 0 1 1000
 gone = there
 turn 0 = left 0
+view = shows 0 0 0 1 0
 gone = gone
 metrics = counts 0 0 0 0 0 0 0 1 0 0 1 0
 ";

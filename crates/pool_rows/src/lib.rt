@@ -35,4 +35,6 @@ mod scanned;
 #[cfg(test)]
 mod sound;
 #[cfg(test)]
+mod views;
+#[cfg(test)]
 mod words;

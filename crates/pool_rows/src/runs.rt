@@ -13,8 +13,11 @@ use my_pool_parts::{Connection, Request};
 use std::alloc::Global;
 use std::test::Fail;
 
-// How many events happen to each pool.
-const EVENTS: usize = 300;
+// How many pools there are.
+const ROUNDS: u64 = 1000;
+
+// How many events happen to each.
+const EVENTS: usize = 60;
 
 // Each event with each of its answers.
 const NAMES: &str =
@@ -54,7 +57,7 @@ fn options(round: u64) -> Option<PoolOpts> {
 // The number of the first connection of a round: of some there are few left.
 fn first_number(round: u64) -> u64 {
     if round % 10 == 0 {
-        u64::MAX.saturating_sub(round)
+        u64::MAX.saturating_sub(round / 10 % 8)
     } else {
         round.saturating_mul(1000)
     }
@@ -137,7 +140,7 @@ fn play(
     seed: u64,
 ) -> Result<bool, NoMemory> {
     let mut dice = Dice::new(seed);
-    for turn in 0..4000u64 {
+    for turn in 0..1000u64 {
         let count = beside.events.len();
         if count >= EVENTS {
             return Ok(true);
@@ -226,7 +229,7 @@ fn plays(alloc: Global, tally: &mut Tally, opts: &PoolOpts, round: u64) -> Resul
 
 // How many rounds go, up to the first one whose pool isn't as it should be.
 fn count_right(alloc: Global, tally: &mut Tally) -> Result<u64, NoMemory> {
-    for round in 0..200u64 {
+    for round in 0..ROUNDS {
         let Some(opts) = options(round) else {
             return Ok(round);
         };
@@ -234,13 +237,13 @@ fn count_right(alloc: Global, tally: &mut Tally) -> Result<u64, NoMemory> {
             return Ok(round);
         }
     }
-    Ok(200)
+    Ok(ROUNDS)
 }
 
 #[test]
 fn runs(rt: HostRuntime) -> Result<(), Fail> {
     let mut tally = [0u64; 28];
-    assert_eq!(rt; count_right(rt.alloc(), &mut tally)?, 200);
+    assert_eq!(rt; count_right(rt.alloc(), &mut tally)?, ROUNDS);
     assert!(rt; tally.iter().all(|count| *count >= 100));
     Ok(())
 }
