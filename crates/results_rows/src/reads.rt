@@ -93,7 +93,6 @@ fn read_and_drop(alloc: Global, answer: Answer<'_>, how: &str) -> Result<String,
 fn answered(alloc: Global, client: &mut Near, how: &str) -> Result<String, AllocError> {
     match client.query_iter(alloc, &"SELECT n, t FROM people") {
         Ok(answer) => match how.split_once(' ') {
-            Some(("own", how)) => unread::owned(alloc, answer, how),
             Some((how, _drop)) => read_and_drop(alloc, answer, how),
             None => {
                 let mut answer = answer;
@@ -119,7 +118,10 @@ fn called(alloc: Global, client: &mut Near, how: &str) -> Result<String, AllocEr
         "exec" => executed(alloc, client),
         "exec_stream" => unread::executed(alloc, client),
         "batch" => batched(alloc, client),
-        _ => answered(alloc, client, how),
+        _ => match how.split_once(' ') {
+            Some(("own", how)) => unread::owned(alloc, client, how),
+            _ => answered(alloc, client, how),
+        },
     }
 }
 

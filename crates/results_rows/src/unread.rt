@@ -4,8 +4,8 @@ use crate::answers::{add, failed, refused, shown};
 use crate::link::Near;
 use crate::reads::Answer;
 use my_sets::{
-    BinaryProtocol, IntoStream, Lent, Params, QueryError, SetStream, Streams, TextProtocol, Unread,
-    Value, positional,
+    BinaryProtocol, IntoStream, Lent, Params, QueryError, Results, SetStream, Streams,
+    TextProtocol, Unread, Value, positional,
 };
 use std::alloc::{AllocError, Global};
 
@@ -95,11 +95,14 @@ fn read(alloc: Global, stream: Own<'_>, how: &str) -> Result<String, AllocError>
 }
 
 /// What a stream that owns the result returns.
-pub fn owned(alloc: Global, answer: Answer<'_>, how: &str) -> Result<String, AllocError> {
-    match answer.stream_and_drop::<Numbered>(alloc) {
-        Ok(Some(stream)) => read(alloc, stream, how),
-        Ok(None) => String::from_str(alloc, "none"),
-        Err(error) => String::from_str(alloc, failed(error)),
+pub fn owned(alloc: Global, client: &mut Near, how: &str) -> Result<String, AllocError> {
+    match client.query_iter(alloc, &"SELECT n, t FROM people") {
+        Ok(answer) => match answer.stream_and_drop::<Numbered>(alloc) {
+            Ok(Some(stream)) => read(alloc, stream, how),
+            Ok(None) => String::from_str(alloc, "none"),
+            Err(error) => String::from_str(alloc, failed(error)),
+        },
+        Err(error) => shown::<()>(alloc, Err(QueryError::Client(error))),
     }
 }
 
