@@ -98,8 +98,10 @@ fn read(alloc: Global, stream: Own<'_>, how: &str) -> Result<String, AllocError>
 pub fn owned(alloc: Global, client: &mut Near, how: &str) -> Result<String, AllocError> {
     match client.query_iter(alloc, &"SELECT n, t FROM people") {
         Ok(answer) => match answer.stream_and_drop::<Numbered>(alloc) {
-            Ok(Some(stream)) => read(alloc, stream, how),
-            Ok(None) => String::from_str(alloc, "none"),
+            Ok(found) => match found {
+                Some(stream) => read(alloc, stream, how),
+                None => String::from_str(alloc, "none"),
+            },
             Err(error) => String::from_str(alloc, failed(error)),
         },
         Err(error) => shown::<()>(alloc, Err(QueryError::Client(error))),
