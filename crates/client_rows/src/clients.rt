@@ -107,6 +107,11 @@ send ping | turn @ok | ok
 connect | @greeting turn @login_ok | ok
 tx leave ignore SELECT n, t FROM people | turn @begun turn @begun turn @ok | () left
 send ping | turn @ok | ok
+collect SELECT n, t FROM people | turn @people | [(7, \"ann\"), (9, \"bo\")]
+
+connect | @greeting turn @login_ok | ok
+tx commit collect SELECT n, t FROM people | turn @begun turn @people turn @err turn @ok | [(7, \"ann\"), (9, \"bo\")] error 1064
+collect SELECT n, t FROM people | turn @people | [(7, \"ann\"), (9, \"bo\")]
 
 connect | @greeting turn @login_ok | ok
 tx commit send begin | turn @ok turn @ok | error nested ok";
@@ -234,6 +239,22 @@ fn tells(alloc: Global) -> bool {
             false
         }
     }
+}
+
+fn quits(alloc: Global) -> bool {
+    match client_of(alloc, TOLD) {
+        Ok(client) => word_of(client.quit(alloc), &mut None) == "ok",
+        Err(error) => {
+            drop(error);
+            false
+        }
+    }
+}
+
+#[test]
+fn clients_quit(rt: HostRuntime) -> Result<(), Fail> {
+    assert!(rt; quits(rt.alloc()));
+    Ok(())
 }
 
 #[test]

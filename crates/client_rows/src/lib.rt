@@ -17,6 +17,8 @@ mod facts;
 #[cfg(test)]
 mod given;
 #[cfg(test)]
+mod holders;
+#[cfg(test)]
 mod library;
 #[cfg(test)]
 mod link;

@@ -7,7 +7,7 @@ use crate::given::{copy_of, lists_of, params_of};
 use crate::sends::sent;
 use my_conn::Conn;
 use my_link::BlockingLink;
-use my_query::{Calls, Lent, QueryError, Queryable, StatementLike};
+use my_query::{Lent, QueryError, Queryable, StatementLike};
 use my_statements::Statement;
 use my_value::Row;
 use std::alloc::{AllocError, Global};

@@ -55,7 +55,7 @@ pub fn sent<C: Calls>(
         "prepare" => word_of(holder.send_prepare(alloc, blob_of(alloc, rest)), held),
         "next" => word_of(holder.next_row(alloc), held),
         "drop" => word_of(holder.drop_rest(alloc), held),
-        "ping" => word_of(holder.ping(alloc), held),
+        "ping" => word_of(holder.send_ping(alloc), held),
         "begin" => word_of(holder.send_begin(alloc, begin_of(rest)), held),
         "commit" => word_of(holder.send_commit(alloc), held),
         "rollback" => word_of(holder.send_rollback(alloc), held),

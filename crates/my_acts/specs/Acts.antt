@@ -1,16 +1,20 @@
 -- What a line may do at a connection, by its step, its outcome and how many uses it has.
-use Rattle.std.specs.Prelude.{◌-◌, ◌==◌, ℕ, nat_lt, Option, Some, None, Bool, true, false, if◌then◌else◌}
+use Rattle.std.specs.Prelude.{◌+◌, ◌-◌, ◌==◌, ℕ, nat_lt, Option, Some, None, Bool, true, false, if◌then◌else◌}
 use Rattle.my_params.specs.declared.params.Params.{Params}
 use Rattle.my_statements.specs.Prepared.{StatementView}
 use Rattle.my_reading.specs.declared.call.Call.{Call}
 use Rattle.my_reading.specs.declared.call.Call.TheVariants as calls
+use Rattle.my_script.specs.declared.aim.Aim.{Aim}
+use Rattle.my_script.specs.declared.aim.Aim.TheVariants as aims
 use Rattle.my_script.specs.declared.step.Step.{Step}
 use Rattle.my_script.specs.declared.step.Step.TheVariants as steps
 use Rattle.my_script.specs.Streams.{target}
 use Rattle.my_script.specs.declared.transcript.Outcome.{Outcome}
 use Rattle.my_script.specs.declared.transcript.Outcome.TheVariants.{Done, Pending, SetEnd, NoSet, Row, Rows, Prepared, Flag, Fields, Connected, Failed, NoSuchHandle}
 use Rattle.my_acts.specs.declared.act.Act.{Act}
-use Rattle.my_acts.specs.declared.act.Act.TheVariants.{Wrong, Skips, Tells, Holds, Fails, Connects, Polls, Takes, Ends, Cancels}
+use Rattle.my_acts.specs.declared.act.Act.TheVariants.{Wrong, Skips, Tells, Holds, Fails, Connects, Polls, Passes, Ends, Cancels}
+use Rattle.my_acts.specs.declared.act.Ground.{Ground}
+use Rattle.my_acts.specs.declared.act.Ground.TheVariants.{Closed, Taken, Free}
 use Rattle.my_acts.specs.declared.act.Status.{Status}
 use Rattle.my_acts.specs.declared.act.Status.TheVariants.{Ahead, Absent, Dialing, Idle, Open, Gathers}
 
@@ -72,34 +76,71 @@ gathering first outcome = Wrong
 abbrev pub gathered : ℕ → Outcome → ℕ → Act
 gathered first outcome uses = if uses == 0 then Wrong else gathering first outcome
 
+-- what the calls that ended made of a connection: it is closed; a stream took the set that is read, or whose end is left;
+-- or neither
+abbrev pub ground_of : Bool → Bool → Ground
+ground_of true taken = Closed
+ground_of false true = Taken
+ground_of false false = Free
+
 -- a closed connection refuses a call, which ends at once
 abbrev pub closed_at_once : Outcome → ℕ → Act
 closed_at_once (Failed e) uses = if uses == 0 then Ends Idle else Wrong
 closed_at_once outcome uses = Wrong
 
-abbrev pub asked : Bool → Outcome → ℕ → Act
-asked true outcome uses = closed_at_once outcome uses
-asked false outcome uses = polled_once outcome uses
-
-abbrev pub collected : Bool → ℕ → Outcome → ℕ → Act
-collected true first outcome uses = closed_at_once outcome uses
-collected false first outcome uses = gathered first outcome uses
+abbrev pub asked : Ground → Outcome → ℕ → Act
+asked Closed outcome uses = closed_at_once outcome uses
+asked base outcome uses = polled_once outcome uses
 
 -- a set is taken by a stream
-abbrev pub taking : Outcome → (Status → Act) → Act
-taking Pending act = act Open
-taking Done act = act Idle
-taking NoSet act = act Idle
-taking (Failed e) act = act Idle
-taking outcome act = Wrong
+abbrev pub taking : Outcome → Act
+taking Pending = Polls Open
+taking Done = Polls Idle
+taking NoSet = Polls Idle
+taking (Failed e) = Polls Idle
+taking outcome = Wrong
 
--- one call is polled, or a second one after the one that passes over the rest of an earlier set
-abbrev pub taken : Outcome → ℕ → Act
-taken outcome uses = if uses == 1 then taking outcome Polls else (if uses == 2 then taking outcome Takes else Wrong)
+-- a line whose calls are polled after the one that passes over the rest of a set
+abbrev pub after_passing : Aim → Act → Act
+after_passing aim (Polls status) = Passes aim status
+after_passing aim act = Wrong
 
-abbrev pub streamed : Bool → Outcome → ℕ → Act
-streamed true outcome uses = closed_at_once outcome uses
-streamed false outcome uses = taken outcome uses
+-- Once the rest of a set that a stream took is passed over, the next one is taken, or read. The call of this index passed
+-- over it.
+abbrev pub passed : Aim → ℕ → Outcome → ℕ → Act
+passed aims.Take next outcome uses = if uses == 2 then after_passing aims.Take (taking outcome) else Wrong
+passed aims.Row next outcome uses = if uses == 2 then after_passing aims.Row (polled outcome) else Wrong
+passed aims.Rows next outcome uses =
+    if nat_lt 1 uses then after_passing aims.Rows (gathering (next + 1) outcome) else Wrong
+
+-- the call that passes over it is open still, or failed
+abbrev pub passing : Outcome → Act
+passing Pending = Polls Open
+passing (Failed e) = Polls Idle
+passing outcome = Wrong
+
+abbrev pub passes : Aim → ℕ → Outcome → ℕ → Act
+passes aim next outcome uses = if uses == 1 then passing outcome else passed aim next outcome uses
+
+-- no stream took the set that is read
+abbrev pub follows : Aim → ℕ → Outcome → ℕ → Act
+follows aims.Take next outcome uses = if uses == 1 then taking outcome else Wrong
+follows aims.Row next outcome uses = polled_once outcome uses
+follows aims.Rows next outcome uses = gathered next outcome uses
+
+abbrev pub reads : Ground → Aim → ℕ → Outcome → ℕ → Act
+reads Closed aim next outcome uses = closed_at_once outcome uses
+reads Taken aim next outcome uses = passes aim next outcome uses
+reads Free aim next outcome uses = follows aim next outcome uses
+
+-- an item is read of a stream's set; where that isn't the one that is read any more, nothing is left
+abbrev pub no_item : Outcome → ℕ → Act
+no_item NoSet uses = if uses == 0 then Skips Idle else Wrong
+no_item outcome uses = Wrong
+
+abbrev pub itemed : Ground → Outcome → ℕ → Act
+itemed Taken outcome uses = polled_once outcome uses
+itemed base outcome uses = no_item outcome uses
 
 -- a stream is let go
 abbrev pub let_go : Outcome → ℕ → Act
@@ -112,37 +153,37 @@ told (Fields ok) uses = if uses == 0 then Tells else Wrong
 told outcome uses = Wrong
 
 -- no call is open
-abbrev pub at_idle : Bool → ℕ → Step → Outcome → ℕ → Act
-at_idle closed next steps.Conn outcome uses = Wrong
-at_idle closed next (steps.Query n text) outcome uses = asked closed outcome uses
-at_idle closed next (steps.Prepare n text) outcome uses = asked closed outcome uses
-at_idle closed next (steps.Execute n number params) outcome uses = asked closed outcome uses
-at_idle closed next (steps.CloseStatement n number) outcome uses = asked closed outcome uses
-at_idle closed next (steps.Next n) outcome uses = asked closed outcome uses
-at_idle closed next (steps.Collect n) outcome uses = collected closed next outcome uses
-at_idle closed next (steps.Stream n) outcome uses = streamed closed outcome uses
-at_idle closed next (steps.Item n) outcome uses = asked closed outcome uses
-at_idle closed next (steps.Unstream n) outcome uses = let_go outcome uses
-at_idle closed next (steps.Drop n) outcome uses = asked closed outcome uses
-at_idle closed next (steps.Ping n) outcome uses = asked closed outcome uses
-at_idle closed next (steps.Reset n) outcome uses = asked closed outcome uses
-at_idle closed next (steps.User n change) outcome uses = asked closed outcome uses
-at_idle closed next (steps.Begin n opts) outcome uses = asked closed outcome uses
-at_idle closed next (steps.Commit n) outcome uses = asked closed outcome uses
-at_idle closed next (steps.Rollback n) outcome uses = asked closed outcome uses
-at_idle closed next (steps.ForgetTransaction n) outcome uses = polled_once outcome uses
-at_idle closed next (steps.Quit n) outcome uses = polled_once outcome uses
-at_idle closed next (steps.Fields n) outcome uses = told outcome uses
-at_idle closed next (steps.Poll n) outcome uses = refused Idle outcome uses
-at_idle closed next (steps.Cancel n) outcome uses = refused Idle outcome uses
-at_idle closed next (steps.Advance by) outcome uses = Wrong
-at_idle closed next (steps.Random word) outcome uses = Wrong
+abbrev pub at_idle : Ground → ℕ → Step → Outcome → ℕ → Act
+at_idle base next steps.Conn outcome uses = Wrong
+at_idle base next (steps.Query n text) outcome uses = asked base outcome uses
+at_idle base next (steps.Prepare n text) outcome uses = asked base outcome uses
+at_idle base next (steps.Execute n number params) outcome uses = asked base outcome uses
+at_idle base next (steps.CloseStatement n number) outcome uses = asked base outcome uses
+at_idle base next (steps.Next n) outcome uses = reads base aims.Row next outcome uses
+at_idle base next (steps.Collect n) outcome uses = reads base aims.Rows next outcome uses
+at_idle base next (steps.Stream n) outcome uses = reads base aims.Take next outcome uses
+at_idle base next (steps.Item n) outcome uses = itemed base outcome uses
+at_idle base next (steps.Unstream n) outcome uses = let_go outcome uses
+at_idle base next (steps.Drop n) outcome uses = asked base outcome uses
+at_idle base next (steps.Ping n) outcome uses = asked base outcome uses
+at_idle base next (steps.Reset n) outcome uses = asked base outcome uses
+at_idle base next (steps.User n change) outcome uses = asked base outcome uses
+at_idle base next (steps.Begin n opts) outcome uses = asked base outcome uses
+at_idle base next (steps.Commit n) outcome uses = asked base outcome uses
+at_idle base next (steps.Rollback n) outcome uses = asked base outcome uses
+at_idle base next (steps.ForgetTransaction n) outcome uses = polled_once outcome uses
+at_idle base next (steps.Quit n) outcome uses = polled_once outcome uses
+at_idle base next (steps.Fields n) outcome uses = told outcome uses
+at_idle base next (steps.Poll n) outcome uses = refused Idle outcome uses
+at_idle base next (steps.Cancel n) outcome uses = refused Idle outcome uses
+at_idle base next (steps.Advance by) outcome uses = Wrong
+at_idle base next (steps.Random word) outcome uses = Wrong
 
 -- an open call goes on: the handshake, which is the first call, or another one
-abbrev pub goes_on : ℕ → ℕ → Outcome → ℕ → Act
-goes_on n next outcome uses =
+abbrev pub goes_on : Aim → ℕ → ℕ → Outcome → ℕ → Act
+goes_on aim n next outcome uses =
     if next == 0 then (if uses == 1 then connecting n outcome Polls else Wrong)
-    else (if uses == 2 then taking outcome Takes else polled_once outcome uses)
+    else (if uses == 1 then polled outcome else passed aim next outcome uses)
 
 -- an open call is cancelled; after the handshake's the connection isn't there any more
 abbrev pub after_cancel : ℕ → Status
@@ -152,10 +193,10 @@ abbrev pub cancelled : ℕ → Outcome → ℕ → Act
 cancelled next Done uses = if uses == 0 then Cancels (after_cancel next) else Wrong
 cancelled next outcome uses = Wrong
 
-abbrev pub at_open : ℕ → ℕ → Step → Outcome → ℕ → Act
-at_open n next (steps.Poll m) outcome uses = goes_on n next outcome uses
-at_open n next (steps.Cancel m) outcome uses = cancelled next outcome uses
-at_open n next step outcome uses = refused Open outcome uses
+abbrev pub at_open : Aim → ℕ → ℕ → Step → Outcome → ℕ → Act
+at_open aim n next (steps.Poll m) outcome uses = goes_on aim n next outcome uses
+at_open aim n next (steps.Cancel m) outcome uses = cancelled next outcome uses
+at_open aim n next step outcome uses = refused Open outcome uses
 
 abbrev pub at_gathering : ℕ → ℕ → Step → Outcome → ℕ → Act
 at_gathering first next (steps.Poll m) outcome uses = gathered first outcome uses
@@ -173,28 +214,28 @@ at_dialing n (steps.Cancel m) outcome uses = dropped outcome uses
 at_dialing n step outcome uses = refused Dialing outcome uses
 
 -- a step at this connection, which was dialed
-abbrev pub act_here : Status → ℕ → ℕ → Bool → Step → Outcome → ℕ → Act
-act_here (Ahead k) n next closed step outcome uses = Wrong
-act_here Absent n next closed step outcome uses = refused Absent outcome uses
-act_here Dialing n next closed step outcome uses = at_dialing n step outcome uses
-act_here Idle n next closed step outcome uses = at_idle closed next step outcome uses
-act_here Open n next closed step outcome uses = at_open n next step outcome uses
-act_here (Gathers first) n next closed step outcome uses = at_gathering first next step outcome uses
+abbrev pub act_here : Aim → Status → ℕ → ℕ → Ground → Step → Outcome → ℕ → Act
+act_here aim (Ahead k) n next base step outcome uses = Wrong
+act_here aim Absent n next base step outcome uses = refused Absent outcome uses
+act_here aim Dialing n next base step outcome uses = at_dialing n step outcome uses
+act_here aim Idle n next base step outcome uses = at_idle base next step outcome uses
+act_here aim Open n next base step outcome uses = at_open aim n next step outcome uses
+act_here aim (Gathers first) n next base step outcome uses = at_gathering first next step outcome uses
 
 -- other connections' steps do nothing here
-abbrev pub act_there : Status → ℕ → ℕ → Bool → Step → Outcome → ℕ → Option ℕ → Act
-act_there status n next closed step outcome uses None = Skips status
-act_there status n next closed step outcome uses (Some m) =
-    if m == n then act_here status n next closed step outcome uses else Skips status
+abbrev pub act_there : Aim → Status → ℕ → ℕ → Ground → Step → Outcome → ℕ → Option ℕ → Act
+act_there aim status n next base step outcome uses None = Skips status
+act_there aim status n next base step outcome uses (Some m) =
+    if m == n then act_here aim status n next base step outcome uses else Skips status
 
 -- Before this connection is dialed: k others are dialed first, so a step that names a number from n - k on is refused.
 abbrev pub act_ahead : ℕ → ℕ → Outcome → ℕ → Option ℕ → Act
 act_ahead k n outcome uses None = if k == 0 then dialed n outcome uses else Skips (Ahead (k - 1))
 act_ahead k n outcome uses (Some m) = if nat_lt m (n - k) then Skips (Ahead k) else refused (Ahead k) outcome uses
 
-abbrev pub act_of : Status → ℕ → ℕ → Bool → Step → Outcome → ℕ → Act
-act_of (Ahead k) n next closed step outcome uses = act_ahead k n outcome uses (target step)
-act_of status n next closed step outcome uses = act_there status n next closed step outcome uses (target step)
+abbrev pub act_of : Aim → Status → ℕ → ℕ → Ground → Step → Outcome → ℕ → Act
+act_of aim (Ahead k) n next base step outcome uses = act_ahead k n outcome uses (target step)
+act_of aim status n next base step outcome uses = act_there aim status n next base step outcome uses (target step)
 
 -- a step of a stream, or of a transaction, that isn't there: it names this number
 abbrev pub is_missing : ℕ → Bool → Step → Bool
@@ -213,19 +254,24 @@ is_unprepared n false (steps.Execute m number params) = m == n
 is_unprepared n false (steps.CloseStatement m number) = m == n
 is_unprepared n false step = false
 
--- what a line may do at connection n, where what its step needs beside the connection's calls is there or isn't, and so is the statement that
--- it names
-abbrev pub act_with : Bool → Bool → Status → ℕ → ℕ → Bool → Step → Outcome → ℕ → Act
-act_with found prepared status n next closed step outcome uses =
+-- what a line may do at connection n, where what its step needs beside the connection's calls is there or isn't, and so is
+-- the statement that it names; the call that is open has this aim
+abbrev pub act_with : Bool → Bool → Aim → Status → ℕ → ℕ → Ground → Step → Outcome → ℕ → Act
+act_with found prepared aim status n next base step outcome uses =
     if moves_world step then moved status outcome uses
     else if is_missing n found step then refused status outcome uses
     else if is_unprepared n prepared step then refused status outcome uses
-    else act_of status n next closed step outcome uses
+    else act_of aim status n next base step outcome uses
 
--- the call that takes a set, or the one that passes over the rest of an earlier one first
-abbrev pub taking_call : Bool → Call
-taking_call true = calls.SkipTaken
-taking_call false = calls.TakeSet
+-- the call that takes a set, or reads its rows, or the one that passes over the rest of an earlier one first
+abbrev pub next_call : Aim → Call
+next_call aims.Take = calls.TakeSet
+next_call aims.Row = calls.NextRow
+next_call aims.Rows = calls.NextRow
+
+abbrev pub reading_call : Bool → Aim → Call
+reading_call true aim = calls.SkipTaken
+reading_call false aim = next_call aim
 
 -- the call that executes a statement, or closes it, where it is there
 abbrev pub executing_call : Option StatementView → Params → Option Call
@@ -236,17 +282,17 @@ abbrev pub closing_call : Option StatementView → Option Call
 closing_call None = None
 closing_call (Some statement) = Some (calls.CloseStmt statement.inner.id)
 
--- the call that a step begins, where a stream took the set that is read, or whose end is left, or none did, and with the statement that the
--- step names
+-- the call that a step begins, where a stream took the set that is read, or whose end is left, or none did, and with the
+-- statement that the step names
 abbrev pub begun_by : Bool → Option StatementView → Step → Option Call
 begun_by taken named steps.Conn = Some calls.Connect
 begun_by taken named (steps.Query n text) = Some (calls.Query text)
 begun_by taken named (steps.Prepare n text) = Some (calls.Prepare text)
 begun_by taken named (steps.Execute n number params) = executing_call named params
 begun_by taken named (steps.CloseStatement n number) = closing_call named
-begun_by taken named (steps.Next n) = Some calls.NextRow
-begun_by taken named (steps.Collect n) = Some calls.NextRow
-begun_by taken named (steps.Stream n) = Some (taking_call taken)
+begun_by taken named (steps.Next n) = Some (reading_call taken aims.Row)
+begun_by taken named (steps.Collect n) = Some (reading_call taken aims.Rows)
+begun_by taken named (steps.Stream n) = Some (reading_call taken aims.Take)
 begun_by taken named (steps.Item n) = Some calls.NextRow
 begun_by taken named (steps.Unstream n) = None
 begun_by taken named (steps.Drop n) = Some calls.DropResult

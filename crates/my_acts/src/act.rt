@@ -13,16 +13,17 @@ ghost use Rattle.my_acts.specs.Acts.{
   at_idle,
   at_open,
   goes_on,
+  ground_of,
   is_missing,
   is_unprepared,
   moves_world,
 };
 
 use crate::outcome::{
-    asked, cancelled, collected, dialed, dropped, gathered, let_go, moved, polled_once,
-    polls_handshake, refused, skips_and_takes, streamed, told,
+    asked, cancelled, dialed, dropped, gathered, itemed, let_go, moved, passed, polled,
+    polled_once, polls_handshake, reads, refused, told,
 };
-use my_script::{Outcome, Step, target};
+use my_script::{Aim, Outcome, Step, target};
 
 /// What the lines so far made of a connection.
 #[derive(Clone, Copy, PartialEq, Eq)]
@@ -37,8 +38,32 @@ pub enum Status {
     Idle,
     /// A call is open.
     Open,
-    /// Rows are gathered, from the call with this index on.
-    Gathers(usize),
+    /// Rows are gathered, from the call with this index on, which may be the one after any other.
+    Gathers(u128),
+}
+
+/// What the calls that ended made of a connection.
+#[derive(Clone, Copy, PartialEq, Eq)]
+pub enum Ground {
+    Closed,
+    /// A stream took the set that is read, or whose end is left.
+    Taken,
+    Free,
+}
+
+impl Ground {
+    /// Of a connection that is closed or isn't, and whose set a stream took or didn't.
+    pub fn of(closed: bool, taken: bool) -> Ground
+        ensures { result ≡ ground_of closed taken }
+    {
+        if closed {
+            Ground::Closed
+        } else if taken {
+            Ground::Taken
+        } else {
+            Ground::Free
+        }
+    }
 }
 
 /// What a line does.
@@ -58,16 +83,16 @@ pub enum Act {
     Connects(Status),
     /// Calls are polled.
     Polls(Status),
-    /// The call that passes over a set's rest is polled, and then the one that takes the next set.
-    Takes(Status),
+    /// The call that passes over a set's rest is polled, and then those that take the next set, or read it.
+    Passes(Aim, Status),
     /// A call ends at once.
     Ends(Status),
     /// The open call is cancelled.
     Cancels(Status),
 }
 
-fn at_idle(closed: bool, next: usize, step: &Step, outcome: &Outcome, uses: usize) -> Act
-    ensures { result ≡ at_idle closed next step.now outcome.now uses }
+fn at_idle(base: Ground, next: usize, step: &Step, outcome: &Outcome, uses: usize) -> Act
+    ensures { result ≡ at_idle base next step.now outcome.now uses }
 {
     match step {
         Step::Conn | Step::Advance(_) | Step::Random(_) => Act::Wrong,
@@ -75,17 +100,17 @@ fn at_idle(closed: bool, next: usize, step: &Step, outcome: &Outcome, uses: usiz
         | Step::Prepare(_, _)
         | Step::Execute(_, _, _)
         | Step::CloseStatement(_, _)
-        | Step::Next(_)
-        | Step::Item(_)
         | Step::Drop(_)
         | Step::Ping(_)
         | Step::Reset(_)
         | Step::User(_, _)
         | Step::Begin(_, _)
         | Step::Commit(_)
-        | Step::Rollback(_) => asked(closed, outcome, uses),
-        Step::Collect(_) => collected(closed, next, outcome, uses),
-        Step::Stream(_) => streamed(closed, outcome, uses),
+        | Step::Rollback(_) => asked(base, outcome, uses),
+        Step::Next(_) => reads(base, Aim::Row, next, outcome, uses),
+        Step::Collect(_) => reads(base, Aim::Rows, next, outcome, uses),
+        Step::Stream(_) => reads(base, Aim::Take, next, outcome, uses),
+        Step::Item(_) => itemed(base, outcome, uses),
         Step::Unstream(_) => let_go(outcome, uses),
         Step::ForgetTransaction(_) | Step::Quit(_) => polled_once(outcome, uses),
         Step::Fields(_) => told(outcome, uses),
@@ -93,14 +118,14 @@ fn at_idle(closed: bool, next: usize, step: &Step, outcome: &Outcome, uses: usiz
     }
 }
 
-fn goes_on(number: u64, next: usize, outcome: &Outcome, uses: usize) -> Act
-    ensures { result ≡ goes_on number next outcome.now uses }
+fn goes_on(aim: Aim, number: u64, next: usize, outcome: &Outcome, uses: usize) -> Act
+    ensures { result ≡ goes_on aim number next outcome.now uses }
 {
     if next > 0 {
-        if uses == 2 {
-            return skips_and_takes(outcome);
+        if uses == 1 {
+            return polled(outcome);
         }
-        return polled_once(outcome, uses);
+        return passed(aim, next, outcome, uses);
     }
     if uses == 1 {
         polls_handshake(number, outcome)
@@ -109,17 +134,17 @@ fn goes_on(number: u64, next: usize, outcome: &Outcome, uses: usize) -> Act
     }
 }
 
-fn at_open(number: u64, next: usize, step: &Step, outcome: &Outcome, uses: usize) -> Act
-    ensures { result ≡ at_open number next step.now outcome.now uses }
+fn at_open(aim: Aim, number: u64, next: usize, step: &Step, outcome: &Outcome, uses: usize) -> Act
+    ensures { result ≡ at_open aim number next step.now outcome.now uses }
 {
     match step {
-        Step::Poll(_) => goes_on(number, next, outcome, uses),
+        Step::Poll(_) => goes_on(aim, number, next, outcome, uses),
         Step::Cancel(_) => cancelled(next, outcome, uses),
         _ => refused(Status::Open, outcome, uses),
     }
 }
 
-fn at_gathering(first: usize, next: usize, step: &Step, outcome: &Outcome, uses: usize) -> Act
+fn at_gathering(first: u128, next: usize, step: &Step, outcome: &Outcome, uses: usize) -> Act
     ensures { result ≡ at_gathering first next step.now outcome.now uses }
 {
     match step {
@@ -140,41 +165,43 @@ fn at_dialing(number: u64, step: &Step, outcome: &Outcome, uses: usize) -> Act
 }
 
 fn act_here(
+    aim: Aim,
     status: Status,
     number: u64,
     next: usize,
-    closed: bool,
+    base: Ground,
     step: &Step,
     outcome: &Outcome,
     uses: usize,
 ) -> Act
-    ensures { result ≡ act_here status number next closed step.now outcome.now uses }
+    ensures { result ≡ act_here aim status number next base step.now outcome.now uses }
 {
     match status {
         Status::Ahead(_) => Act::Wrong,
         Status::Absent => refused(Status::Absent, outcome, uses),
         Status::Dialing => at_dialing(number, step, outcome, uses),
-        Status::Idle => at_idle(closed, next, step, outcome, uses),
-        Status::Open => at_open(number, next, step, outcome, uses),
+        Status::Idle => at_idle(base, next, step, outcome, uses),
+        Status::Open => at_open(aim, number, next, step, outcome, uses),
         Status::Gathers(first) => at_gathering(first, next, step, outcome, uses),
     }
 }
 
 fn act_there(
+    aim: Aim,
     status: Status,
     number: u64,
     next: usize,
-    closed: bool,
+    base: Ground,
     step: &Step,
     outcome: &Outcome,
     uses: usize,
 ) -> Act
-    ensures { result ≡ act_there status number next closed step.now outcome.now uses (target step.now) }
+    ensures { result ≡ act_there aim status number next base step.now outcome.now uses (target step.now) }
 {
     match target(step) {
         Some(named) => {
             if named == number {
-                act_here(status, number, next, closed, step, outcome, uses)
+                act_here(aim, status, number, next, base, step, outcome, uses)
             } else {
                 Act::Skips(status)
             }
@@ -205,19 +232,20 @@ fn act_ahead(ahead: u64, number: u64, outcome: &Outcome, uses: usize, named: Opt
 }
 
 fn act_of(
+    aim: Aim,
     status: Status,
     number: u64,
     next: usize,
-    closed: bool,
+    base: Ground,
     step: &Step,
     outcome: &Outcome,
     uses: usize,
 ) -> Act
-    ensures { result ≡ act_of status number next closed step.now outcome.now uses }
+    ensures { result ≡ act_of aim status number next base step.now outcome.now uses }
 {
     match status {
         Status::Ahead(ahead) => act_ahead(ahead, number, outcome, uses, target(step)),
-        _ => act_there(status, number, next, closed, step, outcome, uses),
+        _ => act_there(aim, status, number, next, base, step, outcome, uses),
     }
 }
 
@@ -258,20 +286,22 @@ fn is_unprepared(number: u64, prepared: bool, step: &Step) -> bool
     }
 }
 
-/// What a line does at the connection with this number, where the stream or the transaction that the step needs is found or
-/// isn't, and so is the statement that it names; of which `next` calls ended, and which is closed or not.
+/// What a line does at the connection with this number, where the stream or the transaction that the step needs is found
+/// or isn't, and so is the statement that it names. The call that is open has this aim. `next` calls ended, which made
+/// this of the connection.
 pub fn act_with(
     found: bool,
     prepared: bool,
+    aim: Aim,
     status: Status,
     number: u64,
     next: usize,
-    closed: bool,
+    base: Ground,
     step: &Step,
     outcome: &Outcome,
     uses: usize,
 ) -> Act
-    ensures { result ≡ act_with found prepared status number next closed step.now outcome.now uses }
+    ensures { result ≡ act_with found prepared aim status number next base step.now outcome.now uses }
 {
     if moves_world(step) {
         return moved(status, outcome, uses);
@@ -282,5 +312,5 @@ pub fn act_with(
     if is_unprepared(number, prepared, step) {
         return refused(status, outcome, uses);
     }
-    act_of(status, number, next, closed, step, outcome, uses)
+    act_of(aim, status, number, next, base, step, outcome, uses)
 }

@@ -4,4 +4,4 @@
 mod act;
 mod outcome;
 
-pub use act::{Act, Status, act_with};
+pub use act::{Act, Ground, Status, act_with};

@@ -3,29 +3,34 @@
 ghost use Rattle.std.specs.Prelude.{◌≡◌};
 ghost use Rattle.my_acts.specs.Acts.{
   after_cancel,
+  after_passing,
   asked,
   cancelled,
   closed_at_once,
-  collected,
   connecting,
   dialed,
   dialed_once,
   dropped,
+  follows,
   gathered,
   gathering,
+  itemed,
   let_go,
   moved,
+  no_item,
+  passed,
+  passes,
+  passing,
   polled,
   polled_once,
+  reads,
   refused,
-  streamed,
-  taken,
   taking,
   told,
 };
 
-use crate::act::{Act, Status};
-use my_script::Outcome;
+use crate::act::{Act, Ground, Status};
+use my_script::{Aim, Outcome};
 
 pub(crate) fn refused(status: Status, outcome: &Outcome, uses: usize) -> Act
     ensures { result ≡ refused status outcome.now uses }
@@ -93,7 +98,7 @@ pub(crate) fn dialed(number: u64, outcome: &Outcome, uses: usize) -> Act
     }
 }
 
-fn polled(outcome: &Outcome) -> Act
+pub(crate) fn polled(outcome: &Outcome) -> Act
     ensures { result ≡ polled outcome.now }
 {
     match outcome {
@@ -119,7 +124,7 @@ pub(crate) fn polled_once(outcome: &Outcome, uses: usize) -> Act
     }
 }
 
-fn gathering(first: usize, outcome: &Outcome) -> Act
+fn gathering(first: u128, outcome: &Outcome) -> Act
     ensures { result ≡ gathering first outcome.now }
 {
     match outcome {
@@ -129,7 +134,7 @@ fn gathering(first: usize, outcome: &Outcome) -> Act
     }
 }
 
-pub(crate) fn gathered(first: usize, outcome: &Outcome, uses: usize) -> Act
+pub(crate) fn gathered(first: u128, outcome: &Outcome, uses: usize) -> Act
     ensures { result ≡ gathered first outcome.now uses }
 {
     if uses == 0 {
@@ -148,28 +153,17 @@ fn closed_at_once(outcome: &Outcome, uses: usize) -> Act
     }
 }
 
-pub(crate) fn asked(closed: bool, outcome: &Outcome, uses: usize) -> Act
-    ensures { result ≡ asked closed outcome.now uses }
+pub(crate) fn asked(base: Ground, outcome: &Outcome, uses: usize) -> Act
+    ensures { result ≡ asked base outcome.now uses }
 {
-    if closed {
-        closed_at_once(outcome, uses)
-    } else {
-        polled_once(outcome, uses)
-    }
-}
-
-pub(crate) fn collected(closed: bool, first: usize, outcome: &Outcome, uses: usize) -> Act
-    ensures { result ≡ collected closed first outcome.now uses }
-{
-    if closed {
-        closed_at_once(outcome, uses)
-    } else {
-        gathered(first, outcome, uses)
+    match base {
+        Ground::Closed => closed_at_once(outcome, uses),
+        Ground::Taken | Ground::Free => polled_once(outcome, uses),
     }
 }
 
 fn taking(outcome: &Outcome) -> Act
-    ensures { result ≡ taking outcome.now Act.Polls }
+    ensures { result ≡ taking outcome.now }
 {
     match outcome {
         Outcome::Pending => Act::Polls(Status::Open),
@@ -178,34 +172,85 @@ fn taking(outcome: &Outcome) -> Act
     }
 }
 
-pub(crate) fn skips_and_takes(outcome: &Outcome) -> Act
-    ensures { result ≡ taking outcome.now Act.Takes }
+// A line whose calls are polled after the one that passes over the rest of a set.
+fn after_passing(aim: Aim, polled: Act) -> Act
+    ensures { result ≡ after_passing aim polled }
 {
-    match taking(outcome) {
-        Act::Polls(status) => Act::Takes(status),
+    match polled {
+        Act::Polls(status) => Act::Passes(aim, status),
         _ => Act::Wrong,
     }
 }
 
-fn taken(outcome: &Outcome, uses: usize) -> Act
-    ensures { result ≡ taken outcome.now uses }
+/// Once the rest of a set that a stream took is passed over, the next one is taken, or read.
+pub(crate) fn passed(aim: Aim, next: usize, outcome: &Outcome, uses: usize) -> Act
+    ensures { result ≡ passed aim next outcome.now uses }
 {
-    if uses == 1 {
-        taking(outcome)
-    } else if uses == 2 {
-        skips_and_takes(outcome)
-    } else {
-        Act::Wrong
+    match aim {
+        Aim::Take if uses == 2 => after_passing(aim, taking(outcome)),
+        Aim::Row if uses == 2 => after_passing(aim, polled(outcome)),
+        Aim::Rows if uses > 1 => after_passing(aim, gathering(next as u128 + 1, outcome)),
+        _ => Act::Wrong,
     }
 }
 
-pub(crate) fn streamed(closed: bool, outcome: &Outcome, uses: usize) -> Act
-    ensures { result ≡ streamed closed outcome.now uses }
+fn passing(outcome: &Outcome) -> Act
+    ensures { result ≡ passing outcome.now }
 {
-    if closed {
-        closed_at_once(outcome, uses)
+    match outcome {
+        Outcome::Pending => Act::Polls(Status::Open),
+        Outcome::Failed(_) => Act::Polls(Status::Idle),
+        _ => Act::Wrong,
+    }
+}
+
+fn passes(aim: Aim, next: usize, outcome: &Outcome, uses: usize) -> Act
+    ensures { result ≡ passes aim next outcome.now uses }
+{
+    if uses == 1 {
+        passing(outcome)
     } else {
-        taken(outcome, uses)
+        passed(aim, next, outcome, uses)
+    }
+}
+
+fn follows(aim: Aim, next: usize, outcome: &Outcome, uses: usize) -> Act
+    ensures { result ≡ follows aim next outcome.now uses }
+{
+    match aim {
+        Aim::Take if uses == 1 => taking(outcome),
+        Aim::Take => Act::Wrong,
+        Aim::Row => polled_once(outcome, uses),
+        Aim::Rows => gathered(next as u128, outcome, uses),
+    }
+}
+
+/// A step that takes a set, or reads it.
+pub(crate) fn reads(base: Ground, aim: Aim, next: usize, outcome: &Outcome, uses: usize) -> Act
+    ensures { result ≡ reads base aim next outcome.now uses }
+{
+    match base {
+        Ground::Closed => closed_at_once(outcome, uses),
+        Ground::Taken => passes(aim, next, outcome, uses),
+        Ground::Free => follows(aim, next, outcome, uses),
+    }
+}
+
+fn no_item(outcome: &Outcome, uses: usize) -> Act
+    ensures { result ≡ no_item outcome.now uses }
+{
+    match outcome {
+        Outcome::NoSet if uses == 0 => Act::Skips(Status::Idle),
+        _ => Act::Wrong,
+    }
+}
+
+pub(crate) fn itemed(base: Ground, outcome: &Outcome, uses: usize) -> Act
+    ensures { result ≡ itemed base outcome.now uses }
+{
+    match base {
+        Ground::Taken => polled_once(outcome, uses),
+        Ground::Closed | Ground::Free => no_item(outcome, uses),
     }
 }
 

@@ -127,8 +127,8 @@ C is a connection; at most 1000 lines connect:
 
   conn             connects; connections are numbered from 0
   query C TEXT     sends a query over connection C and reads the head of its result
-  next C           reads the next row
-  collect C        reads all rows of the set that are left
+  next C           reads the next row; what a stream left of its set is passed over first
+  collect C        reads all rows of the set that are left, likewise
   stream C         takes the set for a stream: the one that is read, or the next one
   item C           reads the next row of the stream
   unstream C       lets the stream go; the next stream passes over what it left of the set
@@ -174,9 +174,10 @@ a float and of a double, D:Y-M-D_H:M:S.U, T:SIGN_DAYS_H:M:S.U.
 A step may also print pending, where the link has nothing yet; ok -, where no OK packet came yet;
 refused NoSuchHandle, where there is no such connection, its call is still pending, or there
 is no call to continue or to cancel, no stream, no transaction, or no statement of that number.
-A stream is there from the ok of its stream line on, until its end, an error, or a step that
-begins another call; a transaction from the ok of its begin line on, until its commit, rollback
-or forget line; a statement until the step that closes it. Or an error, as
+A stream is there from the ok of its stream line on, until its unstream line or the next stream
+line; its items are none once another set is read. A transaction is there from the ok of its begin
+line on, until its commit, rollback or forget line; a statement until the step that closes it. Or
+an error, as
 
   error Io Link
   error Io InvalidData 4

@@ -1,4 +1,5 @@
 pub mod Idle
+pub mod Ends
 pub mod Transactions
 pub mod Dialed
 pub mod Connected

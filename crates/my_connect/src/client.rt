@@ -3,6 +3,7 @@ ghost use Rattle.std.specs.Prelude.{◌≡◌, None, IfErr, OkIff};
 ghost use Rattle.my_handshake.specs.Version.{version_of};
 ghost use Rattle.my_conn.specs.Drives.{EndIs};
 ghost use Rattle.my_conn.specs.Forgets.{ForgetIs};
+ghost use Rattle.my_connect.specs.Ends.{QuitIs};
 ghost use Rattle.my_connect.specs.Idle.{idle_of};
 ghost use Rattle.my_conn.specs.Facts.{affected_by, info_by, insert_by, warnings_by};
 
@@ -138,6 +139,17 @@ impl<L: BlockingLink> Client<L> {
     }
 }
 
+impl<L: BlockingLink + Drop> Client<L> {
+    /// Ends the connection, as `disconnect` does, and lets its link go.
+    pub fn quit(self, alloc: Global) -> Result<(), Error>
+        ensures { QuitIs L.looks self result }
+    {
+        let (ended, link) = self.conn.disconnect(alloc);
+        drop(link);
+        ended
+    }
+}
+
 impl<L: BlockingLink> Calls for Client<L> {
     ghost use Rattle.std.specs.Prelude.{[]};
 
@@ -151,7 +163,7 @@ impl<L: BlockingLink> Calls for Client<L> {
         &self.conn
     }
 
-    fn ping(&mut self, alloc: Global) -> Result<(), Error> {
+    fn send_ping(&mut self, alloc: Global) -> Result<(), Error> {
         self.conn.ping(alloc)
     }
 

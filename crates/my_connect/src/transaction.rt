@@ -101,8 +101,8 @@ impl<'a, L: BlockingLink> Calls for Transaction<'a, L> {
         Calls::conn(&*self.client)
     }
 
-    fn ping(&mut self, alloc: Global) -> Result<(), Error> {
-        self.client.ping(alloc)
+    fn send_ping(&mut self, alloc: Global) -> Result<(), Error> {
+        self.client.send_ping(alloc)
     }
 
     fn send_prepare(&mut self, alloc: Global, query: Blob) -> Result<Statement, Error> {

@@ -7,7 +7,7 @@ mod rows;
 mod streamed;
 mod transfer;
 
-use my_results::{BlockingLink, Client, QueryError, TcpWorld, World, connect};
+use my_sets::{BlockingLink, Client, QueryError, TcpWorld, World, connect};
 use std::alloc::{AllocError, Global};
 use std::io::Eprint;
 use std::process::ExitCode;
@@ -54,7 +54,7 @@ where
 {
     let mut client = connect(alloc, url, world)?;
     let ran = by_mode(alloc, mode, &mut client);
-    drop(client);
+    drop(client.quit(alloc));
     ran
 }
 

@@ -1,6 +1,6 @@
 //! A password that is wrong, answered in one line.
 
-use my_results::{BlockingLink, Error, QueryError, World, connect};
+use my_sets::{BlockingLink, Error, QueryError, World, connect};
 use std::alloc::Global;
 
 /// Whether the server lets the user of this URL in.
@@ -10,9 +10,7 @@ where
 {
     match connect(alloc, url, world) {
         Ok(client) => {
-            let (ended, link) = client.disconnect(alloc);
-            drop(link);
-            ended?;
+            client.quit(alloc)?;
             Ok(String::from_str(alloc, "welcome")?)
         }
         Err(Error::Server(error)) => Ok(format!(in alloc; "refused: {error}")?),

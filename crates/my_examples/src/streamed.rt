@@ -1,6 +1,6 @@
 //! A large set, of which one row at a time is in memory.
 
-use my_results::{BlockingLink, Client, Error, QueryError, Results};
+use my_sets::{BlockingLink, Client, Error, QueryError, Results};
 use std::alloc::Global;
 
 /// How many numbers there are, and their sum.

@@ -3,3 +3,4 @@ pub mod Waiting
 pub mod Deciding
 pub mod Requesting
 pub mod Moving
+pub mod Burying

@@ -13,6 +13,7 @@ use Rattle.my_pool_core.specs.State.{State}
 use Rattle.my_pool_store.specs.Shelves.{Shelved, Entry, entry, has, kept_at, without_number}
 use Rattle.my_pool_store.specs.Woken.{Called}
 use Rattle.my_pool_store.proofs.Keeping.{put-there, put-others, put-once, out-there, out-others, out-once}
+use Rattle.my_client.specs.declared.tape.Tape.{Tape}
 use Rattle.my_conn.specs.Conn.{ConnSeen}
 use Rattle.my_pool.specs.Fit.{MayWork}
 use Rattle.my_pool.specs.Stored.{Stored, StoredAt, IsStored, IsWhole}
@@ -36,12 +37,13 @@ working-place n s e = by-place (place_at n s) refl e
 
 module _ {L : Type 0} where
   -- another shelf, with no less room
-  pub whole-same : (start s : State) (shelf shelf' : Shelved (ConnSeen L)) (wakers : Called) (told : Option (List PoolEvent)) → IsWhole start s shelf wakers told → IsStored s shelf'.kept → shelf.room ≤ shelf'.room → IsWhole start s shelf' wakers told
-  whole-same start s shelf shelf' wakers told w stored more = record {
+  pub whole-same : (start s : State) (shelf shelf' : Shelved (ConnSeen L)) (wakers : Called) (told : Option (List PoolEvent)) (gone : Shelved Tape) → IsWhole start s shelf wakers told gone → IsStored s shelf'.kept → shelf.room ≤ shelf'.room → IsWhole start s shelf' wakers told gone
+  whole-same start s shelf shelf' wakers told gone w stored more = record {
     sound = w.sound;
     covered = w.covered;
     shelf_room = omega (arith, w.shelf_room, more);
     waker_room = w.waker_room;
+    gone_room = w.gone_room;
     stored = stored;
     called = w.called;
     called_once = w.called_once;

@@ -1,5 +1,5 @@
 -- What an exchange keeps after the events of a request.
-use Rattle.std.proofs.Common.{◌≡◌, ◌⊎◌, cond, ℕ, ◌≤◌, Bool, true, false, Option, Some, None, List, refl, sym, ap, ◌∙◌, arith, subst, inl, inr}
+use Rattle.std.proofs.Common.{◌≡◌, ◌⊎◌, cond, ℕ, ◌+◌, ◌≤◌, max, length, Bool, true, false, Option, Some, None, List, [], refl, sym, ap, ◌∙◌, arith, subst, inl, inr}
 use Rattle.std.specs.Prelude.{find, option_map, ◌==◌, if◌then◌else◌}
 use Rattle.std.specs.List.{list_all}
 use Rattle.std.proofs.lemmas.Bool.{eqb-true, eq-eqb}
@@ -8,6 +8,7 @@ use Rattle.my_pool_parts.specs.declared.connection.Place.TheVariants.{Connecting
 use Rattle.my_pool_parts.specs.declared.connection.Times.{Times}
 use Rattle.my_pool_parts.specs.Lists.{how_many, found_is}
 use Rattle.my_pool_parts.specs.Connections.{is_over}
+use Rattle.my_pool_parts.proofs.Finding.{count-le-length}
 use Rattle.my_pool_core.specs.declared.event.PollAnswer.{PollAnswer}
 use Rattle.my_pool_core.specs.declared.event.PollAnswer.TheVariants.{Wait, Take, Dial, Closed, Full}
 use Rattle.my_pool_core.specs.declared.event.PoolEvent.{PoolEvent}
@@ -18,7 +19,7 @@ use Rattle.my_pool_parts.specs.declared.request.Request.{Request}
 use Rattle.my_pool_parts.specs.Requests.{has_age, is_live}
 use Rattle.my_pool_core.specs.Moves.{IsMove, IsAging, MayReturn, PolledPlaces, CancelledPlaces, failed_token, polled_token}
 use Rattle.my_pool_core.specs.Owners.{Token, Free, Making, Looking, number_in, token, token_of, place_at, is_held_place}
-use Rattle.my_pool_core.specs.Sound.{IsSound, IsCovered}
+use Rattle.my_pool_core.specs.Sound.{IsSound, IsCovered, is_dialer}
 use Rattle.my_pool_core.specs.State.{State}
 use Rattle.my_pool_core.specs.Wakes.{waits}
 use Rattle.my_pool_core.proofs.Always.{sound-step, covered-step}
@@ -27,17 +28,23 @@ use Rattle.my_pool_core.proofs.Placed.Moves.{places-move}
 use Rattle.my_pool_core.proofs.Placed.Staying.{making-place, looking-place}
 use Rattle.my_pool_core.proofs.Asked.Tokens.{may-cancel, may-poll, may-settle, tokens-move}
 use Rattle.my_pool_core.proofs.Asked.Wakes.{waiting-are}
+use Rattle.my_client.specs.declared.tape.Tape.{Tape}
 use Rattle.my_conn.specs.Conn.{ConnSeen}
 use Rattle.my_pool.specs.Asks.{GivesFit, room_wanted}
 use Rattle.my_pool.specs.Fit.{IsFit, IsStill as IsStillConn}
+use Rattle.my_pool_store.specs.Leaving.{leaving}
 use Rattle.my_pool_store.specs.Noted.{IsNoted, Replays}
 use Rattle.my_pool_store.specs.Shelves.{Shelved, Entry, kept_at, left_by, taken_by, without_number}
 use Rattle.my_pool.specs.Stored.{Stored, IsStored, IsThere, IsWhole, IsResting}
 use Rattle.my_pool_store.specs.Woken.{Called, waiting}
 use Rattle.my_pool_store.proofs.Keeping.{out-there, out-others, out-once}
 use Rattle.my_pool_store.proofs.Calling.{filter-all, filter-fewer}
+use Rattle.my_pool_store.proofs.Leaving.{request-leaves}
 use Rattle.my_pool_store.proofs.Noting.{replays-on}
 use Rattle.my_pool.proofs.Wholes.{stored-moved, stored-still}
+
+at-least : (m n : ℕ) → n ≤ max m n
+at-least m n = omega arith
 
 -- room after a request is what is wanted
 pub request-room : (s : State) → room (request s) ≡ room_wanted s
@@ -139,19 +146,21 @@ module _ {L : Type 0} where
   cancel-stored age hold s kept h st e =
       cancelled-stored age hold s (cancel age s) kept h st e (subst (λ o. CancelledPlaces o s (cancel age s)) e (places-move s (events.Cancel age) h (may-cancel s age hold e)))
 
-  pub whole-request : (start s t : State) (shelf shelf' : Shelved (ConnSeen L)) (wakers wakers' wakers'' : Called) (told told' : Option (List PoolEvent))
-      → IsWhole start s shelf wakers told → t ≡ request s
+  pub whole-request : (start s t : State) (shelf shelf' : Shelved (ConnSeen L)) (wakers wakers' wakers'' : Called) (told told' : Option (List PoolEvent)) (gone gone' : Shelved Tape)
+      → IsWhole start s shelf wakers told gone → t ≡ request s
       → shelf'.kept ≡ shelf.kept → room_wanted s ≤ shelf'.room
       → wakers'.ages ≡ wakers.ages → room_wanted s ≤ wakers'.room
       → wakers''.ages ≡ waiting t wakers'.ages → wakers''.room ≡ wakers'.room → IsNoted told events.Request told'
-      → IsWhole start t shelf' wakers'' told'
-  whole-request start s t shelf shelf' wakers wakers' wakers'' told told' w at kept shelf_room ages waker_room called same noted =
+      → length gone'.kept + room_wanted s ≤ gone'.room
+      → IsWhole start t shelf' wakers'' told' gone'
+  whole-request start s t shelf shelf' wakers wakers' wakers'' told told' gone gone' w at kept shelf_room ages waker_room called same noted gone_room =
       let r : room t ≡ room_wanted s = ap room at ∙ request-room s in
       record {
         sound = subst IsSound (sym at) (sound-step s events.Request w.sound refl);
         covered = subst IsCovered (sym at) (covered-step s events.Request w.sound w.covered refl);
         shelf_room = omega (arith, r, shelf_room);
         waker_room = omega (arith, r, waker_room, same);
+        gone_room = omega (arith, gone_room, ap leaving at, request-leaves s, at-least s.spare (length s.requests + 1));
         stored = subst (λ es. IsStored t es) (sym kept) (subst (λ u. IsStored u shelf.kept) (sym at) (stored-still s (request s) shelf.kept w.stored (places-move s events.Request w.sound refl)));
         called = ap (list_all (λ a. waits a t)) called ∙ filter-all (λ a. waits a t) wakers'.ages;
         called_once = λ age. omega (arith, ap (how_many (λ a. a == age)) called, ap (how_many (λ a. a == age)) ages, filter-fewer (λ a. waits a t) (λ a. a == age) wakers'.ages, w.called_once age);
@@ -160,15 +169,32 @@ module _ {L : Type 0} where
 
   -- ---- room is made ----
 
-  pub whole-room : (start s : State) (shelf shelf' : Shelved (ConnSeen L)) (wakers wakers' : Called) (told : Option (List PoolEvent)) → IsWhole start s shelf wakers told → shelf'.kept ≡ shelf.kept → shelf.room ≤ shelf'.room → wakers'.ages ≡ wakers.ages → wakers.room ≤ wakers'.room → IsWhole start s shelf' wakers' told
-  whole-room start s shelf shelf' wakers wakers' told w kept more ages more' = record {
+  pub whole-room : (start s : State) (shelf shelf' : Shelved (ConnSeen L)) (wakers wakers' : Called) (told : Option (List PoolEvent)) (gone gone' : Shelved Tape) → IsWhole start s shelf wakers told gone → shelf'.kept ≡ shelf.kept → shelf.room ≤ shelf'.room → wakers'.ages ≡ wakers.ages → wakers.room ≤ wakers'.room
+      → gone'.kept ≡ gone.kept → gone.room ≤ gone'.room → IsWhole start s shelf' wakers' told gone'
+  whole-room start s shelf shelf' wakers wakers' told gone gone' w kept more ages more' tapes more'' = record {
     sound = w.sound;
     covered = w.covered;
     shelf_room = omega (arith, w.shelf_room, more);
     waker_room = omega (arith, w.waker_room, more');
+    gone_room = omega (arith, w.gone_room, ap length tapes, more'');
     stored = subst (λ es. IsStored s es) (sym kept) w.stored;
     called = ap (list_all (λ a. waits a s)) ages ∙ w.called;
     called_once = λ age. omega (arith, ap (how_many (λ a. a == age)) ages, w.called_once age);
+    replayed = w.replayed;
+  }
+
+  -- ---- the tapes are taken ----
+
+  pub whole-taken : (start s : State) (shelf : Shelved (ConnSeen L)) (wakers : Called) (told : Option (List PoolEvent)) (gone gone' : Shelved Tape) → IsWhole start s shelf wakers told gone → gone'.kept ≡ [] → room_wanted s ≤ gone'.room → IsWhole start s shelf wakers told gone'
+  whole-taken start s shelf wakers told gone gone' w none more = record {
+    sound = w.sound;
+    covered = w.covered;
+    shelf_room = w.shelf_room;
+    waker_room = w.waker_room;
+    gone_room = omega (arith, ap length none, more, count-le-length is_dialer s.requests, at-least s.spare (length s.requests + 1));
+    stored = w.stored;
+    called = w.called;
+    called_once = w.called_once;
     replayed = w.replayed;
   }
 

@@ -27,12 +27,15 @@ use Rattle.my_pool_core.proofs.Placed.Counts.{room-stays}
 use Rattle.my_pool_core.proofs.Placed.Moves.{places-move}
 use Rattle.my_conn.specs.Conn.{ConnSeen}
 use Rattle.my_pool.specs.Fit.{IsStill as IsStillConn}
+use Rattle.my_client.specs.declared.tape.Tape.{Tape}
+use Rattle.my_pool_store.specs.Leaving.{leaving}
 use Rattle.my_pool_store.specs.Noted.{Leads, IsNoted, Replays}
 use Rattle.my_pool_store.specs.Shelves.{Shelved, Entry, entry, has, kept_at}
 use Rattle.my_pool.specs.Stored.{Stored, IsStored, IsWhole, IsFresh}
 use Rattle.my_pool_store.specs.Woken.{Called, waiting}
 use Rattle.my_pool_store.proofs.Calling.{filter-all, filter-fewer}
 use Rattle.my_pool_store.proofs.Keeping.{put-there, put-others, put-once, few-kept, none-kept}
+use Rattle.my_pool_store.proofs.Leaving.{leaving-stays}
 use Rattle.my_pool_store.proofs.Noting.{replays-on}
 
 -- ---- any event ----
@@ -46,36 +49,54 @@ fresh-replays start s None at e = tt
 fresh-replays start s (Some es) at e = subst (λ l. Leads start l s) (sym e) (record { all = tt; end = sym at })
 
 module _ {L : Type 0} where
-  -- with these wakers after it
-  pub whole-event : (start s t : State) (e : PoolEvent) (shelf shelf' : Shelved (ConnSeen L)) (wakers wakers' : Called) (told told' : Option (List PoolEvent))
-      → IsWhole start s shelf wakers told → may s e ≡ true → t ≡ step s e → (e ≡ events.Request → ⊥)
+  -- with these wakers and tapes after it
+  pub whole-event : (start s t : State) (e : PoolEvent) (shelf shelf' : Shelved (ConnSeen L)) (wakers wakers' : Called) (told told' : Option (List PoolEvent)) (gone gone' : Shelved Tape)
+      → IsWhole start s shelf wakers told gone → may s e ≡ true → t ≡ step s e → (e ≡ events.Request → ⊥)
       → IsStored t shelf'.kept → shelf.room ≤ shelf'.room
       → list_all (λ a. waits a t) wakers'.ages ≡ true → ((age : ℕ) → how_many (λ a. a == age) wakers'.ages ≤ 1) → wakers.room ≤ wakers'.room → IsNoted told e told'
-      → IsWhole start t shelf' wakers' told'
-  whole-event start s t e shelf shelf' wakers wakers' told told' w m at plain stored more called once more' noted =
+      → length gone'.kept + leaving t ≤ gone'.room
+      → IsWhole start t shelf' wakers' told' gone'
+  whole-event start s t e shelf shelf' wakers wakers' told told' gone gone' w m at plain stored more called once more' noted fits =
       let same : room t ≡ room s = ap room at ∙ room-stays s e w.sound m plain in
       record {
         sound = subst IsSound (sym at) (sound-step s e w.sound m);
         covered = subst IsCovered (sym at) (covered-step s e w.sound w.covered m);
         shelf_room = omega (arith, w.shelf_room, same, more);
         waker_room = omega (arith, w.waker_room, same, more');
+        gone_room = fits;
         stored = stored;
         called = called;
         called_once = once;
         replayed = subst (λ u. Replays start told' u) (sym at) (replays-on start s e told told' w.replayed m noted);
       }
 
+  -- the tapes of earlier connections have their room
+  pub still-fits : (start s t : State) (e : PoolEvent) (shelf : Shelved (ConnSeen L)) (wakers : Called) (told : Option (List PoolEvent)) (gone : Shelved Tape)
+      → IsWhole start s shelf wakers told gone → may s e ≡ true → t ≡ step s e → (e ≡ events.Request → ⊥) → length gone.kept + leaving t ≤ gone.room
+  still-fits start s t e shelf wakers told gone w m at plain = omega (arith, w.gone_room, ap leaving at, leaving-stays s e w.sound m plain)
+
   -- where the wakers are those of whoever waits still
-  pub whole-step : (start s t : State) (e : PoolEvent) (shelf shelf' : Shelved (ConnSeen L)) (wakers wakers' : Called) (told told' : Option (List PoolEvent))
-      → IsWhole start s shelf wakers told → may s e ≡ true → t ≡ step s e → (e ≡ events.Request → ⊥)
+  pub whole-went : (start s t : State) (e : PoolEvent) (shelf shelf' : Shelved (ConnSeen L)) (wakers wakers' : Called) (told told' : Option (List PoolEvent)) (gone gone' : Shelved Tape)
+      → IsWhole start s shelf wakers told gone → may s e ≡ true → t ≡ step s e → (e ≡ events.Request → ⊥)
       → IsStored t shelf'.kept → shelf.room ≤ shelf'.room
       → wakers'.ages ≡ waiting t wakers.ages → wakers'.room ≡ wakers.room → IsNoted told e told'
-      → IsWhole start t shelf' wakers' told'
-  whole-step start s t e shelf shelf' wakers wakers' told told' w m at plain stored more ages same noted =
-      whole-event start s t e shelf shelf' wakers wakers' told told' w m at plain stored more
+      → length gone'.kept + leaving t ≤ gone'.room
+      → IsWhole start t shelf' wakers' told' gone'
+  whole-went start s t e shelf shelf' wakers wakers' told told' gone gone' w m at plain stored more ages same noted fits =
+      whole-event start s t e shelf shelf' wakers wakers' told told' gone gone' w m at plain stored more
       (ap (list_all (λ a. waits a t)) ages ∙ filter-all (λ a. waits a t) wakers.ages)
       (λ age. omega (arith, ap (how_many (λ a. a == age)) ages, filter-fewer (λ a. waits a t) (λ a. a == age) wakers.ages, w.called_once age))
-      (omega (arith, same)) noted
+      (omega (arith, same)) noted fits
+
+  -- and no connection goes that has a tape
+  pub whole-step : (start s t : State) (e : PoolEvent) (shelf shelf' : Shelved (ConnSeen L)) (wakers wakers' : Called) (told told' : Option (List PoolEvent)) (gone : Shelved Tape)
+      → IsWhole start s shelf wakers told gone → may s e ≡ true → t ≡ step s e → (e ≡ events.Request → ⊥)
+      → IsStored t shelf'.kept → shelf.room ≤ shelf'.room
+      → wakers'.ages ≡ waiting t wakers.ages → wakers'.room ≡ wakers.room → IsNoted told e told'
+      → IsWhole start t shelf' wakers' told' gone
+  whole-step start s t e shelf shelf' wakers wakers' told told' gone w m at plain stored more ages same noted =
+      whole-went start s t e shelf shelf' wakers wakers' told told' gone gone w m at plain stored more ages same noted
+      (still-fits start s t e shelf wakers told gone w m at plain)
 
   -- ---- where the connections are ----
 
@@ -163,14 +184,15 @@ module _ {L : Type 0} where
 
   -- ---- a new pool ----
 
-  pub new-whole : (limits : Limits) (first : ℕ) (s : State) (shelf : Shelved (ConnSeen L)) (wakers : Called) (told : Option (List PoolEvent)) → first ≤ last_age → s ≡ new_pool limits first → shelf.kept ≡ [] → wakers.ages ≡ [] → IsFresh told → IsWhole (new_pool limits first) s shelf wakers told
-  new-whole limits first s shelf wakers told le at kept ages empty =
+  pub new-whole : (limits : Limits) (first : ℕ) (s : State) (shelf : Shelved (ConnSeen L)) (wakers : Called) (told : Option (List PoolEvent)) (gone : Shelved Tape) → first ≤ last_age → s ≡ new_pool limits first → shelf.kept ≡ [] → wakers.ages ≡ [] → IsFresh told → gone.kept ≡ [] → IsWhole (new_pool limits first) s shelf wakers told gone
+  new-whole limits first s shelf wakers told gone le at kept ages empty none_gone =
       let none : room s ≡ 0 = ap room at in
       record {
         sound = subst IsSound (sym at) (sound-new limits first le);
         covered = subst IsCovered (sym at) (covered-new limits first);
         shelf_room = omega (arith, none);
         waker_room = omega (arith, none);
+        gone_room = omega (arith, ap leaving at, ap length none_gone);
         stored = record {
           each = λ n. subst (λ (t : State). Stored (place_at n t) (kept_at n shelf.kept)) (sym at) (subst (λ (es : List (Entry (ConnSeen L))). kept_at n es ≡ None) (sym kept) refl);
           once = λ n. omega (arith, ap (how_many (has n)) kept);

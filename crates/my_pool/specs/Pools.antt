@@ -6,13 +6,15 @@ use Rattle.my_pool_parts.specs.declared.connection.Place.{Place}
 use Rattle.my_pool_parts.specs.declared.connection.Place.TheVariants.{Resetting}
 use Rattle.my_pool_core.specs.declared.event.Answer.{Answer}
 use Rattle.my_pool_core.specs.declared.event.PoolEvent.{PoolEvent}
+use Rattle.my_pool_core.specs.declared.event.Verdict.{Verdict}
 use Rattle.my_pool_core.specs.Moves.{is_ending_place}
 use Rattle.my_pool_core.specs.Owners.{place_at}
 use Rattle.my_pool_core.specs.State.{State}
 use Rattle.my_pool_core.specs.Steps.{may, step, answer}
 use Rattle.my_pool_store.specs.Noted.{IsNoted}
-use Rattle.my_pool_store.specs.Shelves.{Entry, kept_at, without_number}
+use Rattle.my_pool_store.specs.Shelves.{Entry, kept_at, numbered, rest_by, with_left, without_number}
 use Rattle.my_pool_store.specs.Woken.{waiting}
+use Rattle.my_client.specs.declared.tape.Tape.{Tape}
 use Rattle.my_opts.specs.Opts.{OptsView}
 use Rattle.my_conn.specs.Conn.{ConnSeen}
 use Rattle.my_pool.specs.Fit.{IsFit, IsStill, MayWork}
@@ -22,23 +24,39 @@ abbrev pub ConnEntry : Type 0 → Type 0
 ConnEntry L = Entry (ConnSeen L)
 
 -- the core's state; the kept connections; the ages of the requests whose wakers are kept; the events so far, where the
--- journal keeps them; the state of the new pool; and the options of its connections
+-- journal keeps them; the tapes of the connections that are gone, by their numbers, in the order in which they went;
+-- the state of the new pool; and the options of its connections
 pub record Pool (L : Type 0) : Type 0 where
   pub state : State
   pub kept : List (ConnEntry L)
   pub ages : List ℕ
   pub told : Option (List PoolEvent)
+  pub gone : List (Entry Tape)
   pub start : State
   pub opts : OptsView
 
--- One event of the core, with this answer, and nothing else of it.
-pub record Made {L : Type 0} (e : PoolEvent) (a : Answer) (p q : Pool L) : Type 0 where
+-- One event of the core, with this answer, and nothing else of it. Of a connection this tape is left, or none.
+pub record MadeWith {L : Type 0} (left : Option (ℕ × Tape)) (e : PoolEvent) (a : Answer) (p q : Pool L) : Type 0 where
   pub allowed : may p.state e ≡ true
   pub state : q.state ≡ step p.state e
   pub answered : a ≡ answer p.state e
   pub noted : IsNoted p.told e q.told
+  pub gone : q.gone ≡ with_left left p.gone
   pub start : q.start ≡ p.start
   pub opts : q.opts ≡ p.opts
+
+-- no connection goes that has a tape
+abbrev pub Made : {L : Type 0} → PoolEvent → Answer → Pool L → Pool L → Type 0
+Made e a p q = MadeWith None e a p q
+
+-- the tape of a connection that goes
+abbrev pub tape_of : {L : Type 0} → Option (ConnSeen L) → Option Tape
+tape_of None = None
+tape_of (Some c) = c.tape
+
+-- what a verdict leaves of a connection: the tape of one that is counted no more
+abbrev pub left_of : {L : Type 0} → Verdict → ConnEntry L → Option (ℕ × Tape)
+left_of verdict e = numbered e.number (tape_of (rest_by verdict e.conn))
 
 -- Who no longer waits was called, and nobody else: the wakers of those that wait still are kept.
 abbrev pub IsCalled : {L : Type 0} → Pool L → Pool L → Type 0
@@ -49,6 +67,7 @@ pub record Same {L : Type 0} (p q : Pool L) : Type 0 where
   pub state : q.state ≡ p.state
   pub told : q.told ≡ p.told
   pub ages : q.ages ≡ p.ages
+  pub gone : q.gone ≡ p.gone
   pub start : q.start ≡ p.start
   pub opts : q.opts ≡ p.opts
 

@@ -1,5 +1,5 @@
 -- Which connections an exchange keeps, by their places, and what holds of it.
-use Rattle.std.specs.Prelude.{◌≡◌, ◌==◌, ℕ, ◌≤◌, true, Option, Some, None, List, []}
+use Rattle.std.specs.Prelude.{◌≡◌, ◌==◌, ℕ, ◌+◌, ◌≤◌, true, Option, Some, None, List, [], length}
 use Rattle.std.specs.List.{list_all}
 use Rattle.my_pool_parts.specs.declared.connection.Place.{Place}
 use Rattle.my_pool_parts.specs.declared.connection.Place.TheVariants.{Idle, Leased, Connecting, Checking, Returned, Cleaning, Resetting, Closing}
@@ -11,9 +11,11 @@ use Rattle.my_pool_core.specs.Owners.{place_at}
 use Rattle.my_pool_core.specs.State.{State}
 use Rattle.my_pool_core.specs.Sound.{IsSound, IsCovered}
 use Rattle.my_pool_core.specs.Wakes.{waits}
+use Rattle.my_pool_store.specs.Leaving.{leaving}
 use Rattle.my_pool_store.specs.Noted.{Replays}
 use Rattle.my_pool_store.specs.Shelves.{Shelved, Entry, has, kept_at}
 use Rattle.my_pool_store.specs.Woken.{Called}
+use Rattle.my_client.specs.declared.tape.Tape.{Tape}
 use Rattle.my_conn.specs.Conn.{ConnSeen}
 use Rattle.my_pool.specs.Fit.{IsFit, IsStill, MayWork, times_at}
 
@@ -55,15 +57,16 @@ pub record IsStored {L : Type 0} (s : State) (kept : List (Entry (ConnSeen L))) 
   pub each : (n : ℕ) → Stored (place_at n s) (kept_at n kept)
   pub once : (n : ℕ) → how_many (has n) kept ≤ 1
 
--- What holds of an exchange: its core is sound and covered; there is room for its connections and wakers; each connection is
--- kept as its place says; a waker is kept for requests that wait alone, once for each; and what its journal tells leads to
--- the core's state.
+-- What holds of an exchange: its core is sound and covered; there is room for its connections and wakers, and for the
+-- tapes of all connections that may go; each connection is kept as its place says; a waker is kept for requests that wait
+-- alone, once for each; and what its journal tells leads to the core's state.
 pub record IsWhole {L : Type 0} (start s : State) (shelf : Shelved (ConnSeen L)) (wakers : Called)
-    (told : Option (List PoolEvent)) : Type 0 where
+    (told : Option (List PoolEvent)) (gone : Shelved Tape) : Type 0 where
   pub sound : IsSound s
   pub covered : IsCovered s
   pub shelf_room : room s ≤ shelf.room
   pub waker_room : room s ≤ wakers.room
+  pub gone_room : length gone.kept + leaving s ≤ gone.room
   pub stored : IsStored s shelf.kept
   pub called : list_all (λ a. waits a s) wakers.ages ≡ true
   pub called_once : (age : ℕ) → how_many (λ a. a == age) wakers.ages ≤ 1

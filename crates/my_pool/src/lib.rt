@@ -4,6 +4,7 @@
 
 mod exchange;
 mod facts;
+pub mod laws;
 mod out;
 
 pub use exchange::Exchange;

@@ -1,2 +1,4 @@
 pub mod Seeking
 pub mod Checking
+pub mod Outside
+pub mod Being

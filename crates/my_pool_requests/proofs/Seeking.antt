@@ -1,8 +1,9 @@
 -- What a check, a dial and an answer come to, and what they leave.
 use Rattle.std.proofs.Common.{◌≡◌, ℕ, ◌<◌, ◌≤◌, suc, Bool, false, Option, Some, None, refl, sym, ap, ◌∙◌, subst, arith}
-use Rattle.std.specs.Prelude.{◌==◌, ◌&&◌}
+use Rattle.std.specs.Prelude.{◌==◌, ◌&&◌, IfSome}
 use Rattle.my_frame.specs.Lists.{without}
 use Rattle.my_link.specs.Looks.{Looks}
+use Rattle.my_client.specs.declared.tape.Tape.{Tape}
 use Rattle.my_conn.specs.Conn.{ConnSeen}
 use Rattle.my_pool_parts.specs.Connections.{has_number, is_idle}
 use Rattle.my_pool_parts.proofs.Finding.{count-without-le}
@@ -11,19 +12,19 @@ use Rattle.my_pool_core.specs.declared.event.PollAnswer.{PollAnswer}
 use Rattle.my_pool_core.specs.declared.event.PollAnswer.TheVariants.{Wait, Take, Dial, Closed, Full}
 use Rattle.my_pool_core.specs.declared.event.PoolEvent.TheVariants as events
 use Rattle.my_pool_core.specs.Counted.{idle}
-use Rattle.my_pool_core.specs.Owners.{Free, token}
+use Rattle.my_pool_core.specs.Owners.{Token, Free, Making, Looking, number_in, token}
 use Rattle.my_pool_core.specs.State.{State}
 use Rattle.my_pool_core.specs.Steps.{step}
-use Rattle.my_pool_store.specs.Shelves.{left_by, taken_by}
+use Rattle.my_pool_store.specs.Shelves.{left_by, numbered, taken_by}
 use Rattle.my_pool_store.specs.Woken.{kept_for, waiting}
-use Rattle.my_pool.specs.Asks.{TakesOneLess, is_wait}
+use Rattle.my_pool.specs.Asks.{IsHolding, TakesOneLess, is_wait}
 use Rattle.my_pool.specs.Fit.{IsFit}
 use Rattle.my_pool.specs.Pools.{Made as IsMade, Pool}
-use Rattle.my_pool_requests.specs.declared.making.Made.{Made}
-use Rattle.my_pool_requests.specs.declared.making.Made.TheVariants as makings
 use Rattle.my_pool_requests.specs.Looks.{AnsweredBy, Fruitless, PollsOnce, Round, SeekLeaves, Untaken}
-use Rattle.my_pool_requests.specs.Makes.{JudgedBy, MadeFits}
 use Rattle.my_pool_requests.specs.Settles.{handed_out}
+use Rattle.my_pool_requests.specs.declared.request.Stage.{Stage}
+use Rattle.my_pool_requests.specs.declared.request.Stage.TheVariants as stages
+use Rattle.my_pool_requests.specs.Stages.{left_in, token_in}
 
 -- ---- one that isn't good ----
 
@@ -37,11 +38,18 @@ module _ {L : Type 0} where
   pub handed-fit : (c d : ConnSeen L) → d ≡ handed_out c → IsFit c → IsFit d
   handed-fit c d e fit = subst IsFit (sym e) (record { alive = fit.alive; clean = fit.clean; still = fit.still })
 
-  pub judged-fits : (c : ConnSeen L) (made : Made L) → JudgedBy c made → MadeFits made
-  judged-fits c makings.Undialed j = tt
-  judged-fits c (makings.Pending d) j = tt
-  judged-fits c (makings.Good d) j = subst IsFit (sym j.0) j.1
-  judged-fits c (makings.Failed e) j = tt
+  -- ---- a request that is given up ----
+
+  tape-holds : (age n : ℕ) (has : Token) (o : Option Tape) (p : Pool L) → token age p.state ≡ Some has → number_in has ≡ Some n → IfSome (numbered n o) (λ l. IsHolding age l.0 p)
+  tape-holds age n has None p held is = tt
+  tape-holds age n has (Some t) p held is = record { has = has; held = held; number = is }
+
+  -- what it leaves is of the connection that it has
+  pub left-holds : (age : ℕ) (stage : Stage L) (p : Pool L) → token age p.state ≡ Some (token_in stage) → IfSome (left_in stage) (λ l. IsHolding age l.0 p)
+  left-holds age stages.Free p e = tt
+  left-holds age (stages.Dials n) p e = tt
+  left-holds age (stages.Makes n c) p e = tape-holds age n (Making n) c.tape p e refl
+  left-holds age (stages.Looks n c) p e = tape-holds age n (Looking n) c.tape p e refl
 
   -- ---- a request that is polled on, as long as what it took isn't good ----
 

@@ -1,3 +1,4 @@
+pub mod Being
 pub mod Stages
 pub mod Settles
 pub mod Makes

@@ -16,7 +16,7 @@ use Rattle.my_pool_core.specs.declared.event.PollAnswer.TheVariants.{Wait, Take,
 use Rattle.my_pool_core.specs.declared.event.PoolEvent.TheVariants as events
 use Rattle.my_pool_core.specs.Counted.{idle}
 use Rattle.my_pool_core.specs.Owners.{Free, Making, token}
-use Rattle.my_pool_store.specs.Shelves.{left_by, taken_by}
+use Rattle.my_pool_store.specs.Shelves.{left_by, numbered, taken_by}
 use Rattle.my_pool_store.specs.Woken.{kept_for, waiting}
 use Rattle.my_pool.specs.Asks.{is_wait}
 use Rattle.my_pool.specs.Pools.{Made, Pool}
@@ -25,18 +25,18 @@ use Rattle.my_pool_requests.specs.declared.looks.Sought.TheVariants as soughts
 use Rattle.my_pool_requests.specs.declared.request.AskTurn.{AskTurn}
 use Rattle.my_pool_requests.specs.declared.request.AskTurn.TheVariants as turns
 use Rattle.my_pool_requests.specs.declared.request.Stage.TheVariants as stages
-use Rattle.my_pool_requests.specs.Settles.{FitsIn, LeasedBy, Settles}
+use Rattle.my_pool_requests.specs.Settles.{FitsIn, LeasedBy, SettlesWith}
 use Rattle.my_pool_requests.specs.Stages.{asked}
 
 -- ---- a look at an idle connection ----
 
 -- One that is alive is leased. Where the check isn't ready, no event happens, and the next poll looks again. One that is
--- dead, or whose check failed, isn't good, and the request has none again.
+-- dead, or whose check failed, isn't good, and the request has none again; its tape is left.
 abbrev pub LookedBy : {L : Type 0} → ℕ → ℕ → ConnSeen L → CheckStep → Pool L → Pool L → Option (AskTurn L) → Type 0
 LookedBy {L} age n c checks.Alive p q turn = (held : AskTurn L) × LeasedBy age n c p q held × (turn ≡ Some held)
 LookedBy age n c checks.NotYet p q turn = (q ≡ p) × (turn ≡ Some (turns.Pending (asked age (stages.Looks n c))))
-LookedBy age n c checks.Dead p q turn = Settles (events.Failed age n) p q × (turn ≡ None)
-LookedBy age n c checks.Failed p q turn = Settles (events.Failed age n) p q × (turn ≡ None)
+LookedBy age n c checks.Dead p q turn = SettlesWith (numbered n c.tape) (events.Failed age n) p q × (turn ≡ None)
+LookedBy age n c checks.Failed p q turn = SettlesWith (numbered n c.tape) (events.Failed age n) p q × (turn ≡ None)
 
 -- a connection that a request took was checked
 pub record LooksOn {L : Type 0} (look : L → Looks) (age n : ℕ) (c : ConnSeen L) (p q : Pool L)

@@ -15,19 +15,19 @@ use Rattle.my_opts_parts.specs.Pool.{deadline_of}
 use Rattle.my_reading.specs.declared.error.Error.{Error}
 use Rattle.my_reading.specs.declared.error.Error.TheVariants as errors
 use Rattle.my_reading.specs.declared.error.IoKind.TheVariants.{Dial}
-use Rattle.my_reading.specs.Errors.{connection_closed, io_error}
+use Rattle.my_reading.specs.Errors.{io_error}
 use Rattle.my_session.specs.Login.{login_of}
 use Rattle.my_session.specs.View.{first_lifetime}
 use Rattle.my_client.specs.Kept.{first_asked, first_kept}
 use Rattle.my_line.specs.Makes.{ConnectsFor}
 use Rattle.my_line.specs.declared.texts.Making.TheVariants.{Shakes}
-use Rattle.my_conn.specs.Conn.{ConnSeen}
 use Rattle.my_conn.specs.Connected.{ConnectIs}
 use Rattle.my_conn.specs.Connects.{ConnectSeen}
 use Rattle.my_conn.specs.News.{first_fixed}
 use Rattle.my_conn.specs.declared.connecting.Connected.{Connected}
 use Rattle.my_conn.specs.declared.connecting.Connected.TheVariants as connecteds
 use Rattle.my_pool.specs.Fit.{IsFit}
+use Rattle.my_pool_requests.specs.Being.{IsBeingMade}
 use Rattle.my_pool_requests.specs.declared.making.Made.{Made}
 use Rattle.my_pool_requests.specs.declared.making.Made.TheVariants as makings
 use Rattle.my_pool_requests.specs.declared.request.Moment.{Moment}
@@ -70,17 +70,10 @@ TriesDial look n old new (Err e) = new ≡ old
 
 -- ---- a connect call ----
 
--- a connection that was made is good exactly where it is fit
-abbrev pub JudgedBy : {L : Type 0} → ConnSeen L → Made L → Type 0
-JudgedBy c makings.Undialed = ⊥
-JudgedBy c (makings.Pending d) = ⊥
-JudgedBy c (makings.Good d) = (d ≡ c) × IsFit c
-JudgedBy c (makings.Failed e) = (e ≡ connection_closed) × (IsFit c → ⊥)
-
 abbrev pub MadeBy : {L : Type 0} → Connected L → Made L → Type 0
 MadeBy (connecteds.Pending c) made = made ≡ makings.Pending c
-MadeBy (connecteds.Made c) made = JudgedBy c made
-MadeBy (connecteds.Failed left) made = made ≡ makings.Failed left.error
+MadeBy (connecteds.Made c) made = made ≡ makings.Good c
+MadeBy (connecteds.Failed left) made = made ≡ makings.Failed left.error left.tape
 
 -- one poll of it
 pub record MakesOn {L : Type 0} (look : L → Looks) (texts : Texts) (now : ℕ) (c : ConnectSeen L) (made : Made L)
@@ -105,7 +98,7 @@ abbrev pub BegunBy : {L : Type 0} → (L → Looks) → (L → Bool) → Texts �
     → Made L → Type 0
 BegunBy look socket texts opts moment link (Some c) made =
     Begins socket opts moment link c × MakesOn look texts moment.now c made
-BegunBy look socket texts opts moment link None made = made ≡ makings.Failed errors.NoMemory
+BegunBy look socket texts opts moment link None made = made ≡ makings.Failed errors.NoMemory None
 
 -- a connection is made over a link
 pub record ConnectsOver {L : Type 0} (look : L → Looks) (socket : L → Bool) (texts : Texts) (opts : OptsView)
@@ -120,8 +113,8 @@ abbrev pub DialedBy : {L O : Type 0} → Outside L O → OptsView → Moment →
 DialedBy out opts moment mid new (Ok (dials.Link link)) made =
     ConnectsOver out.look out.socket (out.texts mid) opts moment link made × (out.texts new ≡ out.texts mid)
 DialedBy out opts moment mid new (Ok dials.NotYet) made = (made ≡ makings.Undialed) × (new ≡ mid)
-DialedBy out opts moment mid new (Ok dials.Failed) made = (made ≡ makings.Failed undialed) × (new ≡ mid)
-DialedBy out opts moment mid new (Err e) made = (made ≡ makings.Failed errors.NoMemory) × (new ≡ mid)
+DialedBy out opts moment mid new (Ok dials.Failed) made = (made ≡ makings.Failed undialed None) × (new ≡ mid)
+DialedBy out opts moment mid new (Err e) made = (made ≡ makings.Failed errors.NoMemory None) × (new ≡ mid)
 
 -- the link of a number is dialed, and a connection is made over it
 pub record DialsOn {L O : Type 0} (out : Outside L O) (opts : OptsView) (moment : Moment) (n : ℕ) (old new : O)
@@ -131,9 +124,9 @@ pub record DialsOn {L O : Type 0} (out : Outside L O) (opts : OptsView) (moment 
   pub tried : TriesDial out.look n (out.seen old) (out.seen mid) dialed
   pub comes : DialedBy out opts moment mid new dialed made
 
--- a connection that is good is fit
+-- a connection that isn't made yet did nothing but what makes one, and one that is good is fit
 abbrev pub MadeFits : {L : Type 0} → Made L → Type 0
 MadeFits makings.Undialed = Unit {0}
-MadeFits (makings.Pending c) = Unit {0}
+MadeFits (makings.Pending c) = IsBeingMade c
 MadeFits (makings.Good c) = IsFit c
-MadeFits (makings.Failed e) = Unit {0}
+MadeFits (makings.Failed e tape) = Unit {0}

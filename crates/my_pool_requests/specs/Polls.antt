@@ -7,7 +7,7 @@ use Rattle.my_conn.specs.Connects.{ConnectSeen}
 use Rattle.my_pool_core.specs.declared.event.Answer.TheVariants as answers
 use Rattle.my_pool_core.specs.declared.event.PoolEvent.TheVariants as events
 use Rattle.my_pool_store.specs.Woken.{waiting}
-use Rattle.my_pool.specs.Pools.{Made, Pool}
+use Rattle.my_pool.specs.Pools.{MadeWith, Pool}
 use Rattle.my_pool_requests.specs.declared.looks.Sought.{Sought}
 use Rattle.my_pool_requests.specs.declared.looks.Sought.TheVariants as soughts
 use Rattle.my_pool_requests.specs.declared.making.Made.{Made as Making}
@@ -18,7 +18,7 @@ use Rattle.my_pool_requests.specs.declared.request.Stage.TheVariants as stages
 use Rattle.my_pool_requests.specs.Looks.{LooksOn, Seeks}
 use Rattle.my_pool_requests.specs.Makes.{DialsOn, MakesOn, Outside}
 use Rattle.my_pool_requests.specs.Settles.{SettledBy}
-use Rattle.my_pool_requests.specs.Stages.{Asked}
+use Rattle.my_pool_requests.specs.Stages.{Asked, left_in}
 
 -- its connect call is polled, and what that comes to is told
 pub record MakesIt {L : Type 0} (look : L → Looks) (texts : Texts) (now age n : ℕ) (c : ConnectSeen L) (p q : Pool L)
@@ -68,8 +68,8 @@ abbrev pub PollsAsk : {L O : Type 0} → Outside L O → Moment → Bool → Ask
     → Type 0
 PollsAsk out moment wakes a old new p q turn = PollsBy out moment wakes a.age a.stage old new p q turn
 
--- A request is given up: one event. Its own waker isn't called.
-pub record Cancels {L : Type 0} (age : ℕ) (p q : Pool L) : Type 0 where
-  pub made : Made (events.Cancel age) answers.Done p q
-  pub called : q.ages ≡ waiting q.state (without (λ a. a == age) p.ages)
+-- A request is given up: one event. Its own waker isn't called; the tape of its connection is left, where it has one.
+pub record Cancels {L : Type 0} (a : Asked L) (p q : Pool L) : Type 0 where
+  pub made : MadeWith (left_in a.stage) (events.Cancel a.age) answers.Done p q
+  pub called : q.ages ≡ waiting q.state (without (λ age. age == a.age) p.ages)
   pub kept : q.kept ≡ p.kept

@@ -1,7 +1,10 @@
 -- What contracts see of a request.
-use Rattle.std.specs.Prelude.{ℕ}
+use Rattle.std.specs.Prelude.{ℕ, Option, None}
+use Rattle.my_client.specs.declared.tape.Tape.{Tape}
 use Rattle.my_pool_core.specs.Owners.{Token, Free, Making, Looking}
+use Rattle.my_pool_store.specs.Shelves.{numbered}
 use Rattle.my_pool.specs.Fit.{IsFit}
+use Rattle.my_pool_requests.specs.Being.{IsBeingMade}
 use Rattle.my_pool_requests.specs.declared.request.Stage.{Stage}
 use Rattle.my_pool_requests.specs.declared.request.Stage.TheVariants as stages
 
@@ -20,9 +23,16 @@ token_in (stages.Dials n) = Making n
 token_in (stages.Makes n making) = Making n
 token_in (stages.Looks n conn) = Looking n
 
--- the idle connection that it looks at is fit
+-- what is left of its connection where it is given up: its tape
+abbrev pub left_in : {L : Type 0} → Stage L → Option (ℕ × Tape)
+left_in stages.Free = None
+left_in (stages.Dials n) = None
+left_in (stages.Makes n making) = numbered n making.tape
+left_in (stages.Looks n conn) = numbered n conn.tape
+
+-- a connection that it makes did nothing else yet, and an idle one that it looks at is fit
 abbrev pub IsReady : {L : Type 0} → Stage L → Type 0
 IsReady stages.Free = Unit {0}
 IsReady (stages.Dials n) = Unit {0}
-IsReady (stages.Makes n making) = Unit {0}
+IsReady (stages.Makes n making) = IsBeingMade making
 IsReady (stages.Looks n conn) = IsFit conn

@@ -6,6 +6,7 @@ ghost use Rattle.my_pool_core.specs.declared.event.PoolEvent.TheVariants as even
 ghost use Rattle.my_pool_core.specs.Owners.{Free, Making, token};
 ghost use Rattle.my_pool.specs.Pools.{IsCalled, Made};
 ghost use Rattle.my_pool_requests.specs.declared.request.Stage.TheVariants as stages;
+ghost use Rattle.my_pool_requests.specs.Being.{IsBeingMade};
 ghost use Rattle.my_pool_requests.specs.Makes.{outside};
 ghost use Rattle.my_pool_requests.specs.Polls.{Cancels, DialsIt, MakesIt, PollsAsk, PollsFree};
 ghost use Rattle.my_pool_requests.specs.Settles.{FitsIn, IsAsking};
@@ -41,14 +42,13 @@ pub fn ask<L: Drop, J: Journal, W: Wake>(
     }
 }
 
-/// A request is given up, and its connection let go, where it has one. Its own waker isn't called.
+/// A request is given up, and its connection let go, where it has one; its tape is kept. Its own waker isn't called.
 pub fn cancel_ask<L: Drop, J: Journal, W: Wake>(pool: &mut Exchange<L, J, W>, asking: Asking<L>)
     requires { IsAsking asking pool.old }
-    ensures { Cancels asking.age pool.old pool.new }
+    ensures { Cancels asking pool.old pool.new }
 {
     let Asking { age, stage } = asking;
-    drop(stage);
-    pool.cancel(age);
+    pool.cancel(age, stage.let_go());
 }
 
 // The making of its connection goes on.
@@ -61,7 +61,8 @@ fn poll_making<L: Link + Drop, A: Aid, J: Journal, W: Wake>(
     aid: &mut A,
     now: u64,
 ) -> AskTurn<L>
-    requires { token age pool.old.state ≡ Some (Making number) }
+    requires holds { token age pool.old.state ≡ Some (Making number) }
+    requires being { IsBeingMade making }
     ensures makes { MakesIt L.looks (A.texts aid.old) now age number making pool.old pool.new result }
     ensures fits { FitsIn result pool.new }
     ensures texts { A.texts aid.new ≡ A.texts aid.old }

@@ -9,7 +9,8 @@ ghost use Rattle.my_pool.specs.Asks.{GivesFit};
 ghost use Rattle.my_pool.specs.Fit.{IsFit};
 ghost use Rattle.my_pool_requests.specs.Looks.{AnsweredBy, LookLeaves, LooksOn, SeekLeaves, Seeks, SoughtFits};
 ghost use Rattle.my_pool_requests.specs.Looks.{UntakenBy, is_take};
-ghost use Rattle.my_pool_requests.specs.Settles.{Settles};
+ghost use Rattle.my_pool_requests.specs.Settles.{SettlesWith};
+ghost use Rattle.my_pool_store.specs.Shelves.{numbered};
 
 use crate::request::{AskTurn, Asking, Stage};
 use crate::settling::lease;
@@ -28,7 +29,7 @@ pub(crate) enum Sought<L> {
     Dials(u64),
 }
 
-// The idle connection that a request took isn't good, and is let go: the request has none again.
+// The idle connection that a request took isn't good, and is let go: the request has none again. Its tape is kept.
 fn let_go<L: Drop, J: Journal, W: Wake>(
     pool: &mut Exchange<L, J, W>,
     age: u64,
@@ -36,12 +37,14 @@ fn let_go<L: Drop, J: Journal, W: Wake>(
     conn: Conn<L>,
 )
     requires { token age pool.old.state ≡ Some (Looking number) }
-    ensures failed { Settles (events.Failed age number) pool.old pool.new }
+    ensures failed { SettlesWith (numbered number conn.tape) (events.Failed age number) pool.old pool.new }
     ensures free { token age pool.new.state ≡ Some Free }
     ensures fewer { idle pool.new.state ≤ idle pool.old.state }
 {
+    let mut conn = conn;
+    let tape = conn.take_tape();
     drop(conn);
-    pool.failed(age, number);
+    pool.failed(age, number, tape);
 }
 
 /// Whether the idle connection that a request took is alive; none where it isn't, and the request looks for another.

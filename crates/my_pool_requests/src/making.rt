@@ -1,16 +1,17 @@
 //! How the connection of a request is made: its dial, and its connect call. No event of the pool is here.
 
 ghost use Rattle.std.specs.Prelude.{◌≡◌, IfOk};
-ghost use Rattle.my_pool.specs.Fit.{IsStill};
-ghost use Rattle.my_pool_requests.specs.Makes.{Begins, ConnectsOver, DialsOn, JudgedBy, MadeFits, MakesOn, TriesDial};
+ghost use Rattle.my_pool_requests.specs.Being.{IsBeingMade};
+ghost use Rattle.my_pool_requests.specs.Makes.{Begins, ConnectsOver, DialsOn, MadeFits, MakesOn, TriesDial};
 ghost use Rattle.my_pool_requests.specs.Makes.{outside, undialed};
 
 use crate::request::Moment;
-use my_conn::{Conn, Connected, Connecting};
+use my_client::Tape;
+use my_conn::{Conn, Connected, Connecting, Unmade};
 use my_frame::NoMemory;
 use my_link::{Aid, DialStep, Dialer, Link};
 use my_opts::Opts;
-use my_reading::{DriverError, Error, IoError, IoFault, IoKind};
+use my_reading::{Error, IoError, IoFault, IoKind};
 use std::alloc::Global;
 
 /// What the making of a request's connection comes to.
@@ -19,10 +20,10 @@ pub(crate) enum Made<L> {
     Undialed,
     /// The connection isn't made yet.
     Pending(Connecting<L>),
-    /// It is made, and is fit.
+    /// It is made.
     Good(Conn<L>),
-    /// The dial or the connect call failed.
-    Failed(Error),
+    /// The dial or the connect call failed. Where a tape was kept, what was done on the link is left.
+    Failed(Error, Option<Tape>),
 }
 
 // The error of a dial that failed.
@@ -35,25 +36,14 @@ fn undialed() -> Error
     }))
 }
 
-// A connection that was made is good where it is fit.
-fn judged<L: Drop>(conn: Conn<L>) -> Made<L>
-    requires still { IsStill conn }
-    ensures judged { JudgedBy conn result }
-{
-    if conn.is_disconnected() || conn.is_dirty() {
-        drop(conn);
-        return Made::Failed(Error::Driver(DriverError::ConnectionClosed));
-    }
-    Made::Good(conn)
-}
-
-/// A poll of a connection that is being made.
+/// A poll of a connection that is being made. One that was made is fit: it did nothing but what makes one.
 pub(crate) fn make_on<L: Link + Drop, A: Aid>(
     alloc: Global,
     making: Connecting<L>,
     aid: &mut A,
     now: u64,
 ) -> Made<L>
+    requires { IsBeingMade making }
     ensures makes { MakesOn L.looks (A.texts aid.old) now making result }
     ensures fits { MadeFits result }
     ensures texts { A.texts aid.new ≡ A.texts aid.old }
@@ -61,8 +51,12 @@ pub(crate) fn make_on<L: Link + Drop, A: Aid>(
     let (connected, _met) = making.poll(alloc, aid, now);
     match connected {
         Connected::Pending(making) => Made::Pending(making),
-        Connected::Made(conn) => judged(conn),
-        Connected::Failed(left) => Made::Failed(left.into_error()),
+        Connected::Made(conn) => Made::Good(conn),
+        Connected::Failed(left) => {
+            let Unmade { error, link, tape } = left;
+            drop(link);
+            Made::Failed(error, tape)
+        }
     }
 }
 
@@ -111,7 +105,7 @@ fn connect<L: Link + Drop, A: Aid>(
 {
     match begin(alloc, opts, link, moment) {
         Ok(making) => make_on(alloc, making, aid, moment.now),
-        Err(NoMemory) => Made::Failed(Error::NoMemory),
+        Err(NoMemory) => Made::Failed(Error::NoMemory, None),
     }
 }
 
@@ -147,7 +141,7 @@ where
     match dial(alloc, opts, out, number) {
         Ok(DialStep::Link(link)) => connect(alloc, opts, link, out, moment),
         Ok(DialStep::NotYet) => Made::Undialed,
-        Ok(DialStep::Failed) => Made::Failed(undialed()),
-        Err(NoMemory) => Made::Failed(Error::NoMemory),
+        Ok(DialStep::Failed) => Made::Failed(undialed(), None),
+        Err(NoMemory) => Made::Failed(Error::NoMemory, None),
     }
 }

@@ -2,11 +2,13 @@
 
 ghost use Rattle.std.specs.Prelude.{◌≡◌, true, Some};
 ghost use Rattle.my_pool_core.specs.Owners.{is_lease, token};
-ghost use Rattle.my_pool_requests.specs.Stages.{token_in};
+ghost use Rattle.my_pool_requests.specs.Stages.{left_in, token_in};
 
+use my_client::Tape;
 use my_conn::{Conn, Connecting};
 use my_pool_core::Core;
 use my_pool_parts::{Place, Standing};
+use my_pool_store::numbered;
 use my_reading::Error;
 use std::marker::Model;
 
@@ -32,6 +34,29 @@ pub(crate) enum Stage<L> {
     Makes(u64, Connecting<L>),
     /// It looks whether this idle connection is still alive.
     Looks(u64, Conn<L>),
+}
+
+impl<L: Drop> Stage<L> {
+    /// It is let go. The tape of its connection is left, with its number, where it has one.
+    pub(crate) fn let_go(self) -> Option<(u64, Tape)>
+        ensures { result ≡ left_in self }
+    {
+        match self {
+            Stage::Free | Stage::Dials(_) => None,
+            Stage::Makes(number, making) => {
+                let mut making = making;
+                let tape = making.take_tape();
+                drop(making);
+                numbered(number, tape)
+            }
+            Stage::Looks(number, conn) => {
+                let mut conn = conn;
+                let tape = conn.take_tape();
+                drop(conn);
+                numbered(number, tape)
+            }
+        }
+    }
 }
 
 /// A request for a connection.

@@ -54,8 +54,8 @@ pub(crate) fn settle<L: Drop, J: Journal, W: Wake>(
             stage: Stage::Makes(number, making),
         }),
         Made::Good(conn) => lease(pool, age, number, conn),
-        Made::Failed(error) => {
-            pool.failed(age, number);
+        Made::Failed(error, tape) => {
+            pool.failed(age, number, tape);
             AskTurn::Failed(error)
         }
     }

@@ -4,3 +4,4 @@ pub mod Waking
 pub mod Calling
 pub mod Shelving
 pub mod Keeping
+pub mod Leaving

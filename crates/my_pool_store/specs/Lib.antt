@@ -4,3 +4,4 @@ pub mod Woken
 pub mod Shelves
 pub mod Slots
 pub mod Views
+pub mod Leaving

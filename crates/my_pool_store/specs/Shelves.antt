@@ -1,5 +1,5 @@
 -- Connections by their numbers.
-use Rattle.std.specs.Prelude.{ℕ, Bool, ◌==◌, Option, None, List, [], ◌∷◌, ◌++◌, option_map, find}
+use Rattle.std.specs.Prelude.{ℕ, Bool, ◌==◌, Option, Some, None, List, [], ◌∷◌, ◌++◌, option_map, find}
 use Rattle.my_frame.specs.Lists.{without}
 use Rattle.my_pool_core.specs.declared.event.PollAnswer.{PollAnswer}
 use Rattle.my_pool_core.specs.declared.event.PollAnswer.TheVariants.{Wait, Take, Dial, Closed, Full}
@@ -51,3 +51,21 @@ put_by Clean e es = es ++ e ∷ []
 put_by Close e es = es ++ e ∷ []
 put_by Reset e es = es ++ e ∷ []
 put_by Keep e es = es ++ e ∷ []
+
+-- what a verdict doesn't keep
+abbrev pub rest_by : {C : Type 0} → Verdict → C → Option C
+rest_by Drop c = Some c
+rest_by Clean c = None
+rest_by Close c = None
+rest_by Reset c = None
+rest_by Keep c = None
+
+-- what is left of a connection, with its number
+abbrev pub numbered : {C : Type 0} → ℕ → Option C → Option (ℕ × C)
+numbered number None = None
+numbered number (Some c) = Some (number, c)
+
+-- it comes last, where something is left
+abbrev pub with_left : {C : Type 0} → Option (ℕ × C) → List (Entry C) → List (Entry C)
+with_left None es = es
+with_left (Some l) es = es ++ entry l.0 l.1 ∷ []

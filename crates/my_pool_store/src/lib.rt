@@ -11,6 +11,6 @@ mod wakers;
 
 pub use journal::{Dropped, Journal, Kept};
 pub use notes::Notes;
-pub use shelf::{Shelf, Slot};
+pub use shelf::{Shelf, Slot, numbered};
 pub use view::PoolView;
 pub use wakers::{NoWake, Wake, Wakers};

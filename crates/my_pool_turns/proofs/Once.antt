@@ -23,7 +23,8 @@ use Rattle.my_pool_core.specs.State.{State}
 use Rattle.my_pool_core.proofs.Always.{sound-step}
 use Rattle.my_pool_core.proofs.Placed.Counts.{none-counts}
 use Rattle.my_pool_core.proofs.Placed.Moves.{places-move}
-use Rattle.my_pool.specs.Pools.{ConnEntry, Made, Pool}
+use Rattle.my_client.specs.declared.tape.Tape.{Tape}
+use Rattle.my_pool.specs.Pools.{ConnEntry, MadeWith, Pool}
 use Rattle.my_pool_turns.specs.declared.task.Task.{Task}
 use Rattle.my_pool_turns.specs.declared.task.Task.TheVariants as tasks
 use Rattle.my_pool_turns.specs.declared.task.Worked.{Worked}
@@ -78,25 +79,25 @@ beside-same : (n : ℕ) (s t : State) → IsSound s → t ≡ s → Beside n s t
 beside-same n s t h e = subst (Beside n s) (sym e) (record { sound = h; others = λ m k. refl })
 
 module _ {L : Type 0} where
-  beside-done : (n : ℕ) (ok : Bool) (facts : Facts) (now : ℕ) (a : Answer) (p q : Pool L) → IsSound p.state → Made (events.Done n ok facts now) a p q → Beside n p.state q.state
-  beside-done n ok facts now a p q h made =
+  beside-done : (l : Option (ℕ × Tape)) (n : ℕ) (ok : Bool) (facts : Facts) (now : ℕ) (a : Answer) (p q : Pool L) → IsSound p.state → MadeWith l (events.Done n ok facts now) a p q → Beside n p.state q.state
+  beside-done l n ok facts now a p q h made =
       subst (Beside n p.state) (sym made.state) (record {
         sound = sound-step p.state (events.Done n ok facts now) h made.allowed;
         others = (places-move p.state (events.Done n ok facts now) h made.allowed).others;
       })
 
-  beside-decided : (n : ℕ) (facts : Facts) (now : ℕ) (a : Answer) (p q : Pool L) → IsSound p.state → Made (events.Decide n facts now) a p q → Beside n p.state q.state
-  beside-decided n facts now a p q h made =
+  beside-decided : (l : Option (ℕ × Tape)) (n : ℕ) (facts : Facts) (now : ℕ) (a : Answer) (p q : Pool L) → IsSound p.state → MadeWith l (events.Decide n facts now) a p q → Beside n p.state q.state
+  beside-decided l n facts now a p q h made =
       subst (Beside n p.state) (sym made.state) (record {
         sound = sound-step p.state (events.Decide n facts now) h made.allowed;
         others = (places-move p.state (events.Decide n facts now) h made.allowed).others;
       })
 
   finished : (e : ConnEntry L) (ok : Bool) (now : ℕ) (p q : Pool L) → IsSound p.state → Finished e ok now p q → Beside e.number p.state q.state
-  finished e ok now p q h f = beside-done e.number ok _ now _ p q h f.made
+  finished e ok now p q h f = beside-done _ e.number ok _ now _ p q h f.made
 
   decided : (e : ConnEntry L) (now : ℕ) (p q : Pool L) → IsSound p.state → DecidedOn e now p q → Beside e.number p.state q.state
-  decided e now p q h d = beside-decided e.number _ now _ p q h d.made
+  decided e now p q h d = beside-decided _ e.number _ now _ p q h d.made
 
   ends : (task : Task) (w : Worked) (e : ConnEntry L) (now : ℕ) (p q : Pool L) → IsSound p.state → Ends task w e now p q → Beside e.number p.state q.state
   ends task Pending e now p q h x = beside-same e.number p.state q.state h x.same.state

@@ -7,7 +7,7 @@ use Rattle.my_pool_core.specs.declared.event.Verdict.{Verdict}
 use Rattle.my_pool_core.specs.Owners.{IsNextAt, IsNoneAt}
 use Rattle.my_pool_store.specs.Shelves.{put_by, kept_at}
 use Rattle.my_pool.specs.Fit.{facts_of}
-use Rattle.my_pool.specs.Pools.{ConnEntry, IsCalled, Pool, Made, Same, TakenOut, TakenAt}
+use Rattle.my_pool.specs.Pools.{ConnEntry, IsCalled, Pool, Made, MadeWith, Same, TakenOut, TakenAt, left_of}
 use Rattle.my_pool_turns.specs.declared.task.Task.{Task}
 use Rattle.my_pool_turns.specs.declared.task.Task.TheVariants as tasks
 use Rattle.my_pool_turns.specs.declared.task.Worked.{Worked}
@@ -15,17 +15,19 @@ use Rattle.my_pool_turns.specs.declared.task.Worked.TheVariants.{Pending, Done, 
 use Rattle.my_pool_turns.specs.Tasks.{kind_at}
 use Rattle.my_pool_turns.specs.Works.{WorkIs}
 
--- the core decided on it by its facts, and the verdict was carried out
+-- the core decided on it by its facts, and the verdict was carried out; its tape is kept where it went
 pub record DecidedOn {L : Type 0} (e : ConnEntry L) (now : ℕ) (p q : Pool L) : Type 0 where
   pub verdict : Verdict
-  pub made : Made (events.Decide e.number (facts_of now e.conn) now) (answers.Verdict verdict) p q
+  pub made : MadeWith (left_of verdict e) (events.Decide e.number (facts_of now e.conn) now) (answers.Verdict verdict)
+      p q
   pub called : IsCalled p q
   pub put : q.kept ≡ put_by verdict e p.kept
 
--- the core was told that its call ended, well or not, and the verdict was carried out
+-- the core was told that its call ended, well or not, and the verdict was carried out; its tape is kept where it went
 pub record Finished {L : Type 0} (e : ConnEntry L) (ok : Bool) (now : ℕ) (p q : Pool L) : Type 0 where
   pub verdict : Verdict
-  pub made : Made (events.Done e.number ok (facts_of now e.conn) now) (answers.Verdict verdict) p q
+  pub made : MadeWith (left_of verdict e) (events.Done e.number ok (facts_of now e.conn) now) (answers.Verdict verdict)
+      p q
   pub called : IsCalled p q
   pub put : q.kept ≡ put_by verdict e p.kept
 

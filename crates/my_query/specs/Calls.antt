@@ -6,7 +6,7 @@ use Rattle.my_link.specs.Looks.{Looks}
 use Rattle.my_value.specs.RowParts.{RowParts}
 use Rattle.my_reading.specs.declared.error.Error.{Error}
 use Rattle.my_conn.specs.Conn.{ConnSeen}
-use Rattle.my_query.specs.Answers.{AnswerIs}
+use Rattle.my_query.specs.Answers.{AnswerIs, ReadIs}
 use Rattle.my_query.specs.Gathers.{Collects, Folds, Maps, SetIs}
 use Rattle.my_query.specs.declared.error.QueryError.{QueryError}
 use Rattle.my_query.specs.declared.gather.Collected.{Collected}
@@ -59,3 +59,21 @@ abbrev pub MapsFirst : {L T U F A : Type 0} → (L → Looks) → (ConnSeen L �
     → ConnSeen L → ConnSeen L → Result (Vec U A) QueryError → Type 0
 MapsFirst look begins converts becomes step f old new result =
     MappedBy f (λ none r. AnswerIs look begins (SetIs look converts becomes (Maps step) none) old new r) result
+
+-- Of an answer that a call began so, the value is the fold of the function over what the rows of the first set became, in order.
+abbrev pub FoldsBegun : {L T U F : Type 0} → (L → Looks) → (RowParts → Type 0) → (RowParts → T → Type 0) → (F → U → T → U → F → Type 0)
+    → U → F → Result (Unit {0}) Error → ConnSeen L → ConnSeen L → Result U QueryError → Type 0
+FoldsBegun look converts becomes step init f begun old new result =
+    FoldedBy init f (λ start r. ReadIs look (SetIs look converts becomes (Folds step) start) begun old new r) result
+
+-- Of an answer that a call began so, the values are what the rows of the first set became: all of them, in order.
+abbrev pub CollectsBegun : {L T A : Type 0} → (L → Looks) → (RowParts → Type 0) → (RowParts → T → Type 0)
+    → Result (Unit {0}) Error → ConnSeen L → ConnSeen L → Result (Vec T A) QueryError → Type 0
+CollectsBegun look converts becomes begun old new result =
+    CollectedBy (λ none r. ReadIs look (SetIs look converts becomes Collects none) begun old new r) result
+
+-- Of an answer that a call began so, the values are what the function returned of what the rows of the first set became, in order.
+abbrev pub MapsBegun : {L T U F A : Type 0} → (L → Looks) → (RowParts → Type 0) → (RowParts → T → Type 0)
+    → (F → T → U → F → Type 0) → F → Result (Unit {0}) Error → ConnSeen L → ConnSeen L → Result (Vec U A) QueryError → Type 0
+MapsBegun look converts becomes step f begun old new result =
+    MappedBy f (λ none r. ReadIs look (SetIs look converts becomes (Maps step) none) begun old new r) result

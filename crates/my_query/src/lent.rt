@@ -40,8 +40,8 @@ impl<'a, C: Calls> Calls for Lent<'a, C> {
         self.holder.conn()
     }
 
-    fn ping(&mut self, alloc: Global) -> Result<(), Error> {
-        self.holder.ping(alloc)
+    fn send_ping(&mut self, alloc: Global) -> Result<(), Error> {
+        self.holder.send_ping(alloc)
     }
 
     fn send_prepare(&mut self, alloc: Global, query: Blob) -> Result<Statement, Error> {

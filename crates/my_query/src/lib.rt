@@ -23,5 +23,5 @@ pub use given::{bytes, named, positional, text};
 pub use lent::Lent;
 pub use queryable::Queryable;
 pub use read::{next_item, read_set};
-pub use rest::drop_after;
+pub use rest::{collect_answer, drop_after, drop_answer, first_of_answer, fold_answer, map_answer};
 pub use statement_like::{StatementLike, ToStatementResult};

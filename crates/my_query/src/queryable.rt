@@ -7,8 +7,7 @@ use crate::as_query::AsQuery;
 use crate::begins::{execute, execute_each, prepare_text, send_text};
 use crate::calls::Calls;
 use crate::error::QueryError;
-use crate::gather::{Collected, Folded, Mapped};
-use crate::rest::{drop_answer, first_of_answer, gather_answer};
+use crate::rest::{collect_answer, drop_answer, first_of_answer, fold_answer, map_answer};
 use crate::statement_like::StatementLike;
 use my_conn::Conn;
 use my_link::BlockingLink;
@@ -45,13 +44,7 @@ pub trait Queryable: Calls {
             (Self.conn_of self.old) (Self.conn_of self.new) result }
     {
         let begun = send_text::<Q, Self>(self, alloc, query);
-        let start = Collected {
-            items: Vec::new(alloc),
-        };
-        match gather_answer::<T, Collected<T>, Self>(self, alloc, begun, start) {
-            Ok(collected) => return Ok(collected.items),
-            Err(error) => return Err(error),
-        }
+        collect_answer::<T, Self>(self, alloc, begun)
     }
 
     /// Sends a query, and returns what the first row of the first set became. `None`: that set has no row, or there is no set. The rest of
@@ -90,14 +83,7 @@ pub trait Queryable: Calls {
             (Self.conn_of self.old) (Self.conn_of self.new) result }
     {
         let begun = send_text::<Q, Self>(self, alloc, query);
-        let start = Mapped {
-            items: Vec::new(alloc),
-            f,
-        };
-        match gather_answer::<T, Mapped<U, F>, Self>(self, alloc, begun, start) {
-            Ok(mapped) => return Ok(mapped.items),
-            Err(error) => return Err(error),
-        }
+        map_answer::<T, U, F, Self>(self, alloc, begun, f)
     }
 
     /// Sends a query, and folds the function over the rows of the first set, in order, from `init`. The rest of the answer is dropped.
@@ -119,11 +105,7 @@ pub trait Queryable: Calls {
             (Self.conn_of self.old) (Self.conn_of self.new) result }
     {
         let begun = send_text::<Q, Self>(self, alloc, query);
-        let start = Folded { value: init, f };
-        match gather_answer::<T, Folded<U, F>, Self>(self, alloc, begun, start) {
-            Ok(folded) => return Ok(folded.value),
-            Err(error) => return Err(error),
-        }
+        fold_answer::<T, U, F, Self>(self, alloc, begun, init, f)
     }
 
     /// Sends a query, and drops the answer.
@@ -156,13 +138,7 @@ pub trait Queryable: Calls {
             (Self.conn_of self.old) (Self.conn_of self.new) result }
     {
         let begun = execute::<S, Self>(self, alloc, stmt, params);
-        let start = Collected {
-            items: Vec::new(alloc),
-        };
-        match gather_answer::<T, Collected<T>, Self>(self, alloc, begun, start) {
-            Ok(collected) => return Ok(collected.items),
-            Err(error) => return Err(error),
-        }
+        collect_answer::<T, Self>(self, alloc, begun)
     }
 
     /// Executes the statement that is named with these parameters, and returns what the first row of the first set became. `None`: that set has
@@ -204,14 +180,7 @@ pub trait Queryable: Calls {
             (Self.conn_of self.old) (Self.conn_of self.new) result }
     {
         let begun = execute::<S, Self>(self, alloc, stmt, params);
-        let start = Mapped {
-            items: Vec::new(alloc),
-            f,
-        };
-        match gather_answer::<T, Mapped<U, F>, Self>(self, alloc, begun, start) {
-            Ok(mapped) => return Ok(mapped.items),
-            Err(error) => return Err(error),
-        }
+        map_answer::<T, U, F, Self>(self, alloc, begun, f)
     }
 
     /// Executes the statement that is named with these parameters, and folds the function over the rows of the first set, in order, from `init`.
@@ -235,11 +204,7 @@ pub trait Queryable: Calls {
             (Self.conn_of self.old) (Self.conn_of self.new) result }
     {
         let begun = execute::<S, Self>(self, alloc, stmt, params);
-        let start = Folded { value: init, f };
-        match gather_answer::<T, Folded<U, F>, Self>(self, alloc, begun, start) {
-            Ok(folded) => return Ok(folded.value),
-            Err(error) => return Err(error),
-        }
+        fold_answer::<T, U, F, Self>(self, alloc, begun, init, f)
     }
 
     /// Executes the statement that is named with these parameters, and drops the answer.
@@ -257,6 +222,15 @@ pub trait Queryable: Calls {
     {
         let begun = execute::<S, Self>(self, alloc, stmt, params);
         drop_answer(self, alloc, begun)
+    }
+
+    /// Asks whether the server is there.
+    fn ping(&mut self, alloc: Global) -> Result<(), Error>
+        requires { (Self.conn_of self.old).pending ≡ None }
+        ensures done { DoneIs Self.L.looks kinds.Ping calls.Ping (Self.conn_of self.old) (Self.conn_of self.new) result }
+        ensures loans { Self.loans_of self.new ≡ Self.loans_of self.old }
+    {
+        self.send_ping(alloc)
     }
 
     /// Prepares a statement of this text, which may have named parameters. One that is cached is returned at once.

@@ -2,9 +2,13 @@
 ghost use Rattle.std.specs.Prelude.{◌≡◌, IfOk};
 ghost use Rattle.my_query.specs.declared.statement_like.ToStatementResult.TheVariants as likes;
 
-use my_frame::{Blob, NoMemory};
+use crate::as_query::AsQuery;
+use my_frame::{Blob, NoMemory, Text};
 use my_statements::Statement;
 use std::alloc::Global;
+use std::borrow::{CowSlice, CowStr};
+use std::boxed::{BoxedSlice, BoxedStr};
+use std::sync::{ArcSlice, ArcStr};
 
 /// What names a statement.
 #[derive(Drop)]
@@ -28,32 +32,25 @@ pub trait StatementLike {
 }
 
 // A text that is prepared.
-fn mediate(alloc: Global, text: &[u8]) -> Result<ToStatementResult, NoMemory>
-    ensures { IfOk result (λ r. r ≡ likes.Mediate text.now) }
+fn mediate<Q: AsQuery>(alloc: Global, text: &Q) -> Result<ToStatementResult, NoMemory>
+    ensures { IfOk result (λ r. r ≡ likes.Mediate (Q.text_of text.now)) }
 {
-    Ok(ToStatementResult::Mediate(Blob::from_slice(alloc, text)?))
-}
-
-// A statement that is known.
-fn immediate(alloc: Global, statement: &Statement) -> Result<ToStatementResult, NoMemory>
-    ensures { IfOk result (λ r. r ≡ likes.Immediate statement.now) }
-{
-    Ok(ToStatementResult::Immediate(statement.copy(alloc)?))
+    Ok(ToStatementResult::Mediate(Blob::from_slice(alloc, text.as_query())?))
 }
 
 impl StatementLike for Statement {
     ghost like_of = { λ s. likes.Immediate s };
 
     fn to_statement(&self, alloc: Global) -> Result<ToStatementResult, NoMemory> {
-        immediate(alloc, self)
+        Ok(ToStatementResult::Immediate(self.copy(alloc)?))
     }
 }
 
-impl<'a> StatementLike for &'a Statement {
-    ghost like_of = { λ s. likes.Immediate s.now };
+impl<'a, S: StatementLike> StatementLike for &'a S {
+    ghost like_of = { λ s. S.like_of s.now };
 
     fn to_statement(&self, alloc: Global) -> Result<ToStatementResult, NoMemory> {
-        immediate(alloc, *self)
+        S::to_statement(*self, alloc)
     }
 }
 
@@ -61,7 +58,7 @@ impl<'a> StatementLike for &'a str {
     ghost like_of = { λ q. likes.Mediate q.now };
 
     fn to_statement(&self, alloc: Global) -> Result<ToStatementResult, NoMemory> {
-        mediate(alloc, self.as_bytes())
+        mediate(alloc, self)
     }
 }
 
@@ -69,7 +66,7 @@ impl<'a> StatementLike for &'a [u8] {
     ghost like_of = { λ q. likes.Mediate q.now };
 
     fn to_statement(&self, alloc: Global) -> Result<ToStatementResult, NoMemory> {
-        mediate(alloc, *self)
+        mediate(alloc, self)
     }
 }
 
@@ -79,7 +76,7 @@ impl StatementLike for String {
     ghost like_of = { λ q. likes.Mediate (string_bytes q) };
 
     fn to_statement(&self, alloc: Global) -> Result<ToStatementResult, NoMemory> {
-        mediate(alloc, self.as_bytes())
+        mediate(alloc, self)
     }
 }
 
@@ -87,7 +84,15 @@ impl StatementLike for Vec<u8> {
     ghost like_of = { λ q. likes.Mediate q.items };
 
     fn to_statement(&self, alloc: Global) -> Result<ToStatementResult, NoMemory> {
-        mediate(alloc, self.as_slice())
+        mediate(alloc, self)
+    }
+}
+
+impl StatementLike for Text {
+    ghost like_of = { λ q. likes.Mediate q };
+
+    fn to_statement(&self, alloc: Global) -> Result<ToStatementResult, NoMemory> {
+        mediate(alloc, self)
     }
 }
 
@@ -95,6 +100,66 @@ impl StatementLike for Blob {
     ghost like_of = { λ q. likes.Mediate q };
 
     fn to_statement(&self, alloc: Global) -> Result<ToStatementResult, NoMemory> {
-        mediate(alloc, self.as_slice())
+        mediate(alloc, self)
+    }
+}
+
+impl<'a> StatementLike for CowStr<'a> {
+    ghost use Rattle.std.specs.Cow.{cow_str_bytes};
+
+    ghost like_of = { λ q. likes.Mediate (cow_str_bytes q) };
+
+    fn to_statement(&self, alloc: Global) -> Result<ToStatementResult, NoMemory> {
+        mediate(alloc, self)
+    }
+}
+
+impl<'a> StatementLike for CowSlice<'a, u8> {
+    ghost use Rattle.std.specs.Cow.{cow_slice_items};
+
+    ghost like_of = { λ q. likes.Mediate (cow_slice_items q) };
+
+    fn to_statement(&self, alloc: Global) -> Result<ToStatementResult, NoMemory> {
+        mediate(alloc, self)
+    }
+}
+
+impl StatementLike for BoxedStr {
+    ghost use Rattle.std.specs.Box.{boxed_str_bytes};
+
+    ghost like_of = { λ q. likes.Mediate (boxed_str_bytes q) };
+
+    fn to_statement(&self, alloc: Global) -> Result<ToStatementResult, NoMemory> {
+        mediate(alloc, self)
+    }
+}
+
+impl StatementLike for BoxedSlice<u8> {
+    ghost use Rattle.std.specs.Box.{boxed_slice_items};
+
+    ghost like_of = { λ q. likes.Mediate (boxed_slice_items q) };
+
+    fn to_statement(&self, alloc: Global) -> Result<ToStatementResult, NoMemory> {
+        mediate(alloc, self)
+    }
+}
+
+impl StatementLike for ArcStr {
+    ghost use Rattle.std.specs.Arc.{arc_str_bytes};
+
+    ghost like_of = { λ q. likes.Mediate (arc_str_bytes q) };
+
+    fn to_statement(&self, alloc: Global) -> Result<ToStatementResult, NoMemory> {
+        mediate(alloc, self)
+    }
+}
+
+impl StatementLike for ArcSlice<u8> {
+    ghost use Rattle.std.specs.Arc.{arc_slice_items};
+
+    ghost like_of = { λ q. likes.Mediate (arc_slice_items q) };
+
+    fn to_statement(&self, alloc: Global) -> Result<ToStatementResult, NoMemory> {
+        mediate(alloc, self)
     }
 }

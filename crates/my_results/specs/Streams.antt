@@ -9,6 +9,7 @@ use Rattle.my_reading.specs.declared.error.Error.{Error}
 use Rattle.my_conn.specs.Conn.{ConnSeen}
 use Rattle.my_query.specs.Reads.{ItemIs}
 use Rattle.my_query.specs.declared.error.QueryError.{QueryError}
+use Rattle.my_query.specs.declared.error.QueryError.TheVariants.{Client, FromRow}
 use Rattle.my_results.specs.Sets.{CollectsSet}
 use Rattle.my_results.specs.declared.result.QueryResult.{QueryResult}
 use Rattle.my_results.specs.declared.stream.ResultSetStream.{ResultSetStream}
@@ -21,11 +22,16 @@ StreamIs conn_of name takes (Ok (Some stream)) = takes (conn_of stream.over.now)
 StreamIs {L} conn_of name takes (Ok None) = (new : ConnSeen L) × takes new (Ok false)
 StreamIs {L} conn_of name takes (Err error) = (new : ConnSeen L) × takes new (Err error)
 
+-- whether a stream ends by this error: it goes on after a row that doesn't convert
+abbrev pub ends_stream : QueryError → Bool
+ends_stream (Client error) = true
+ends_stream (FromRow row) = false
+
 -- whether the stream ended: the end was read, or the read failed
 abbrev pub ended_by : {T : Type 0} → Result (Option T) QueryError → Bool
 ended_by (Ok (Some item)) = false
 ended_by (Ok None) = true
-ended_by (Err error) = true
+ended_by (Err error) = ends_stream error
 
 -- A stream that ended reads nothing. Before that an item is read.
 abbrev pub ItemLeftIs : {L T : Type 0} → (L → Looks) → (RowParts → Type 0) → (RowParts → T → Type 0) → Bool → Bool
@@ -39,8 +45,14 @@ abbrev pub IsEmpty : {T A : Type 0} → Result (Vec T A) QueryError → Type 0
 IsEmpty (Ok items) = items.items ≡ []
 IsEmpty (Err error) = ⊥
 
+-- whether the stream ended: its set was read whole, or a read failed
+abbrev pub ended_with : {T A : Type 0} → Result (Vec T A) QueryError → Bool
+ended_with (Ok items) = true
+ended_with (Err error) = ends_stream error
+
 -- A stream that ended reads nothing. Before that its set is collected.
-abbrev pub CollectsLeft : {L T A : Type 0} → (L → Looks) → (RowParts → Type 0) → (RowParts → T → Type 0) → Bool
+abbrev pub CollectsLeft : {L T A : Type 0} → (L → Looks) → (RowParts → Type 0) → (RowParts → T → Type 0) → Bool → Bool
     → ConnSeen L → ConnSeen L → Result (Vec T A) QueryError → Type 0
-CollectsLeft look converts becomes true old new result = IsEmpty result × (new ≡ old)
-CollectsLeft look converts becomes false old new result = CollectsSet look converts becomes old new result
+CollectsLeft look converts becomes true ended old new result = IsEmpty result × (new ≡ old) × (ended ≡ true)
+CollectsLeft look converts becomes false ended old new result =
+    CollectsSet look converts becomes old new result × (ended ≡ ended_with result)

@@ -19,4 +19,4 @@ pub use my_connect::{
 pub use my_net::TcpWorld;
 pub use my_value::FromRowError;
 pub use result::{BinaryProtocol, QueryResult, TextProtocol};
-pub use stream::ResultSetStream;
+pub use stream::{ResultSetStream, collect_left, next_left};

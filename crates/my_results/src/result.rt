@@ -25,6 +25,18 @@ pub struct QueryResult<C, P> {
     pub protocol: PhantomData<P>,
 }
 
+impl<C, P> QueryResult<C, P> {
+    /// What is left of the answer at this holder.
+    pub fn new(holder: C) -> QueryResult<C, P>
+        ensures { result.holder ≡ holder }
+    {
+        QueryResult {
+            holder,
+            protocol: PhantomData,
+        }
+    }
+}
+
 impl<C: Calls, P> QueryResult<C, P> {
     /// Reads the next row. `None`: the set ended, or nothing is left. After the end of a set the next one is read.
     pub fn next(&mut self, alloc: Global) -> Result<Option<Row>, Error>

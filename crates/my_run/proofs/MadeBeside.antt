@@ -7,9 +7,9 @@ use Rattle.my_script.specs.declared.beside.Beside.{Beside}
 use Rattle.my_script.specs.declared.transcript.Outcome.{Outcome}
 use Rattle.my_script.specs.Beside.{beside_after, beside_by, beside_named, finds, nothing_beside}
 use Rattle.my_script.specs.Streams.{target}
-use Rattle.my_steps.specs.Grows.{Line, is_found, beside_of}
+use Rattle.my_steps.specs.Grows.{Line, aim_at, is_found, beside_of}
 use Rattle.my_run.specs.declared.beside.BesideEach.{BesideEach}
-use Rattle.my_run.specs.Beside.{beside_in, is_found_in}
+use Rattle.my_run.specs.Beside.{aim_in, beside_in, is_found_in}
 
 same_at : (x y : ℕ) → is_eq (nat_cmp x y) ≡ (x == y)
 same_at x y = by_tests (nat_lt x y) (x == y) refl refl
@@ -40,3 +40,8 @@ noted old new m v step o u named is n =
 pub found_same : (b : BesideEach) (ls : List Line) (q : Option ℕ) (step : Step) → ((n : ℕ) → beside_in b n ≡ beside_of n ls) → is_found_in b q step ≡ is_found q step ls
 found_same b ls None step f = refl
 found_same b ls (Some n) step f = ap (λ x. finds x step) (f n)
+
+-- and the aim of what is open there
+pub aim_same : (b : BesideEach) (ls : List Line) (q : Option ℕ) → ((n : ℕ) → beside_in b n ≡ beside_of n ls) → aim_in b q ≡ aim_at q ls
+aim_same b ls None f = refl
+aim_same b ls (Some n) f = ap (λ (x : Beside). x.aim) (f n)

@@ -6,6 +6,7 @@ use Rattle.std.proofs.lemmas.List.{length-append, map-append}
 use Rattle.my_grammar.specs.declared.login.Login.{Login}
 use Rattle.my_steps.specs.declared.slot.Slot.{Slot}
 use Rattle.my_steps.specs.declared.slot.Slot.TheVariants.{Gone, Held, There, Ended}
+use Rattle.my_script.specs.declared.aim.Aim.{Aim}
 use Rattle.my_script.specs.declared.step.Step.{Step}
 use Rattle.my_script.specs.declared.step.Step.TheVariants as steps
 use Rattle.my_script.specs.Script.{may_stand}
@@ -18,7 +19,7 @@ use Rattle.my_statements.specs.Prepared.{StatementView}
 use Rattle.my_script.specs.Numbered.{named_statement, statement_named, statements_by}
 use Rattle.my_script.specs.Beside.{beside_by, nothing_beside}
 use Rattle.my_script.specs.Streams.{target}
-use Rattle.my_steps.specs.Grows.{Line, StepGrows, beside_of, handles_after, is_found, statements_of}
+use Rattle.my_steps.specs.Grows.{Line, StepGrows, aim_at, beside_of, handles_after, is_found, statements_of}
 use Rattle.my_run.specs.declared.beside.BesideEach.{BesideEach}
 use Rattle.my_run.specs.Beside.{beside_in}
 use Rattle.my_steps.specs.Handle.{Handle, Absent, Dialing, Joined, at_number}
@@ -74,17 +75,19 @@ abbrev pub LinesSoFar : {L : Type 0} → (L → Looks) → Login → Plans → C
 LinesSoFar look login told before now done slots answers beside given = (plans : Plans) → SamePlans told plans
     → (v : SoFar look login plans before now done slots answers) × ((n : ℕ) → beside_in beside n ≡ beside_of n v.lines) × (given ≡ statements_of v.lines)
 
-pub step_on : {L : Type 0} (look : L → Looks) (login : Login) (plans : Plans) (before : Course) (now later : WorldSeen) (done next : List Step) (ss ts : List (Slot L)) (given bs : List StepAnswer) (step : Step) (a : StepAnswer) (found : Bool) (named : Option StatementView) → (u : SoFar look login plans before now done ss given) → found ≡ is_found (target step) step u.lines → named ≡ statement_named (named_statement step) (statements_of u.lines) → Stepped login ss ts (AreAwaited plans later.plans 0 ts × StepGrows login plans found named (handles_in look now.plans ss) step a.outcome a.uses.items (handles_in look later.plans ts)) → DialsTo now.dials later.dials (dial_met (has_dialed step (handles_in look now.plans ss)) a.uses.items) → later.chance ≡ chance_by (has_dialed step (handles_in look now.plans ss)) step now.chance → later.back ≡ now.back → a.number ≡ length done + 1 → bs ≡ given ++ a ∷ [] → next ≡ done ++ step ∷ []
+pub step_on : {L : Type 0} (look : L → Looks) (login : Login) (plans : Plans) (before : Course) (now later : WorldSeen) (done next : List Step) (ss ts : List (Slot L)) (given bs : List StepAnswer) (step : Step) (a : StepAnswer) (found : Bool) (aim : Aim) (named : Option StatementView) → (u : SoFar look login plans before now done ss given) → found ≡ is_found (target step) step u.lines → aim ≡ aim_at (target step) u.lines → named ≡ statement_named (named_statement step) (statements_of u.lines) → Stepped login ss ts (AreAwaited plans later.plans 0 ts × StepGrows login plans found aim named (handles_in look now.plans ss) step a.outcome a.uses.items (handles_in look later.plans ts)) → DialsTo now.dials later.dials (dial_met (has_dialed step (handles_in look now.plans ss)) a.uses.items) → later.chance ≡ chance_by (has_dialed step (handles_in look now.plans ss)) step now.chance → later.back ≡ now.back → a.number ≡ length done + 1 → bs ≡ given ++ a ∷ [] → next ≡ done ++ step ∷ []
     → (v : SoFar look login plans before later next ts bs) × ((n : ℕ) → beside_of n v.lines ≡ beside_by n (beside_of n u.lines) step a.outcome) × (statements_of v.lines ≡ statements_by (statements_of u.lines) step a.outcome)
-step_on {L} look login plans before now later done next ss ts given bs step a found named u finds names w dials moves stays num e f =
+step_on {L} look login plans before now later done next ss ts given bs step a found aim named u finds aims names w dials moves stays num e f =
     let made : List Handle = handles_in look later.plans ts in
     let lines : List Line = record { step = step; number = a.number; outcome = a.outcome; uses = a.uses.items; handles = made } ∷ u.lines in
     let known : Bool = is_found (target step) step u.lines in
     let stated : Option StatementView = statement_named (named_statement step) (statements_of u.lines) in
-    let grows : StepGrows login plans known stated (handles_after u.lines) step a.outcome a.uses.items made =
-    subst (λ (b : Bool). StepGrows login plans b stated (handles_after u.lines) step a.outcome a.uses.items made) finds
-    (subst (λ (q : Option StatementView). StepGrows login plans found q (handles_after u.lines) step a.outcome a.uses.items made) names
-    (subst (λ (hs : List Handle). StepGrows login plans found named hs step a.outcome a.uses.items made) u.handles_are w.grows.1)) in (
+    let aimed : Aim = aim_at (target step) u.lines in
+    let grows : StepGrows login plans known aimed stated (handles_after u.lines) step a.outcome a.uses.items made =
+    subst (λ (b : Bool). StepGrows login plans b aimed stated (handles_after u.lines) step a.outcome a.uses.items made) finds
+    (subst (λ (x : Aim). StepGrows login plans found x stated (handles_after u.lines) step a.outcome a.uses.items made) aims
+    (subst (λ (q : Option StatementView). StepGrows login plans found aim q (handles_after u.lines) step a.outcome a.uses.items made) names
+    (subst (λ (hs : List Handle). StepGrows login plans found aim named hs step a.outcome a.uses.items made) u.handles_are w.grows.1))) in (
       record {
         lines = lines;
         steps_are = ap (λ ss. ss ++ step ∷ []) u.steps_are ∙ sym f;

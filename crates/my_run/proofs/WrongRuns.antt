@@ -54,7 +54,7 @@ use Rattle.my_script.specs.Numbered.{named_statement, statement_named, statement
 use Rattle.my_script.specs.declared.beside.Beside.{Beside}
 use Rattle.my_script.specs.Beside.{beside_after, beside_by, finds}
 use Rattle.my_script.specs.Streams.{target}
-use Rattle.my_steps.specs.Grows.{Line, beside_of, handles_after, is_found, statements_of, AreGrown, StepGrows, CallsWhere, ExecutesAt, DialsNext, HasPlan, Dials, Holds, Fails, Links, ConnectShows, Connects, PolledOnce, Begins, BeginsOn, Calls, At, shown}
+use Rattle.my_steps.specs.Grows.{Line, beside_of, handles_after, aim_at, is_found, statements_of, AreGrown, StepGrows, Where, ExecutesAt, DialsNext, HasPlan, Dials, Holds, Fails, Links, ConnectShows, Connects, PolledOnce, Begins, BeginsOn, Calls, At, shown}
 use Rattle.my_steps.specs.Handle.{Handle, Absent, Dialing, Joined, at_number, put_at}
 use Rattle.my_run.specs.Headline.{AnswerView, answer_view, steps_of, answers_of, Headline, IsExplained}
 use Rattle.my_script.specs.declared.reading.script.BadLine.{BadLine}
@@ -189,7 +189,7 @@ lone login plans before later a tapes w =
     let next : DialsNext login plans [] a.outcome a.uses.items l.handles =
     subst (λ (x : Outcome). DialsNext login plans [] x a.uses.items l.handles) outcome
     (subst (λ (us : List Use). DialsNext login plans [] l.outcome us l.handles) uses
-    (subst (λ (s : Step). StepGrows login plans (is_found (target s) s []) (statement_named (named_statement s) (statements_of [])) [] s l.outcome l.uses l.handles) o.2 grown.0.answer)) in
+    (subst (λ (s : Step). StepGrows login plans (is_found (target s) s []) (aim_at (target s) []) (statement_named (named_statement s) (statements_of [])) [] s l.outcome l.uses l.handles) o.2 grown.0.answer)) in
     let dialed = subst (λ (ls : List Line). AreDialed before.dials ls later.dials) o.1 w.dialed in
     record {
       made = next.made;
@@ -457,8 +457,8 @@ no_hold_in_turn login plans before later greeting ok pong a b t c n id v some_ok
     let second : m.outcome ≡ Pending = sym (ap second_outcome answered) ∙ pending in
     let second_uses : m.uses ≡ use_of 0 (record nothing_met { holds = 1 }) ∷ [] = sym (ap uses_second answered) ∙ uses in
     let grown = subst (AreGrown login plans) o.2 w.grown in
-    let next : DialsNext login plans [] l.outcome l.uses l.handles = subst (λ (s : Step). StepGrows login plans (is_found (target s) s []) (statement_named (named_statement s) (statements_of [])) [] s l.outcome l.uses l.handles) o.3 grown.1.0.answer in
-    let there : At 0 (Calls login 0 Ping) l.handles m.outcome m.uses m.handles = subst (λ (s : Step). StepGrows login plans (is_found (target s) s (l ∷ [])) (statement_named (named_statement s) (statements_of (l ∷ []))) l.handles s m.outcome m.uses m.handles) o.4 grown.0.answer in
+    let next : DialsNext login plans [] l.outcome l.uses l.handles = subst (λ (s : Step). StepGrows login plans (is_found (target s) s []) (aim_at (target s) []) (statement_named (named_statement s) (statements_of [])) [] s l.outcome l.uses l.handles) o.3 grown.1.0.answer in
+    let there : At 0 (Calls login 0 Ping) l.handles m.outcome m.uses m.handles = subst (λ (s : Step). StepGrows login plans (is_found (target s) s (l ∷ [])) (aim_at (target s) (l ∷ [])) (statement_named (named_statement s) (statements_of (l ∷ []))) l.handles s m.outcome m.uses m.handles) o.4 grown.0.answer in
     let made = dialed_made login (plans.reads 0) _ (plans.writes 0) (plans.dials 0) 0 id v l.outcome l.uses next.made told first next.dials in
     let handles : l.handles ≡ Joined true made.kept made.link ∷ [] = next.others ∙ ap (λ (h : Handle). h ∷ []) made.is in
     let begun : BeginsOn made.kept.pending login 0 Ping made.kept made.link m.outcome m.uses there.made = subst (λ (hs : List Handle). Calls login 0 Ping (at_number hs 0) m.outcome m.uses there.made) handles there.does in
@@ -617,7 +617,7 @@ past_none (x ∷ xs) (suc number) h = past_none xs number (omega (arith, h))
 not_executed : (login : Login) (plans : Plans) (ls : List Line) (l : Line) (n number : ℕ) (params : Params) → l.step ≡ steps.Execute n number params → statement_at (statements_of ls) number ≡ None → AreGrown login plans (l ∷ ls) → l.outcome ≡ NoSuchHandle
 not_executed login plans ls l n number params is none w =
     let at : At n (ExecutesAt (statement_at (statements_of ls) number) login n params) (handles_after ls) l.outcome l.uses l.handles =
-    subst (λ (s : Step). StepGrows login plans (is_found (target s) s ls) (statement_named (named_statement s) (statements_of ls)) (handles_after ls) s l.outcome l.uses l.handles) is w.0.answer in
+    subst (λ (s : Step). StepGrows login plans (is_found (target s) s ls) (aim_at (target s) ls) (statement_named (named_statement s) (statements_of ls)) (handles_after ls) s l.outcome l.uses l.handles) is w.0.answer in
     (subst (λ (q : Option StatementView). ExecutesAt q login n params (at_number (handles_after ls) n) l.outcome l.uses at.made) none at.does).outcome
 
 pub no_closed_execution : NoClosedExecution
@@ -638,6 +638,6 @@ no_forgotten_rollback login plans ls l m n forgets done is shown w =
     ap (λ (s : Step). beside_by n (beside_of n ls) s m.outcome) forgets ∙ ap (λ (o : Outcome). beside_by n (beside_of n ls) (steps.ForgetTransaction n) o) done in
     let gone : is_found (Some n) (steps.Rollback n) (m ∷ ls) ≡ false =
     ap (λ (b : Beside). finds b (steps.Rollback n)) made ∙ ap (λ (b : Bool). finds (if b then beside_after (beside_of n ls) (steps.ForgetTransaction n) outcomes.Done else beside_of n ls) (steps.Rollback n)) here in
-    let at : At n (CallsWhere (is_found (Some n) (steps.Rollback n) (m ∷ ls)) login n Rollback) m.handles l.outcome l.uses l.handles =
-    subst (λ (s : Step). StepGrows login plans (is_found (target s) s (m ∷ ls)) (statement_named (named_statement s) (statements_of (m ∷ ls))) m.handles s l.outcome l.uses l.handles) is w.0.answer in
-    shown (subst (λ (b : Bool). CallsWhere b login n Rollback (at_number m.handles n) l.outcome l.uses at.made) gone at.does).outcome
+    let at : At n (Where (is_found (Some n) (steps.Rollback n) (m ∷ ls)) (Calls login n Rollback)) m.handles l.outcome l.uses l.handles =
+    subst (λ (s : Step). StepGrows login plans (is_found (target s) s (m ∷ ls)) (aim_at (target s) (m ∷ ls)) (statement_named (named_statement s) (statements_of (m ∷ ls))) m.handles s l.outcome l.uses l.handles) is w.0.answer in
+    shown (subst (λ (b : Bool). Where b (Calls login n Rollback) (at_number m.handles n) l.outcome l.uses at.made) gone at.does).outcome

@@ -13,7 +13,7 @@ use Rattle.my_script.specs.declared.transcript.Outcome.TheVariants.{Failed}
 use Rattle.my_script.specs.Numbered.{named_statement, statement_named}
 use Rattle.my_script.specs.Streams.{target}
 use Rattle.my_client.specs.Kept.{Kept, first_kept}
-use Rattle.my_steps.specs.Grows.{AreGrown, DialsNext, Fails, Line, StepGrows, handles_after, is_found, statements_of}
+use Rattle.my_steps.specs.Grows.{AreGrown, DialsNext, Fails, Line, StepGrows, handles_after, aim_at, is_found, statements_of}
 use Rattle.my_steps.specs.Handle.{Handle, Absent, Dialing, Joined, at_number}
 use Rattle.my_steps.specs.Midst.{DialTried, Kept as KeptAll, Faulted, Waited, Unused, Untold, LeavesOthers, MayDial, is_joined, number_of}
 use Rattle.my_steps.specs.Sums.{failed_use}
@@ -119,7 +119,7 @@ at_zero login plans dials (l ∷ []) rest handles e g w =
     let none : rest ≡ [] = cc in
     let number : number_next rest l.handles ≡ None = ap (λ (xs : List Step). number_next xs l.handles) none in
     let next : DialsNext login plans [] l.outcome l.uses l.handles =
-    subst (λ (s : Step). StepGrows login plans (is_found (target s) s []) (statement_named (named_statement s) (statements_of [])) [] s l.outcome l.uses l.handles) conn g.0.answer in
+    subst (λ (s : Step). StepGrows login plans (is_found (target s) s []) (aim_at (target s) []) (statement_named (named_statement s) (statements_of [])) [] s l.outcome l.uses l.handles) conn g.0.answer in
     (λ m is. let no : None ≡ Some m = sym number ∙ is in cc, by_number number next.made next.others)
   where
     by_number : number_next rest l.handles ≡ None → (made : Handle) → l.handles ≡ made ∷ [] → (m : ℕ) → is_joined (at_number handles m) ≡ true → m ≡ 0

@@ -1,11 +1,11 @@
-//! What stands beside the connections of a run, by their numbers: streams and transactions.
+//! What stands beside the connections of a run, by their numbers: streams, transactions, and the aims of open calls.
 ghost use Rattle.std.specs.Prelude.{◌≡◌, ℕ, OnOk};
 ghost use Rattle.my_script.specs.Beside.{beside_by, nothing_beside};
 ghost use Rattle.my_script.specs.Streams.{target};
-ghost use Rattle.my_run.specs.Beside.{beside_in, is_found_in};
+ghost use Rattle.my_run.specs.Beside.{aim_in, beside_in, is_found_in};
 
 use my_frame::NoMemory;
-use my_script::{Beside, Outcome, Step, target};
+use my_script::{Aim, Beside, Outcome, Step, target};
 use std::alloc::Global;
 use std::collections::BTreeMap;
 
@@ -40,6 +40,16 @@ impl BesideEach {
         match target(step) {
             None => true,
             Some(number) => self.at(number).finds(step),
+        }
+    }
+
+    /// The aim of the call that is open at the number that the step names.
+    pub(crate) fn aim(&self, step: &Step) -> Aim
+        ensures { result ≡ aim_in self.now (target step.now) }
+    {
+        match target(step) {
+            None => Aim::Row,
+            Some(number) => self.at(number).aim,
         }
     }
 

@@ -42,8 +42,9 @@ fn run_each<N: World>(
     let mut statements = NumberedStatements::new(alloc);
     for (i, step) in steps.iter().enumerate() {
         let found = beside.is_found(step);
+        let aim = beside.aim(step);
         let named = statement_for(&statements, step);
-        let did = run_step(alloc, opts, world, slots, step, found, named)?;
+        let did = run_step(alloc, opts, world, slots, step, found, aim, named)?;
         beside.note(step, &did.outcome)?;
         statements.note(alloc, step, &did.outcome)?;
         answers.push(StepAnswer {

@@ -16,6 +16,7 @@ use Rattle.my_reading.specs.declared.facts.Facts.{Facts}
 use Rattle.my_reading.specs.Calls.{kind_of}
 use Rattle.my_reading.specs.Errors.{io_error}
 use Rattle.my_reading.specs.Place.{Place, facts_at, is_taken}
+use Rattle.my_script.specs.declared.aim.Aim.{Aim}
 use Rattle.my_script.specs.declared.step.Step.{Step}
 use Rattle.my_script.specs.Beside.{finds}
 use Rattle.my_script.specs.Streams.{is_skip}
@@ -29,11 +30,12 @@ use Rattle.my_run_judge.specs.Seen.{TapeSeen}
 use Rattle.my_script.specs.declared.transcript.TapeCall.{TapeCall}
 use Rattle.my_script.specs.declared.transcript.Use.{Use}
 use Rattle.my_acts.specs.declared.act.Act.{Act}
-use Rattle.my_acts.specs.declared.act.Act.TheVariants.{Wrong, Skips, Tells, Holds, Fails, Connects, Polls, Takes, Ends, Cancels}
+use Rattle.my_acts.specs.declared.act.Act.TheVariants.{Wrong, Skips, Tells, Holds, Fails, Connects, Polls, Passes, Ends, Cancels}
+use Rattle.my_acts.specs.declared.act.Ground.{Ground}
 use Rattle.my_acts.specs.declared.act.Status.{Status}
 use Rattle.my_acts.specs.declared.act.Status.TheVariants.{Absent, Dialing, Open, Gathers}
 use Rattle.my_run_judge.specs.declared.walk.Spot.{Spot}
-use Rattle.my_acts.specs.Acts.{act_with, begun_by}
+use Rattle.my_acts.specs.Acts.{act_with, begun_by, ground_of, next_call}
 use Rattle.my_run_judge.specs.Walks.{Walk, with_status, with_taken, IsEnded, ended}
 
 -- the call is this one, where the line begins one
@@ -159,31 +161,31 @@ PollsRight login n t w begun outcome us = IsBegun begun (slice_get t.calls w.spo
     × ArePolled login n t outcome (first_of w.spot.status w.spot.next) us w
     × IsTold login (after_polls login t outcome us w).place outcome
 
--- a call passed over the rest of a set that a stream took, and the one that takes the next set is begun
+-- a call passed over the rest of a set that a stream took, and the one that takes the next set, or reads its row, is
+-- begun
 abbrev pub IsSkip : Option TapeCall → Type 0
 IsSkip None = ⊥
 IsSkip (Some c) = (c.call ≡ calls.SkipTaken) × (c.answer ≡ Some (Ok answers.Ready))
 
-abbrev pub SkipRight : Login → TapeSeen → Walk → Type 0
-SkipRight login t w = IsSkip (slice_get t.calls w.spot.next)
-    × IsBegun (Some calls.TakeSet) (slice_get t.calls (w.spot.next + 1)) × IsEnded login t false w
+abbrev pub SkipRight : Login → TapeSeen → Aim → Walk → Type 0
+SkipRight login t aim w = IsSkip (slice_get t.calls w.spot.next)
+    × IsBegun (Some (next_call aim)) (slice_get t.calls (w.spot.next + 1)) × IsEnded login t false w
 
-abbrev pub SkipPoll : Login → ℕ → TapeSeen → Use → Walk → Type 0
-SkipPoll login n t u w = Fits n t w.spot u × RowMet u.met × SkipRight login t (with_taken u.met.taken w)
+abbrev pub SkipPoll : Login → ℕ → TapeSeen → Aim → Use → Walk → Type 0
+SkipPoll login n t aim u w = Fits n t w.spot u × RowMet u.met × SkipRight login t aim (with_taken u.met.taken w)
 
--- both calls are polled, once each
-abbrev pub AreTaken : Login → ℕ → TapeSeen → Outcome → List Use → Walk → Type 0
-AreTaken login n t outcome [] w = ⊥
-AreTaken login n t outcome (u ∷ []) w = LastPoll login n t outcome w.spot.next u w
-AreTaken login n t outcome (u ∷ v ∷ us) w = ⊥
+-- it is polled once, and the others after it
+abbrev pub AreFollowed : Login → ℕ → TapeSeen → Outcome → List Use → Walk → Type 0
+AreFollowed login n t outcome us w = ArePolled login n t outcome w.spot.next us w
 
-abbrev pub ArePassed : Login → ℕ → TapeSeen → Outcome → List Use → Walk → Type 0
-ArePassed login n t outcome [] w = ⊥
-ArePassed login n t outcome (u ∷ us) w = SkipPoll login n t u w × AreTaken login n t outcome us (after_row_poll login t u w)
+abbrev pub ArePassed : Login → ℕ → TapeSeen → Aim → Outcome → List Use → Walk → Type 0
+ArePassed login n t aim outcome [] w = ⊥
+ArePassed login n t aim outcome (u ∷ us) w =
+    SkipPoll login n t aim u w × AreFollowed login n t outcome us (after_row_poll login t u w)
 
-abbrev pub TakesRight : Login → ℕ → TapeSeen → Walk → Option Call → Outcome → List Use → Type 0
-TakesRight login n t w begun outcome us =
-    IsBegun begun (slice_get t.calls w.spot.next) × ArePassed login n t outcome us w
+abbrev pub PassesRight : Login → ℕ → TapeSeen → Aim → Walk → Option Call → Outcome → List Use → Type 0
+PassesRight login n t aim w begun outcome us =
+    IsBegun begun (slice_get t.calls w.spot.next) × ArePassed login n t aim outcome us w
 
 -- the use of a dial that gave a link comes before those of the polls
 abbrev pub ConnectsRight : Login → ℕ → TapeSeen → Walk → Outcome → List Use → Type 0
@@ -227,7 +229,8 @@ ActRight login n t named w step outcome us Holds = DialRight n false outcome us
 ActRight login n t named w step outcome us Fails = DialRight n true outcome us
 ActRight login n t named w step outcome us (Connects status) = ConnectsRight login n t w outcome us
 ActRight login n t named w step outcome us (Polls status) = PollsRight login n t w (begun_in named w step) outcome us
-ActRight login n t named w step outcome us (Takes status) = TakesRight login n t w (begun_in named w step) outcome us
+ActRight login n t named w step outcome us (Passes aim status) =
+    PassesRight login n t aim w (begun_in named w step) outcome us
 ActRight login n t named w step outcome us (Ends status) = EndsAtOnce login t named w step outcome
 ActRight login n t named w step outcome us (Cancels status) = EndsUnanswered login t true w
 
@@ -240,7 +243,7 @@ after_reads login t w outcome us Holds = w
 after_reads login t w outcome us Fails = w
 after_reads login t w outcome us (Connects status) = after_polls login t outcome (drop 1 us) w
 after_reads login t w outcome us (Polls status) = after_polls login t outcome us w
-after_reads login t w outcome us (Takes status) = after_polls login t outcome us w
+after_reads login t w outcome us (Passes aim status) = after_polls login t outcome us w
 after_reads login t w outcome us (Ends status) = ended login t false w
 after_reads login t w outcome us (Cancels status) = ended login t true w
 
@@ -253,7 +256,7 @@ status_after old Holds = Dialing
 status_after old Fails = Absent
 status_after old (Connects status) = status
 status_after old (Polls status) = status
-status_after old (Takes status) = status
+status_after old (Passes aim status) = status
 status_after old (Ends status) = status
 status_after old (Cancels status) = status
 
@@ -261,10 +264,14 @@ abbrev pub after_act : Login → TapeSeen → Walk → Outcome → List Use → 
 after_act login t w outcome us act =
     let v = after_reads login t w outcome us act in with_status (status_after v.spot.status act) v
 
+-- what the calls that ended made of the connection
+abbrev pub ground_at : Walk → Ground
+ground_at w = ground_of w.closed (is_taken w.place)
+
 -- what a line does at connection n, after what the earlier ones made
 abbrev pub act_in : ℕ → Made → Walk → Step → StepAnswer → Act
-act_in n m w step a = act_with (finds m.beside step) (is_some (statement_for m step)) w.spot.status n w.spot.next w.closed step
-    a.outcome (length a.uses.items)
+act_in n m w step a = act_with (finds m.beside step) (is_some (statement_for m step)) m.beside.aim w.spot.status n
+    w.spot.next (ground_at w) step a.outcome (length a.uses.items)
 
 abbrev pub IsLine : Login → ℕ → TapeSeen → Made → Walk → Step → StepAnswer → Type 0
 IsLine login n t m w step a = ActRight login n t (statement_for m step) w step a.outcome a.uses.items (act_in n m w step a)

@@ -12,7 +12,7 @@ ghost use Rattle.my_run_judge.specs.Seen.{seen};
 use crate::line::is_dial;
 use crate::made::Made;
 use crate::walk::{Spot, Walker};
-use my_acts::{Act, Status, act_with};
+use my_acts::{Act, Ground, Status, act_with};
 use my_frame::NoMemory;
 use my_grammar::Login;
 use my_judge::first_reader;
@@ -54,7 +54,7 @@ fn status_after(old: Status, act: Act) -> Status
         Act::Skips(status)
         | Act::Connects(status)
         | Act::Polls(status)
-        | Act::Takes(status)
+        | Act::Passes(_, status)
         | Act::Ends(status)
         | Act::Cancels(status) => status,
     }
@@ -93,8 +93,8 @@ impl Walker {
             Act::Polls(_) => self.polls_right(
                 alloc, login, number, tape, named, step, outcome, uses,
             ),
-            Act::Takes(_) => self.takes_right(
-                alloc, login, number, tape, named, step, outcome, uses,
+            Act::Passes(aim, _) => self.passes_right(
+                alloc, login, number, tape, aim, named, step, outcome, uses,
             ),
             Act::Ends(_) => self.ends_at_once(alloc, login, tape, named, step, outcome),
             Act::Cancels(_) => self.ends_unanswered(alloc, login, tape, true),
@@ -126,13 +126,15 @@ impl Walker {
         let spot = self.spot;
         let named = made.statement_for(step);
         let uses = answer.uses.len();
+        let base = Ground::of(self.reader.closed, self.is_taken());
         let act = act_with(
             made.beside.finds(step),
             named.is_some(),
+            made.beside.aim,
             spot.status,
             number,
             spot.next,
-            self.reader.closed,
+            base,
             step,
             &answer.outcome,
             uses,

@@ -12,8 +12,8 @@ ghost use Rattle.my_run_judge.specs.Lines.{
   EndsAtOnce,
   EndsUnanswered,
   IsDialFault,
+  PassesRight,
   PollsRight,
-  TakesRight,
   after_polls,
   begun_in,
   use_of,
@@ -28,7 +28,7 @@ use my_frame::NoMemory;
 use my_grammar::Login;
 use my_link::Met;
 use my_reading::{Error, IoError, IoFault, IoKind};
-use my_script::{Outcome, Step, Tape, Use};
+use my_script::{Aim, Outcome, Step, Tape, Use};
 use my_statements::Statement;
 use std::alloc::Global;
 
@@ -84,7 +84,7 @@ impl Walker {
         number: u64,
         tape: &Tape,
         outcome: &Outcome,
-        first: usize,
+        first: u128,
         uses: &[Use],
     ) -> Result<bool, NoMemory>
         requires { IsSomewhere login.now self.old }
@@ -135,38 +135,40 @@ impl Walker {
         Ok(self.is_told(outcome))
     }
 
-    // The call that passes over a set's rest is polled, and then the one that takes the next set.
-    fn takes(
+    // The call that passes over a set's rest is polled, and then those that take the next set, or read it.
+    fn passes(
         &mut self,
         alloc: Global,
         login: &Login,
         number: u64,
         tape: &Tape,
+        aim: Aim,
         outcome: &Outcome,
         uses: &[Use],
     ) -> Result<bool, NoMemory>
         requires { IsSomewhere login.now self.old }
-        ensures { let there = ArePassed login.now number (seen tape.now) outcome.now uses.now in
+        ensures { let there = ArePassed login.now number (seen tape.now) aim outcome.now uses.now in
             let after = after_polls login.now (seen tape.now) outcome.now uses.now in
             IfOk result (λ right. Does login.now there after self.old right self.new) }
     {
-        let [skip, take] = uses else {
+        let Some((skip, others)) = uses.split_first() else {
             return Ok(false);
         };
-        if !self.poll_skip(alloc, login, number, tape, skip)? {
+        if !self.poll_skip(alloc, login, number, tape, aim, skip)? {
             return Ok(false);
         }
-        let first = self.spot.next;
-        self.poll_last(alloc, login, number, tape, outcome, first, take)
+        let first = self.spot.next as u128;
+        self.polls(alloc, login, number, tape, outcome, first, others)
     }
 
-    /// A set is taken, once the rest of an earlier one is passed over.
-    pub fn takes_right(
+    /// A set is taken, or read, once the rest of an earlier one is passed over.
+    pub fn passes_right(
         &mut self,
         alloc: Global,
         login: &Login,
         number: u64,
         tape: &Tape,
+        aim: Aim,
         named: Option<&Statement>,
         step: &Step,
         outcome: &Outcome,
@@ -175,14 +177,14 @@ impl Walker {
         requires { IsSomewhere login.now self.old }
         ensures { let statement = option_copied named.entry in
             let there = λ (w : Walk).
-            TakesRight login.now number (seen tape.now) w (begun_in statement w step.now) outcome.now uses.now in
+            PassesRight login.now number (seen tape.now) aim w (begun_in statement w step.now) outcome.now uses.now in
             let after = after_polls login.now (seen tape.now) outcome.now uses.now in
             IfOk result (λ right. Does login.now there after self.old right self.new) }
     {
         if !self.begins(tape, named, step) {
             return Ok(false);
         }
-        self.takes(alloc, login, number, tape, outcome, uses)
+        self.passes(alloc, login, number, tape, aim, outcome, uses)
     }
 
     /// The dial gave a link, and the handshake is polled.

@@ -22,7 +22,7 @@ ghost use Rattle.my_run_judge.specs.Walks.{Walk, ended};
 ghost use Rattle.my_run_judge.specs.Seen.{seen};
 
 use crate::meets::{last_met, row_met};
-use crate::shown::{is_next, is_pending, is_shown_at, is_skipped, is_taken_by};
+use crate::shown::{is_followed_by, is_next, is_pending, is_shown_at, is_skipped};
 use crate::walk::{Spot, Walker, call_after, call_at};
 use my_acts::Status;
 use my_frame::NoMemory;
@@ -30,26 +30,27 @@ use my_grammar::Login;
 use my_handshake::{ServerVersion, server_version};
 use my_reading::{Call, Facts};
 use my_reply::OkPacket;
-use my_script::{Outcome, Tape, TapeCall, Use};
+use my_script::{Aim, Outcome, Tape, TapeCall, Use};
 use std::alloc::Global;
 
 // The calls from a first one to the one in turn.
-fn calls_before(tape: &Tape, first: usize, next: usize) -> &[TapeCall]
+fn calls_before(tape: &Tape, first: u128, next: usize) -> &[TapeCall]
     ensures { result.now ≡ calls_before (seen tape.now) first next }
 {
     let calls = tape.calls.as_slice();
-    let (_, rest) = calls.split_at(first.min(calls.len()));
-    let (front, _) = rest.split_at(next.saturating_sub(first).min(rest.len()));
+    let (_, rest) = calls.split_at(first.min(calls.len() as u128) as usize);
+    let count = (next as u128).saturating_sub(first) as usize;
+    let (front, _) = rest.split_at(count.min(rest.len()));
     front
 }
 
 /// The calls of a gathering begin with this one.
-pub fn first_of(status: Status, next: usize) -> usize
+pub fn first_of(status: Status, next: usize) -> u128
     ensures { result ≡ first_of status next }
 {
     match status {
         Status::Gathers(first) => first,
-        _ => next,
+        _ => next as u128,
     }
 }
 
@@ -123,7 +124,7 @@ impl Walker {
         login: &Login,
         tape: &Tape,
         outcome: &Outcome,
-        first: usize,
+        first: u128,
     ) -> Result<bool, NoMemory>
         requires { IsSomewhere login.now self.old }
         ensures { let there = λ (w : Walk). LastRight login.now (seen tape.now) outcome.now first w false in
@@ -145,7 +146,7 @@ impl Walker {
         number: u64,
         tape: &Tape,
         outcome: &Outcome,
-        first: usize,
+        first: u128,
         used: &Use,
     ) -> Result<bool, NoMemory>
         requires { IsSomewhere login.now self.old }
@@ -187,17 +188,19 @@ impl Walker {
         self.end_call(alloc, login, tape, false)
     }
 
-    /// The first of two polls: the rest of a set is passed over, and the call that takes the next one is begun.
+    /// The first of several polls: the rest of a set is passed over, and the call that takes the next one, or reads its
+    /// row, is begun.
     pub fn poll_skip(
         &mut self,
         alloc: Global,
         login: &Login,
         number: u64,
         tape: &Tape,
+        aim: Aim,
         used: &Use,
     ) -> Result<bool, NoMemory>
         requires { IsSomewhere login.now self.old }
-        ensures { let there = SkipPoll login.now number (seen tape.now) used.now in
+        ensures { let there = SkipPoll login.now number (seen tape.now) aim used.now in
             let after = after_row_poll login.now (seen tape.now) used.now in
             IfOk result (λ right. Does login.now there after self.old right self.new) }
     {
@@ -206,7 +209,7 @@ impl Walker {
         }
         self.spot.taken += used.met.taken as usize;
         if !is_skipped(call_at(tape, self.spot.next))
-            || !is_taken_by(call_after(tape, self.spot.next))
+            || !is_followed_by(aim, call_after(tape, self.spot.next))
         {
             return Ok(false);
         }

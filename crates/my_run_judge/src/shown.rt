@@ -5,7 +5,7 @@ ghost use Rattle.std.specs.Bool.{Decides};
 ghost use Rattle.std.specs.Option.{option_copied};
 ghost use Rattle.my_reading.specs.Calls.{kind_of};
 ghost use Rattle.my_script.specs.Streams.{is_skip};
-ghost use Rattle.my_acts.specs.Acts.{begun_by, closing_call, executing_call, taking_call};
+ghost use Rattle.my_acts.specs.Acts.{begun_by, closing_call, executing_call, next_call, reading_call};
 ghost use Rattle.my_run_judge.specs.Lines.{
   IsBegun,
   IsCallOf,
@@ -26,7 +26,7 @@ use my_opts::ChangeUserOpts;
 use my_opts_parts::TxOpts;
 use my_params::Params;
 use my_reading::{Answer, Call, Error};
-use my_script::{Outcome, Step, TapeCall};
+use my_script::{Aim, Outcome, Step, TapeCall};
 use my_statements::Statement;
 
 fn is_query(text: &Blob, call: &Call) -> bool
@@ -129,13 +129,6 @@ fn passes_over(call: &Call) -> bool
     }
 }
 
-// Whether the call takes a set for a stream, where none took the set that is read, or passes over the rest of that one.
-fn is_taking(taken: bool, call: &Call) -> bool
-    ensures { Decides result (call.now ≡ taking_call taken) }
-{
-    if taken { is_skip(call) } else { is_take(call) }
-}
-
 /// Whether the call asks for the next row.
 pub fn is_next(call: &Call) -> bool
     ensures { Decides result (call.now ≡ Call.NextRow) }
@@ -143,6 +136,27 @@ pub fn is_next(call: &Call) -> bool
     match call {
         Call::NextRow => true,
         _ => false,
+    }
+}
+
+// Whether the call takes a set, or reads its row.
+fn is_following(aim: Aim, call: &Call) -> bool
+    ensures { Decides result (call.now ≡ next_call aim) }
+{
+    match aim {
+        Aim::Take => is_take(call),
+        Aim::Row | Aim::Rows => is_next(call),
+    }
+}
+
+// Whether it does so where no stream took the set that is read, or passes over the rest of that one.
+fn is_reading(taken: bool, aim: Aim, call: &Call) -> bool
+    ensures { Decides result (call.now ≡ reading_call taken aim) }
+{
+    if taken {
+        is_skip(call)
+    } else {
+        is_following(aim, call)
     }
 }
 
@@ -237,8 +251,10 @@ fn begins(taken: bool, named: Option<&Statement>, step: &Step, call: &Call) -> b
         Step::Prepare(_, text) => is_prepare(text, call),
         Step::Execute(_, _, params) => is_executed(named, params, call),
         Step::CloseStatement(_, _) => is_closed(named, call),
-        Step::Next(_) | Step::Collect(_) | Step::Item(_) => is_next(call),
-        Step::Stream(_) => is_taking(taken, call),
+        Step::Next(_) => is_reading(taken, Aim::Row, call),
+        Step::Collect(_) => is_reading(taken, Aim::Rows, call),
+        Step::Stream(_) => is_reading(taken, Aim::Take, call),
+        Step::Item(_) => is_next(call),
         Step::Drop(_) => is_drop(call),
         Step::Ping(_) => is_ping(call),
         Step::Reset(_) => is_reset(call),
@@ -319,12 +335,12 @@ pub fn is_skipped(call: Option<&TapeCall>) -> bool
     }
 }
 
-/// Whether the call takes a set.
-pub fn is_taken_by(call: Option<&TapeCall>) -> bool
-    ensures { Decides result (IsBegun (Some Call.TakeSet) (option_copied call.entry)) }
+/// Whether the call takes a set, or reads its row.
+pub fn is_followed_by(aim: Aim, call: Option<&TapeCall>) -> bool
+    ensures { Decides result (IsBegun (Some (next_call aim)) (option_copied call.entry)) }
 {
     match call {
-        Some(call) => is_take(&call.call),
+        Some(call) => is_following(aim, &call.call),
         None => false,
     }
 }

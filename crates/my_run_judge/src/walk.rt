@@ -90,8 +90,8 @@ pub fn call_after(tape: &Tape, next: usize) -> Option<&TapeCall>
 }
 
 impl Walker {
-    // Whether a stream took the set that is read, or whose end is left, on an open connection.
-    fn is_taken(&self) -> bool
+    /// Whether a stream took the set that is read, or whose end is left, on an open connection.
+    pub fn is_taken(&self) -> bool
         ensures { IsTakenAt self.now result }
     {
         self.reader.is_taken()

@@ -1,5 +1,6 @@
 pub mod Cut
 pub mod Streams
+pub mod Aims
 pub mod Transactions
 pub mod Beside
 pub mod Numbered

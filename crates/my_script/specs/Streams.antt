@@ -7,7 +7,7 @@ use Rattle.my_script.specs.declared.step.Step.TheVariants as steps
 use Rattle.my_script.specs.declared.stream.Stream.{Stream}
 use Rattle.my_script.specs.declared.stream.Stream.TheVariants.{Without, Taking, There, Reading}
 use Rattle.my_script.specs.declared.transcript.Outcome.{Outcome}
-use Rattle.my_script.specs.declared.transcript.Outcome.TheVariants.{Done, Pending, Row}
+use Rattle.my_script.specs.declared.transcript.Outcome.TheVariants.{Done, Pending}
 
 -- the number of the connection that a step names; `conn` names none, nor do the steps of the world
 abbrev pub target : Step → Option ℕ
@@ -42,31 +42,32 @@ after_taking Done = There
 after_taking Pending = Taking
 after_taking outcome = Without
 
--- its next row is read; its set's end and an error spend it
+-- a row of it is awaited, or none is any more
 abbrev pub after_item : Outcome → Stream
-after_item (Row row) = There
 after_item Pending = Reading
-after_item outcome = Without
+after_item outcome = There
 
--- the open call goes on
+-- the open call goes on: another one leaves the stream
 abbrev pub after_poll : Stream → Outcome → Stream
 after_poll Taking outcome = after_taking outcome
 after_poll Reading outcome = after_item outcome
-after_poll stream outcome = Without
+after_poll stream outcome = stream
 
--- the open call is cancelled; a row that isn't awaited any more leaves the stream
+-- the open call is cancelled: where a set was being taken no stream is there
 abbrev pub after_cancel : Stream → Stream
+after_cancel Without = Without
+after_cancel Taking = Without
+after_cancel There = There
 after_cancel Reading = There
-after_cancel stream = Without
 
--- After a step at its number that isn't refused: each other one that begins a call lets the stream go first, as `unstream` does.
+-- After a step at its number that isn't refused: a stream stays until it is let go or the next one takes a set.
 abbrev pub stream_after : Stream → Step → Outcome → Stream
 stream_after stream (steps.Stream n) outcome = after_taking outcome
 stream_after stream (steps.Item n) outcome = after_item outcome
-stream_after stream (steps.Fields n) outcome = stream
+stream_after stream (steps.Unstream n) outcome = Without
 stream_after stream (steps.Poll n) outcome = after_poll stream outcome
 stream_after stream (steps.Cancel n) outcome = after_cancel stream
-stream_after stream step outcome = Without
+stream_after stream step outcome = stream
 
 -- an item is read, or the stream let go, only where one is there and reads nothing
 abbrev pub is_there : Stream → Bool

@@ -1,7 +1,9 @@
-//! What stands beside a connection's calls, as it follows from the lines of a run: a stream and a transaction.
+//! What stands beside a connection's calls, as it follows from the lines of a run: a stream, a transaction, and the aim of its
+//! open call.
 ghost use Rattle.std.specs.Prelude.{◌≡◌};
 ghost use Rattle.my_script.specs.Beside.{beside_after, beside_by, finds, nothing_beside};
 
+use crate::aim::{Aim, aim_after};
 use crate::stream::{Stream, is_there, stream_after, target};
 use crate::transaction::{Transaction, is_begun, transaction_after};
 use crate::{Outcome, Step};
@@ -11,6 +13,7 @@ use crate::{Outcome, Step};
 pub struct Beside {
     pub stream: Stream,
     pub transaction: Transaction,
+    pub aim: Aim,
 }
 
 impl Beside {
@@ -21,6 +24,7 @@ impl Beside {
         Beside {
             stream: Stream::Without,
             transaction: Transaction::Without,
+            aim: Aim::Row,
         }
     }
 
@@ -33,6 +37,7 @@ impl Beside {
             _ => Beside {
                 stream: stream_after(self.stream, step, outcome),
                 transaction: transaction_after(self.transaction, step, outcome),
+                aim: aim_after(self.aim, step),
             },
         }
     }

@@ -2,6 +2,7 @@
 //! plan, and what its steps came to with the text of it.
 #![tactic(auto)]
 
+mod aim;
 mod beside;
 mod reading;
 mod statements;
@@ -12,6 +13,7 @@ mod transaction;
 mod transcript;
 mod words;
 
+pub use aim::Aim;
 pub use beside::Beside;
 pub use reading::script::{BadLine, Read, Script, read_script};
 pub use statements::{NumberedStatements, named_statement};

@@ -61,9 +61,8 @@ fn after_item(outcome: &Outcome) -> Stream
     ensures { result ≡ after_item outcome.now }
 {
     match outcome {
-        Outcome::Row(_) => Stream::There,
         Outcome::Pending => Stream::Reading,
-        _ => Stream::Without,
+        _ => Stream::There,
     }
 }
 
@@ -73,7 +72,7 @@ fn after_poll(stream: Stream, outcome: &Outcome) -> Stream
     match stream {
         Stream::Taking => after_taking(outcome),
         Stream::Reading => after_item(outcome),
-        Stream::Without | Stream::There => Stream::Without,
+        Stream::Without | Stream::There => stream,
     }
 }
 
@@ -81,8 +80,8 @@ fn after_cancel(stream: Stream) -> Stream
     ensures { result ≡ after_cancel stream }
 {
     match stream {
-        Stream::Reading => Stream::There,
-        Stream::Without | Stream::Taking | Stream::There => Stream::Without,
+        Stream::Without | Stream::Taking => Stream::Without,
+        Stream::There | Stream::Reading => Stream::There,
     }
 }
 
@@ -93,10 +92,10 @@ pub fn stream_after(stream: Stream, step: &Step, outcome: &Outcome) -> Stream
     match step {
         Step::Stream(_) => after_taking(outcome),
         Step::Item(_) => after_item(outcome),
-        Step::Fields(_) => stream,
+        Step::Unstream(_) => Stream::Without,
         Step::Poll(_) => after_poll(stream, outcome),
         Step::Cancel(_) => after_cancel(stream),
-        _ => Stream::Without,
+        _ => stream,
     }
 }
 

@@ -4,6 +4,7 @@
 
 pub mod laws;
 mod queries;
+mod starts;
 mod stream;
 mod streams;
 mod taken;
@@ -18,8 +19,9 @@ pub use my_results::{
     Transaction, Tried, TxOpts, Value, World, bytes, connect, connect_with, named, positional,
     text,
 };
-pub use queries::{BatchQuery, Query, QueryWithParams, WithParams};
+pub use queries::{BatchQuery, Query};
+pub use starts::{QueryWithParams, Starts, WithParams};
 pub use stream::SetStream;
 pub use streams::{IntoStream, Streams};
-pub use taken::TakenSet;
+pub use taken::{TakenSet, take_first};
 pub use unread::Unread;

@@ -1,34 +1,37 @@
 //! Queries that are made of a text, or of a statement and its parameters, and then run at a holder.
 ghost use Rattle.std.specs.Prelude.{◌≡◌, None, IfOk};
 
+use crate::starts::{QueryWithParams, Starts};
 use crate::stream::SetStream;
-use crate::streams::Streams;
+use crate::taken::take_first;
 use my_params::Params;
-use my_query::{AsQuery, Lent, QueryError, Queryable, StatementLike};
+use my_query::{
+    AsQuery, Calls, Lent, QueryError, Queryable, StatementLike, collect_answer, drop_answer,
+    first_of_answer, fold_answer, map_answer,
+};
 use my_reading::Error;
-use my_results::{BinaryProtocol, QueryResult, Results, TextProtocol};
+use my_results::{BinaryProtocol, QueryResult, TextProtocol};
 use my_value::FromRow;
 use std::alloc::Global;
+use std::marker::PhantomData;
 
-/// A text, or a statement and its parameters, that is run at a holder. Each call is the holder's own. None may be made while
-/// a call that was polled is open.
-pub trait Query: Sized {
+/// A text, or a statement and its parameters, that is run at a holder. None of its calls may be made while a call that was
+/// polled is open.
+pub trait Query: Starts {
     ghost use Rattle.my_query.specs.Answers.{AnswerIs, NothingIs};
     ghost use Rattle.my_query.specs.Calls.{CollectsFirst, FoldsFirst, MapsFirst};
     ghost use Rattle.my_query.specs.Reads.{ItemIs};
     ghost use Rattle.my_results.specs.Results.{BegunIs};
-    ghost use Rattle.my_sets.specs.Starts.{Start, StartIs};
+    ghost use Rattle.my_sets.specs.Starts.{StartIs};
     ghost use Rattle.my_sets.specs.Streams.{BegunStreamIs};
     ghost use Rattle.my_sets.specs.Taken.{TakesFirst};
 
     /// The protocol of its rows.
     type Protocol;
 
-    /// How its answer is begun.
-    ghost start_of: { Self → Start };
-
-    /// Sends it, and returns its result: its rows are still to be read.
-    fn run<'a, C: Results>(
+    /// Sends it, and returns its result: its rows are still to be read. Of the holder after an error this says nothing; `start`
+    /// and then `QueryResult::of` do.
+    fn run<'a, C: Calls>(
         self,
         alloc: Global,
         conn: &'a mut C,
@@ -37,11 +40,20 @@ pub trait Query: Sized {
         ensures idle { IfOk result (λ r. (C.conn_of r.holder.holder.now).pending ≡ None) }
         ensures loans { IfOk result (λ r. C.loans_of r.holder.holder.now ≡ C.loans_of conn.old) }
         ensures name { IfOk result (λ r. r.holder.holder.ghost_name ≡ conn.entry.ghost_name) }
-        ensures begun { BegunIs (λ c. C.conn_of c) (StartIs C.L.looks (start_of self) (C.conn_of conn.old)) result };
+        ensures begun { BegunIs (λ c. C.conn_of c) (StartIs C.L.looks (Self.start_of self) (C.conn_of conn.old)) result }
+    {
+        match self.start(alloc, conn) {
+            Ok(()) => Ok(QueryResult {
+                holder: Lent { holder: conn },
+                protocol: PhantomData,
+            }),
+            Err(error) => Err(error),
+        }
+    }
 
     /// What the first row of the first set became. `None`: that set has no row, or there is no set. The rest of the answer is
     /// dropped.
-    fn first<T: FromRow + Drop, C: Queryable>(
+    fn first<T: FromRow + Drop, C: Calls>(
         self,
         alloc: Global,
         conn: &mut C,
@@ -49,11 +61,15 @@ pub trait Query: Sized {
         requires { (C.conn_of conn.old).pending ≡ None }
         ensures idle { (C.conn_of conn.new).pending ≡ None }
         ensures loans { C.loans_of conn.new ≡ C.loans_of conn.old }
-        ensures first { AnswerIs C.L.looks (StartIs C.L.looks (start_of self))
-            (ItemIs C.L.looks T.row_converts T.row_becomes) (C.conn_of conn.old) (C.conn_of conn.new) result };
+        ensures first { AnswerIs C.L.looks (StartIs C.L.looks (Self.start_of self))
+            (ItemIs C.L.looks T.row_converts T.row_becomes) (C.conn_of conn.old) (C.conn_of conn.new) result }
+    {
+        let begun = self.start(alloc, conn);
+        first_of_answer::<T, C>(conn, alloc, begun)
+    }
 
     /// What the rows of the first set became, in order. The rest of the answer is dropped.
-    fn fetch<T: FromRow + Drop, C: Queryable>(
+    fn fetch<T: FromRow + Drop, C: Calls>(
         self,
         alloc: Global,
         conn: &mut C,
@@ -61,11 +77,15 @@ pub trait Query: Sized {
         requires { (C.conn_of conn.old).pending ≡ None }
         ensures idle { (C.conn_of conn.new).pending ≡ None }
         ensures loans { C.loans_of conn.new ≡ C.loans_of conn.old }
-        ensures collects { CollectsFirst C.L.looks (StartIs C.L.looks (start_of self))
-            T.row_converts T.row_becomes (C.conn_of conn.old) (C.conn_of conn.new) result };
+        ensures collects { CollectsFirst C.L.looks (StartIs C.L.looks (Self.start_of self))
+            T.row_converts T.row_becomes (C.conn_of conn.old) (C.conn_of conn.new) result }
+    {
+        let begun = self.start(alloc, conn);
+        collect_answer::<T, C>(conn, alloc, begun)
+    }
 
     /// What the function makes of each row of the first set, in order. The rest of the answer is dropped.
-    fn map<T: FromRow, U: Drop, F: FnMut(T) -> U, C: Queryable>(
+    fn map<T: FromRow, U: Drop, F: FnMut(T) -> U, C: Calls>(
         self,
         alloc: Global,
         conn: &mut C,
@@ -75,12 +95,16 @@ pub trait Query: Sized {
         requires callable { F.IsAlwaysCallable f }
         ensures idle { (C.conn_of conn.new).pending ≡ None }
         ensures loans { C.loans_of conn.new ≡ C.loans_of conn.old }
-        ensures maps { MapsFirst C.L.looks (StartIs C.L.looks (start_of self))
+        ensures maps { MapsFirst C.L.looks (StartIs C.L.looks (Self.start_of self))
             T.row_converts T.row_becomes (λ p x v q. F.step p x v q) f
-            (C.conn_of conn.old) (C.conn_of conn.new) result };
+            (C.conn_of conn.old) (C.conn_of conn.new) result }
+    {
+        let begun = self.start(alloc, conn);
+        map_answer::<T, U, F, C>(conn, alloc, begun, f)
+    }
 
     /// Folds the function over the rows of the first set, in order, from `init`. The rest of the answer is dropped.
-    fn reduce<T: FromRow, U: Drop, F: FnMut(U, T) -> U, C: Queryable>(
+    fn reduce<T: FromRow, U: Drop, F: FnMut(U, T) -> U, C: Calls>(
         self,
         alloc: Global,
         conn: &mut C,
@@ -91,12 +115,17 @@ pub trait Query: Sized {
         requires callable { F.IsAlwaysCallable f }
         ensures idle { (C.conn_of conn.new).pending ≡ None }
         ensures loans { C.loans_of conn.new ≡ C.loans_of conn.old }
-        ensures folds { FoldsFirst C.L.looks (StartIs C.L.looks (start_of self))
+        ensures folds { FoldsFirst C.L.looks (StartIs C.L.looks (Self.start_of self))
             T.row_converts T.row_becomes (λ p x y v q. F.step p x y v q) init f
-            (C.conn_of conn.old) (C.conn_of conn.new) result };
+            (C.conn_of conn.old) (C.conn_of conn.new) result }
+    {
+        let begun = self.start(alloc, conn);
+        fold_answer::<T, U, F, C>(conn, alloc, begun, init, f)
+    }
 
-    /// The rows of the first set of its answer as a stream.
-    fn stream<'a, T: FromRow, C: Streams>(
+    /// The rows of the first set of its answer as a stream. Of the holder after an error this says nothing; `take_first` and
+    /// then `SetStream::of` do.
+    fn stream<'a, T: FromRow, C: Calls>(
         self,
         alloc: Global,
         conn: &'a mut C,
@@ -106,172 +135,40 @@ pub trait Query: Sized {
         ensures loans { IfOk result (λ s. C.loans_of s.result.holder.holder.now ≡ C.loans_of conn.old) }
         ensures name { IfOk result (λ s. s.result.holder.holder.ghost_name ≡ conn.entry.ghost_name) }
         ensures begun { BegunStreamIs (λ c. C.conn_of c)
-            (TakesFirst C.L.looks (StartIs C.L.looks (start_of self)) (C.conn_of conn.old)) result };
+            (TakesFirst C.L.looks (StartIs C.L.looks (Self.start_of self)) (C.conn_of conn.old)) result }
+    {
+        match take_first::<Self, C>(conn, alloc, self) {
+            Ok(set) => Ok(SetStream {
+                result: QueryResult {
+                    holder: Lent { holder: conn },
+                    protocol: PhantomData,
+                },
+                set,
+                item: PhantomData,
+            }),
+            Err(error) => Err(error),
+        }
+    }
 
     /// Drops its answer.
-    fn ignore<C: Queryable>(self, alloc: Global, conn: &mut C) -> Result<(), QueryError>
+    fn ignore<C: Calls>(self, alloc: Global, conn: &mut C) -> Result<(), QueryError>
         requires { (C.conn_of conn.old).pending ≡ None }
         ensures idle { (C.conn_of conn.new).pending ≡ None }
         ensures loans { C.loans_of conn.new ≡ C.loans_of conn.old }
-        ensures drops { AnswerIs C.L.looks (StartIs C.L.looks (start_of self)) NothingIs
-            (C.conn_of conn.old) (C.conn_of conn.new) result };
+        ensures drops { AnswerIs C.L.looks (StartIs C.L.looks (Self.start_of self)) NothingIs
+            (C.conn_of conn.old) (C.conn_of conn.new) result }
+    {
+        let begun = self.start(alloc, conn);
+        drop_answer(conn, alloc, begun)
+    }
 }
 
 impl<Q: AsQuery + Drop> Query for Q {
-    ghost use Rattle.my_sets.specs.Starts.{Asks};
-
     type Protocol = TextProtocol;
-
-    ghost start_of = { λ q. Asks (Q.text_of q) };
-
-    fn run<'a, C: Results>(
-        self,
-        alloc: Global,
-        conn: &'a mut C,
-    ) -> Result<QueryResult<Lent<'a, C>, TextProtocol>, Error> {
-        conn.query_iter(alloc, &self)
-    }
-
-    fn first<T: FromRow + Drop, C: Queryable>(
-        self,
-        alloc: Global,
-        conn: &mut C,
-    ) -> Result<Option<T>, QueryError> {
-        conn.query_first(alloc, &self)
-    }
-
-    fn fetch<T: FromRow + Drop, C: Queryable>(
-        self,
-        alloc: Global,
-        conn: &mut C,
-    ) -> Result<Vec<T>, QueryError> {
-        conn.query(alloc, &self)
-    }
-
-    fn map<T: FromRow, U: Drop, F: FnMut(T) -> U, C: Queryable>(
-        self,
-        alloc: Global,
-        conn: &mut C,
-        f: F,
-    ) -> Result<Vec<U>, QueryError> {
-        conn.query_map::<T, Q, U, F>(alloc, &self, f)
-    }
-
-    fn reduce<T: FromRow, U: Drop, F: FnMut(U, T) -> U, C: Queryable>(
-        self,
-        alloc: Global,
-        conn: &mut C,
-        init: U,
-        f: F,
-    ) -> Result<U, QueryError> {
-        conn.query_fold::<T, Q, U, F>(alloc, &self, init, f)
-    }
-
-    fn stream<'a, T: FromRow, C: Streams>(
-        self,
-        alloc: Global,
-        conn: &'a mut C,
-    ) -> Result<SetStream<Lent<'a, C>, T, TextProtocol>, Error> {
-        conn.query_stream(alloc, &self)
-    }
-
-    fn ignore<C: Queryable>(self, alloc: Global, conn: &mut C) -> Result<(), QueryError> {
-        conn.query_drop(alloc, &self)
-    }
-}
-
-/// What names a statement, and its parameters.
-#[derive(Drop)]
-pub struct QueryWithParams<Q, P> {
-    pub query: Q,
-    pub params: P,
-}
-
-/// What is given parameters.
-pub trait WithParams: Sized {
-    /// With these parameters: `Params`, or a list of them for `batch`.
-    fn with<P>(self, params: P) -> QueryWithParams<Self, P>
-        ensures query { result.query ≡ self }
-        ensures params { result.params ≡ params };
-}
-
-impl<Q: StatementLike> WithParams for Q {
-    fn with<P>(self, params: P) -> QueryWithParams<Q, P> {
-        QueryWithParams {
-            query: self,
-            params,
-        }
-    }
 }
 
 impl<Q: StatementLike + Drop> Query for QueryWithParams<Q, Params> {
-    ghost use Rattle.my_sets.specs.Starts.{Executes};
-
     type Protocol = BinaryProtocol;
-
-    ghost start_of = { λ q. Executes (Q.like_of q.query) q.params };
-
-    fn run<'a, C: Results>(
-        self,
-        alloc: Global,
-        conn: &'a mut C,
-    ) -> Result<QueryResult<Lent<'a, C>, BinaryProtocol>, Error> {
-        let QueryWithParams { query, params } = self;
-        conn.exec_iter(alloc, &query, params)
-    }
-
-    fn first<T: FromRow + Drop, C: Queryable>(
-        self,
-        alloc: Global,
-        conn: &mut C,
-    ) -> Result<Option<T>, QueryError> {
-        let QueryWithParams { query, params } = self;
-        conn.exec_first(alloc, &query, params)
-    }
-
-    fn fetch<T: FromRow + Drop, C: Queryable>(
-        self,
-        alloc: Global,
-        conn: &mut C,
-    ) -> Result<Vec<T>, QueryError> {
-        let QueryWithParams { query, params } = self;
-        conn.exec(alloc, &query, params)
-    }
-
-    fn map<T: FromRow, U: Drop, F: FnMut(T) -> U, C: Queryable>(
-        self,
-        alloc: Global,
-        conn: &mut C,
-        f: F,
-    ) -> Result<Vec<U>, QueryError> {
-        let QueryWithParams { query, params } = self;
-        conn.exec_map::<T, Q, U, F>(alloc, &query, params, f)
-    }
-
-    fn reduce<T: FromRow, U: Drop, F: FnMut(U, T) -> U, C: Queryable>(
-        self,
-        alloc: Global,
-        conn: &mut C,
-        init: U,
-        f: F,
-    ) -> Result<U, QueryError> {
-        let QueryWithParams { query, params } = self;
-        conn.exec_fold::<T, Q, U, F>(alloc, &query, params, init, f)
-    }
-
-    fn stream<'a, T: FromRow, C: Streams>(
-        self,
-        alloc: Global,
-        conn: &'a mut C,
-    ) -> Result<SetStream<Lent<'a, C>, T, BinaryProtocol>, Error> {
-        let QueryWithParams { query, params } = self;
-        conn.exec_stream(alloc, &query, params)
-    }
-
-    fn ignore<C: Queryable>(self, alloc: Global, conn: &mut C) -> Result<(), QueryError> {
-        let QueryWithParams { query, params } = self;
-        conn.exec_drop(alloc, &query, params)
-    }
 }
 
 /// A statement that is executed once with each of its parameters.

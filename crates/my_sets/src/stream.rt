@@ -1,15 +1,15 @@
 //! The rows of one set, read one at a time of a result that the stream owns.
-ghost use Rattle.std.specs.Prelude.{◌≡◌, IfOk, None, true};
+ghost use Rattle.std.specs.Prelude.{◌≡◌, IfOk, None};
 ghost use Rattle.std.specs.Option.{option_copied};
 ghost use Rattle.my_conn.specs.Facts.{affected_by, id_of, info_by, insert_by, warnings_by};
 ghost use Rattle.my_results.specs.Streams.{CollectsLeft, ItemLeftIs};
 
 use crate::taken::TakenSet;
 use my_frame::NoMemory;
-use my_query::{Calls, QueryError};
+use my_query::{Calls, Lent, QueryError};
 use my_reading::SetColumns;
 use my_reply::{Column, OkPacket};
-use my_results::{QueryResult, ResultSetStream};
+use my_results::{QueryResult, collect_left, next_left};
 use my_value::FromRow;
 use std::alloc::Global;
 use std::marker::PhantomData;
@@ -23,8 +23,26 @@ pub struct SetStream<C, T, P> {
     pub item: PhantomData<T>,
 }
 
+impl<'a, C, T, P> SetStream<Lent<'a, C>, T, P> {
+    /// The rows of a set that was taken at this holder, which is lent until this is let go.
+    pub fn of(holder: &'a mut C, set: TakenSet) -> SetStream<Lent<'a, C>, T, P>
+        ensures same { result.result.holder.holder.ghost_name ≡ holder.entry.ghost_name }
+        ensures value { result.result.holder.holder.now ≡ holder.old }
+        ensures set { result.set ≡ set }
+    {
+        SetStream {
+            result: QueryResult {
+                holder: Lent { holder },
+                protocol: PhantomData,
+            },
+            set,
+            item: PhantomData,
+        }
+    }
+}
+
 impl<C: Calls, T: FromRow, P> SetStream<C, T, P> {
-    /// What the next row becomes. `None`: the set ended, or a read failed before; then nothing is read.
+    /// What the next row becomes, as in `next_left`.
     pub fn next(&mut self, alloc: Global) -> Result<Option<T>, QueryError>
         requires { (C.conn_of self.old.result.holder).pending ≡ None }
         ensures idle { (C.conn_of self.new.result.holder).pending ≡ None }
@@ -34,38 +52,22 @@ impl<C: Calls, T: FromRow, P> SetStream<C, T, P> {
         ensures columns { self.new.set.columns ≡ self.old.set.columns }
         ensures ok { self.new.set.ok ≡ self.old.set.ok }
     {
-        let mut left = ResultSetStream::<C, T, P> {
-            over: &mut self.result,
-            ended: self.set.ended,
-            item: PhantomData,
-        };
-        let read = left.next(alloc);
-        let ended = left.ended;
-        self.set.ended = ended;
-        read
+        next_left::<T, C>(&mut self.result.holder, alloc, &mut self.set.ended)
     }
 }
 
 impl<C: Calls, T: FromRow + Drop, P> SetStream<C, T, P> {
-    /// What the rows that are left of the set become, in order. A row that doesn't convert ends it.
+    /// What the rows that are left of the set become, as in `collect_left`.
     pub fn collect(&mut self, alloc: Global) -> Result<Vec<T>, QueryError>
         requires { (C.conn_of self.old.result.holder).pending ≡ None }
         ensures idle { (C.conn_of self.new.result.holder).pending ≡ None }
         ensures loans { C.loans_of self.new.result.holder ≡ C.loans_of self.old.result.holder }
-        ensures ended { self.new.set.ended ≡ true }
-        ensures left { CollectsLeft C.L.looks T.row_converts T.row_becomes self.old.set.ended
+        ensures left { CollectsLeft C.L.looks T.row_converts T.row_becomes self.old.set.ended self.new.set.ended
             (C.conn_of self.old.result.holder) (C.conn_of self.new.result.holder) result }
         ensures columns { self.new.set.columns ≡ self.old.set.columns }
         ensures ok { self.new.set.ok ≡ self.old.set.ok }
     {
-        let mut left = ResultSetStream::<C, T, P> {
-            over: &mut self.result,
-            ended: self.set.ended,
-            item: PhantomData,
-        };
-        let items = left.collect(alloc);
-        self.set.ended = true;
-        items
+        collect_left::<T, C>(&mut self.result.holder, alloc, &mut self.set.ended)
     }
 }
 

@@ -4,8 +4,10 @@ ghost use Rattle.my_query.specs.Begins.{ExecuteIs, QueryIs};
 ghost use Rattle.my_sets.specs.Streams.{BegunStreamIs, OwnStreamIs};
 ghost use Rattle.my_sets.specs.Taken.{TakesFirst, TakesSet};
 
+use crate::queries::Query;
+use crate::starts::QueryWithParams;
 use crate::stream::SetStream;
-use crate::taken::{take, take_execution, take_query};
+use crate::taken::take;
 use my_conn::Conn;
 use my_connect::{Client, Transaction};
 use my_link::BlockingLink;
@@ -33,17 +35,7 @@ pub trait Streams: Calls {
         ensures begun { BegunStreamIs (λ c. Self.conn_of c)
             (TakesFirst Self.L.looks (QueryIs Self.L.looks (Q.text_of query.now)) (Self.conn_of self.old)) result }
     {
-        match take_query::<Q, Self>(self, alloc, query) {
-            Ok(set) => Ok(SetStream {
-                result: QueryResult {
-                    holder: Lent { holder: self },
-                    protocol: PhantomData,
-                },
-                set,
-                item: PhantomData,
-            }),
-            Err(error) => Err(error),
-        }
+        query.stream::<T, Self>(alloc, self)
     }
 
     /// Executes the statement that is named with these parameters, and returns the rows of the first set of its answer as a
@@ -62,17 +54,11 @@ pub trait Streams: Calls {
             (TakesFirst Self.L.looks (ExecuteIs Self.L.looks (S.like_of stmt.now) params) (Self.conn_of self.old))
             result }
     {
-        match take_execution::<S, Self>(self, alloc, stmt, params) {
-            Ok(set) => Ok(SetStream {
-                result: QueryResult {
-                    holder: Lent { holder: self },
-                    protocol: PhantomData,
-                },
-                set,
-                item: PhantomData,
-            }),
-            Err(error) => Err(error),
-        }
+        let started = QueryWithParams {
+            query: stmt,
+            params,
+        };
+        started.stream::<T, Self>(alloc, self)
     }
 }
 

@@ -1,13 +1,13 @@
 //! A set that a stream took, and what is known of it.
 ghost use Rattle.std.specs.Prelude.{◌≡◌, IfOk, None};
-ghost use Rattle.my_query.specs.Begins.{ExecuteIs, QueryIs};
+ghost use Rattle.my_sets.specs.Starts.{StartIs};
 ghost use Rattle.my_sets.specs.Taken.{HeadIs, TakesAfter, TakesFirst, TakesSet};
 ghost use Rattle.my_sets.specs.Unread.{next_columns};
 
+use crate::starts::Starts;
 use my_conn::Conn;
 use my_frame::NoMemory;
-use my_params::Params;
-use my_query::{AsQuery, Calls, StatementLike, execute, send_text};
+use my_query::Calls;
 use my_reading::{Error, SetColumns};
 use my_reply::OkPacket;
 use std::alloc::Global;
@@ -89,35 +89,19 @@ fn take_begun<C: Calls>(
     }
 }
 
-// Sends a query of this text, and takes the first set of its answer.
-pub(crate) fn take_query<Q: AsQuery, C: Calls>(
+/// Begins an answer so, and takes its first set for a stream (`SetStream::of`). This says of the holder what it is afterwards, also
+/// where it fails.
+pub fn take_first<S: Starts, C: Calls>(
     conn: &mut C,
     alloc: Global,
-    query: &Q,
+    started: S,
 ) -> Result<TakenSet, Error>
     requires { (C.conn_of conn.old).pending ≡ None }
     ensures idle { (C.conn_of conn.new).pending ≡ None }
     ensures loans { C.loans_of conn.new ≡ C.loans_of conn.old }
-    ensures takes { TakesFirst C.L.looks (QueryIs C.L.looks (Q.text_of query.now))
+    ensures takes { TakesFirst C.L.looks (StartIs C.L.looks (S.start_of started))
         (C.conn_of conn.old) (C.conn_of conn.new) result }
 {
-    let begun = send_text::<Q, C>(conn, alloc, query);
-    take_begun(conn, alloc, begun)
-}
-
-// Executes the statement that is named with these parameters, and takes the first set of its answer.
-pub(crate) fn take_execution<S: StatementLike, C: Calls>(
-    conn: &mut C,
-    alloc: Global,
-    stmt: &S,
-    params: Params,
-) -> Result<TakenSet, Error>
-    requires { (C.conn_of conn.old).pending ≡ None }
-    ensures idle { (C.conn_of conn.new).pending ≡ None }
-    ensures loans { C.loans_of conn.new ≡ C.loans_of conn.old }
-    ensures takes { TakesFirst C.L.looks (ExecuteIs C.L.looks (S.like_of stmt.now) params)
-        (C.conn_of conn.old) (C.conn_of conn.new) result }
-{
-    let begun = execute::<S, C>(conn, alloc, stmt, params);
+    let begun = started.start(alloc, conn);
     take_begun(conn, alloc, begun)
 }

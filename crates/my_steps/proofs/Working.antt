@@ -16,6 +16,7 @@ use Rattle.my_grammar.specs.declared.login.Login.{Login}
 use Rattle.my_reading.specs.declared.call.Call.{Call}
 use Rattle.my_link.specs.Looks.{Looks}
 use Rattle.my_world.specs.World.{Plans, SameBut}
+use Rattle.my_script.specs.declared.aim.Aim.{Aim}
 use Rattle.my_script.specs.declared.transcript.Outcome.{Outcome}
 use Rattle.my_script.specs.declared.transcript.Outcome.TheVariants.{Done, NoSuchHandle}
 use Rattle.my_script.specs.declared.transcript.Use.{Use}
@@ -44,33 +45,33 @@ work_at_is look login plans before later n work known o us s t e w = subst (λ (
 -- where no connection is there, each work is refused
 absent_refuses : (login : Login) (plans : Plans) (n : ℕ) (work : Work) (o : Outcome) (us : List Use) → IsRefused Absent o us Absent → does_at login plans n work Absent o us Absent
 absent_refuses login plans n (works.Begin call) o us r = r
-absent_refuses login plans n works.Collect o us r = r
-absent_refuses login plans n works.Take o us r = r
+absent_refuses login plans n (works.Read aim) o us r = r
+absent_refuses login plans n works.Item o us r = r
 absent_refuses login plans n works.LetGo o us r = r
 absent_refuses login plans n works.Miss o us r = r
 absent_refuses login plans n works.Fields o us r = r
-absent_refuses login plans n works.Poll o us r = r
+absent_refuses login plans n (works.Poll aim) o us r = r
 absent_refuses login plans n works.Cancel o us r = r
 
 ended_refuses : (login : Login) (plans : Plans) (n : ℕ) (work : Work) (k : Kept) (x : Looks) (o : Outcome) (us : List Use) → IsRefused (Joined false k x) o us (Joined false k x) → does_at login plans n work (Joined false k x) o us (Joined false k x)
 ended_refuses login plans n (works.Begin call) k x o us r = r
-ended_refuses login plans n works.Collect k x o us r = r
-ended_refuses login plans n works.Take k x o us r = r
+ended_refuses login plans n (works.Read aim) k x o us r = r
+ended_refuses login plans n works.Item k x o us r = r
 ended_refuses login plans n works.LetGo k x o us r = r
 ended_refuses login plans n works.Miss k x o us r = r
 ended_refuses login plans n works.Fields k x o us r = r
-ended_refuses login plans n works.Poll k x o us r = r
+ended_refuses login plans n (works.Poll aim) k x o us r = r
 ended_refuses login plans n works.Cancel k x o us r = r
 
 -- a connection's work doesn't read the plans
 on_plans : (login : Login) (plans : Plans) (n : ℕ) (work : Work) (k : Kept) (x : Looks) (o : Outcome) (us : List Use) (t : Handle) → does_at login untold n work (Joined true k x) o us t → does_at login plans n work (Joined true k x) o us t
 on_plans login plans n (works.Begin call) k x o us t r = r
-on_plans login plans n works.Collect k x o us t r = r
-on_plans login plans n works.Take k x o us t r = r
+on_plans login plans n (works.Read aim) k x o us t r = r
+on_plans login plans n works.Item k x o us t r = r
 on_plans login plans n works.LetGo k x o us t r = r
 on_plans login plans n works.Miss k x o us t r = r
 on_plans login plans n works.Fields k x o us t r = r
-on_plans login plans n works.Poll k x o us t r = r
+on_plans login plans n (works.Poll aim) k x o us t r = r
 on_plans login plans n works.Cancel k x o us t r = r
 
 refusal : (h : Handle) (o : Outcome) (us : List Use) → o ≡ NoSuchHandle → us ≡ [] → IsRefused h o us h
@@ -97,7 +98,7 @@ there_did {L} look login plans now n work o us s c t is has w f =
 
 -- a held dial is what a poll and a cancelling name; each other work is refused there
 abbrev IsHeldBack : Work → Type 0
-IsHeldBack work = ((call : Call) × (work ≡ works.Begin call)) ⊎ ((work ≡ works.Collect) ⊎ ((work ≡ works.Take) ⊎ ((work ≡ works.LetGo) ⊎ ((work ≡ works.Miss) ⊎ (work ≡ works.Fields)))))
+IsHeldBack work = ((call : Call) × (work ≡ works.Begin call)) ⊎ (((aim : Aim) × (work ≡ works.Read aim)) ⊎ ((work ≡ works.Item) ⊎ ((work ≡ works.LetGo) ⊎ ((work ≡ works.Miss) ⊎ (work ≡ works.Fields)))))
 
 pub held_did : {L : Type 0} (look : L → Looks) (login : Login) (plans now : Plans) (n : ℕ) (work : Work) (o : Outcome) (us : List Use) → IsHeldBack work → o ≡ NoSuchHandle → us ≡ [] → IsAwaited {L = L} plans now n Held → DidAt {L = L} look login plans now now n (does_at login plans n work) o us Held Held
 held_did {L} look login plans now n work o us is e f w = by_work is
@@ -107,8 +108,8 @@ held_did {L} look login plans now n work o us is e f w = by_work is
 
     by_work : IsHeldBack work → DidAt {L = L} look login plans now now n (does_at login plans n work) o us Held Held
     by_work (inl r) = known (works.Begin r.0) r.1 (refusal (Dialing (now.dials n)) o us e f)
-    by_work (inr (inl r)) = known works.Collect r (refusal (Dialing (now.dials n)) o us e f)
-    by_work (inr (inr (inl r))) = known works.Take r (refusal (Dialing (now.dials n)) o us e f)
+    by_work (inr (inl r)) = known (works.Read r.0) r.1 (refusal (Dialing (now.dials n)) o us e f)
+    by_work (inr (inr (inl r))) = known works.Item r (refusal (Dialing (now.dials n)) o us e f)
     by_work (inr (inr (inr (inl r)))) = known works.LetGo r (refusal (Dialing (now.dials n)) o us e f)
     by_work (inr (inr (inr (inr (inl r))))) = known works.Miss r (refusal (Dialing (now.dials n)) o us e f)
     by_work (inr (inr (inr (inr (inr r))))) = known works.Fields r (refusal (Dialing (now.dials n)) o us e f)

@@ -18,6 +18,8 @@ use Rattle.my_session.specs.Sessions.{is_refused}
 use Rattle.my_reading.specs.declared.error.IoKind.TheVariants.{Dial}
 use Rattle.my_client.specs.declared.poll.After.{After}
 use Rattle.my_client.specs.declared.poll.After.TheVariants as after
+use Rattle.my_script.specs.declared.aim.Aim.{Aim}
+use Rattle.my_script.specs.declared.aim.Aim.TheVariants as aims
 use Rattle.my_script.specs.declared.step.Step.{Step}
 use Rattle.my_script.specs.declared.step.Step.TheVariants as steps
 use Rattle.my_script.specs.declared.beside.Beside.{Beside}
@@ -204,62 +206,79 @@ abbrev pub is_done : Outcome → Bool
 is_done Done = true
 is_done outcome = false
 
--- once the rest of a set that a stream took is passed over, the next set is taken, as by a step that begins that call
-abbrev pub ThenTakes : Bool → Login → ℕ → Outcome → Handle → Outcome → List Use → Handle → Type 0
-ThenTakes true login n first mid o us t = Calls login n TakeSet mid o us t
-ThenTakes false login n first mid o us t = (o ≡ first) × (us ≡ []) × (t ≡ mid)
+-- once the first call is done the next is done as by a step that begins it
+abbrev pub Then : Bool → (Handle → Outcome → List Use → Handle → Type 0) → Outcome → Handle → Outcome → List Use
+    → Handle → Type 0
+Then true Next first mid o us t = Next mid o us t
+Then false Next first mid o us t = (o ≡ first) × (us ≡ []) × (t ≡ mid)
 
-pub record Skips (R : Outcome → List Use → Handle → Type 0) (login : Login) (n : ℕ) (o : Outcome) (us : List Use)
-    (t : Handle) : Type 0 where
+pub record Skips (R : Outcome → List Use → Handle → Type 0) (Next : Handle → Outcome → List Use → Handle → Type 0)
+    (o : Outcome) (us : List Use) (t : Handle) : Type 0 where
   pub first : Outcome
   pub used : List Use
   pub mid : Handle
   pub skips : R first used mid
   pub later : List Use
   pub uses : us ≡ used ++ later
-  pub takes : ThenTakes (is_done first) login n first mid o later t
+  pub follows : Then (is_done first) Next first mid o later t
 
 -- where a stream took the set that is read, or whose end is left, unless the connection is closed
-abbrev pub skips_first : Login → Kept → Bool
-skips_first login k = not (has_closed (made_of k.calls)) && is_taken (place_kept login k)
+abbrev pub has_taken : Login → Kept → Bool
+has_taken login k = not (has_closed (made_of k.calls)) && is_taken (place_kept login k)
 
--- A stream takes the set that is read, or the next one. The rest of a set that an earlier stream took is passed over first.
-abbrev pub Takes : Bool → Login → ℕ → Handle → Outcome → List Use → Handle → Type 0
-Takes true login n h o us t = Skips (Calls login n SkipTaken h) login n o us t
-Takes false login n h o us t = Calls login n TakeSet h o us t
+-- a stream takes the set that is read, or the next one; its next row is read; or all its rows are gathered
+abbrev pub Follows : Aim → Login → ℕ → Handle → Outcome → List Use → Handle → Type 0
+Follows aims.Take login n = Calls login n TakeSet
+Follows aims.Row login n = Calls login n NextRow
+Follows aims.Rows login n = CollectsAt login n
 
-abbrev pub TakesOn : Option Asked → Login → ℕ → Kept → Looks → Outcome → List Use → Handle → Type 0
-TakesOn None login n k x o us t = Takes (skips_first login k) login n (Joined true k x) o us t
-TakesOn (Some a) login n k x o us t = IsRefused (Joined true k x) o us t
+-- the rest of a set that an earlier stream took is passed over first
+abbrev pub Reads : Bool → Aim → Login → ℕ → Handle → Outcome → List Use → Handle → Type 0
+Reads true aim login n h o us t = Skips (Calls login n SkipTaken h) (Follows aim login n) o us t
+Reads false aim login n h o us t = Follows aim login n h o us t
 
-abbrev pub StreamsAt : Login → ℕ → Handle → Outcome → List Use → Handle → Type 0
-StreamsAt login n h o us t = OnConnection (λ k. TakesOn k.pending login n k) h o us t
+abbrev pub ReadsOn : Option Asked → Aim → Login → ℕ → Kept → Looks → Outcome → List Use → Handle → Type 0
+ReadsOn None aim login n k x o us t = Reads (has_taken login k) aim login n (Joined true k x) o us t
+ReadsOn (Some a) aim login n k x o us t = IsRefused (Joined true k x) o us t
+
+abbrev pub ReadsAt : Aim → Login → ℕ → Handle → Outcome → List Use → Handle → Type 0
+ReadsAt aim login n h o us t = OnConnection (λ k. ReadsOn k.pending aim login n k) h o us t
 
 -- a step of a stream, a transaction or a statement that isn't there
 abbrev pub Misses : Handle → Outcome → List Use → Handle → Type 0
 Misses h o us t = IsRefused h o us t
 
--- a step begins this call where it finds its stream or its transaction: an item is the next row of the set
-abbrev pub CallsWhere : Bool → Login → ℕ → Call → Handle → Outcome → List Use → Handle → Type 0
-CallsWhere true login n call = Calls login n call
-CallsWhere false login n call = Misses
+-- a step does this where it finds its stream or its transaction
+abbrev pub Where : Bool → (Handle → Outcome → List Use → Handle → Type 0) → Handle → Outcome → List Use → Handle
+    → Type 0
+Where true R = R
+Where false R = Misses
 
--- A stream is let go, where one is there: the connection is what it was, so that the next stream passes over the set's rest.
-pub record IsLetGo (k : Kept) (x : Looks) (o : Outcome) (us : List Use) (t : Handle) : Type 0 where
-  pub outcome : o ≡ Done
+-- a step shows this at once, and the connection is what it was
+pub record IsTold (told : Outcome) (k : Kept) (x : Looks) (o : Outcome) (us : List Use) (t : Handle) : Type 0 where
+  pub outcome : o ≡ told
   pub uses : us ≡ []
   pub left : t ≡ Joined true k x
 
+-- an item is the next row of the stream's set; where that isn't the one that is read any more, nothing is left
+abbrev pub Items : Bool → Login → ℕ → Kept → Looks → Outcome → List Use → Handle → Type 0
+Items true login n k x o us t = Calls login n NextRow (Joined true k x) o us t
+Items false login n k x o us t = IsTold NoSet k x o us t
+
+abbrev pub ItemsOn : Option Asked → Login → ℕ → Kept → Looks → Outcome → List Use → Handle → Type 0
+ItemsOn None login n k x o us t = Items (has_taken login k) login n k x o us t
+ItemsOn (Some a) login n k x o us t = IsRefused (Joined true k x) o us t
+
+abbrev pub ItemsAt : Login → ℕ → Handle → Outcome → List Use → Handle → Type 0
+ItemsAt login n h o us t = OnConnection (λ k. ItemsOn k.pending login n k) h o us t
+
+-- a stream is let go, so that the next one passes over the set's rest
 abbrev pub LetsGoWith : Option Asked → Kept → Looks → Outcome → List Use → Handle → Type 0
-LetsGoWith None k x o us t = IsLetGo k x o us t
+LetsGoWith None k x o us t = IsTold Done k x o us t
 LetsGoWith (Some a) k x o us t = IsRefused (Joined true k x) o us t
 
 abbrev pub LetsGo : Handle → Outcome → List Use → Handle → Type 0
 LetsGo h o us t = OnConnection (λ k. LetsGoWith k.pending k) h o us t
-
-abbrev pub UnstreamsAt : Bool → Handle → Outcome → List Use → Handle → Type 0
-UnstreamsAt true = LetsGo
-UnstreamsAt false = Misses
 
 -- A statement is executed, or closed by its id, where the step names one that is there.
 abbrev pub ExecutesAt : Option StatementView → Login → ℕ → Params → Handle → Outcome → List Use → Handle → Type 0
@@ -270,28 +289,28 @@ abbrev pub ClosesAt : Option StatementView → Login → ℕ → Handle → Outc
 ClosesAt (Some s) login n = Calls login n (CloseStmt s.inner.id)
 ClosesAt None login n = Misses
 
--- a call that gathers no rows is polled; where it passes over a set's rest, the next set is taken then
-abbrev pub PollsCall : Bool → Login → ℕ → Asked → Kept → Looks → Outcome → List Use → Handle → Type 0
-PollsCall true login n a k x o us t = Skips (PolledOnce login n a k x) login n o us t
-PollsCall false login n a k x o us t = PolledOnce login n a k x o us t
+-- a call that gathers no rows is polled; where it passes over a set's rest, what its step is for is done then
+abbrev pub PollsCall : Bool → Aim → Login → ℕ → Asked → Kept → Looks → Outcome → List Use → Handle → Type 0
+PollsCall true aim login n a k x o us t = Skips (PolledOnce login n a k x) (Follows aim login n) o us t
+PollsCall false aim login n a k x o us t = PolledOnce login n a k x o us t
 
 -- a step that polls what is open: the handshake, a gathering, or another call
-abbrev pub PollsOn : Bool → Option (List RowParts) → Login → ℕ → Asked → Kept → Looks → Outcome → List Use → Handle
-    → Type 0
-PollsOn true rows login n a k x o us t = (used : Use) × (us ≡ used ∷ []) × Connects login n a k x o used t
-PollsOn false None login n a k x o us t = PollsCall (is_skip (kind_of a.call)) login n a k x o us t
-PollsOn false (Some rows) login n a k x o us t = Gathers login n us a k x o t
+abbrev pub PollsOn : Bool → Option (List RowParts) → Aim → Login → ℕ → Asked → Kept → Looks → Outcome → List Use
+    → Handle → Type 0
+PollsOn true rows aim login n a k x o us t = (used : Use) × (us ≡ used ∷ []) × Connects login n a k x o used t
+PollsOn false None aim login n a k x o us t = PollsCall (is_skip (kind_of a.call)) aim login n a k x o us t
+PollsOn false (Some rows) aim login n a k x o us t = Gathers login n us a k x o t
 
-abbrev pub GoesOnWith : Option Asked → Login → ℕ → Kept → Looks → Outcome → List Use → Handle → Type 0
-GoesOnWith None login n k x o us t = IsRefused (Joined true k x) o us t
-GoesOnWith (Some a) login n k x o us t = PollsOn (is_connect (kind_of a.call)) a.rows login n a k x o us t
+abbrev pub GoesOnWith : Option Asked → Aim → Login → ℕ → Kept → Looks → Outcome → List Use → Handle → Type 0
+GoesOnWith None aim login n k x o us t = IsRefused (Joined true k x) o us t
+GoesOnWith (Some a) aim login n k x o us t = PollsOn (is_connect (kind_of a.call)) a.rows aim login n a k x o us t
 
 -- a dial that wasn't ready is tried again, over the plan of its link and the items that are left for its dials
-abbrev pub GoesOn : Login → Plans → ℕ → Handle → Outcome → List Use → Handle → Type 0
-GoesOn login plans n Absent o us t = IsRefused Absent o us t
-GoesOn login plans n (Dialing left) o us t = Dials login (plans.reads n) (plans.writes n) left n o us t
-GoesOn login plans n (Joined false k x) o us t = IsRefused (Joined false k x) o us t
-GoesOn login plans n (Joined true k x) o us t = GoesOnWith k.pending login n k x o us t
+abbrev pub GoesOn : Login → Plans → Aim → ℕ → Handle → Outcome → List Use → Handle → Type 0
+GoesOn login plans aim n Absent o us t = IsRefused Absent o us t
+GoesOn login plans aim n (Dialing left) o us t = Dials login (plans.reads n) (plans.writes n) left n o us t
+GoesOn login plans aim n (Joined false k x) o us t = IsRefused (Joined false k x) o us t
+GoesOn login plans aim n (Joined true k x) o us t = GoesOnWith k.pending aim login n k x o us t
 
 -- The open call was cancelled, which closed the connection by the kind of the call and where its reading stands. A connection
 -- whose handshake was cancelled isn't there any more.
@@ -319,13 +338,8 @@ Cancels login (Joined false k x) o us t = IsRefused (Joined false k x) o us t
 Cancels login (Joined true k x) o us t = CancelsWith k.pending login k x o us t
 
 -- the last OK, as the server sent it
-pub record IsTold (login : Login) (k : Kept) (x : Looks) (o : Outcome) (us : List Use) (t : Handle) : Type 0 where
-  pub outcome : o ≡ Fields (facts_kept login k).ok
-  pub uses : us ≡ []
-  pub left : t ≡ Joined true k x
-
 abbrev pub TellsWith : Option Asked → Login → Kept → Looks → Outcome → List Use → Handle → Type 0
-TellsWith None login k x o us t = IsTold login k x o us t
+TellsWith None login k x o us t = IsTold (Fields (facts_kept login k).ok) k x o us t
 TellsWith (Some a) login k x o us t = IsRefused (Joined true k x) o us t
 
 abbrev pub TellsFields : Login → Handle → Outcome → List Use → Handle → Type 0
@@ -352,34 +366,38 @@ pub record Moves (hs : List Handle) (o : Outcome) (us : List Use) (ts : List Han
   pub same : ts ≡ hs
 
 -- by the step, over what the earlier steps and their answers made of the numbers: whether the step finds its stream or its
--- transaction at the one that it names, and the statement that it names
-abbrev pub StepGrows : Login → Plans → Bool → Option StatementView → List Handle → Step → Outcome → List Use → List Handle
-    → Type 0
-StepGrows login plans found named hs steps.Conn o us ts = DialsNext login plans hs o us ts
-StepGrows login plans found named hs (steps.Query n text) o us ts = At n (Calls login n (Query text)) hs o us ts
-StepGrows login plans found named hs (steps.Prepare n text) o us ts = At n (Calls login n (Prepare text)) hs o us ts
-StepGrows login plans found named hs (steps.Execute n number params) o us ts = At n (ExecutesAt named login n params) hs o us ts
-StepGrows login plans found named hs (steps.CloseStatement n number) o us ts = At n (ClosesAt named login n) hs o us ts
-StepGrows login plans found named hs (steps.Next n) o us ts = At n (Calls login n NextRow) hs o us ts
-StepGrows login plans found named hs (steps.Collect n) o us ts = At n (CollectsAt login n) hs o us ts
-StepGrows login plans found named hs (steps.Drop n) o us ts = At n (Calls login n DropResult) hs o us ts
-StepGrows login plans found named hs (steps.Ping n) o us ts = At n (Calls login n Ping) hs o us ts
-StepGrows login plans found named hs (steps.Reset n) o us ts = At n (Calls login n Reset) hs o us ts
-StepGrows login plans found named hs (steps.User n change) o us ts = At n (Calls login n (ChangeUser change)) hs o us ts
-StepGrows login plans found named hs (steps.Begin n opts) o us ts = At n (Calls login n (Begin opts)) hs o us ts
-StepGrows login plans found named hs (steps.Commit n) o us ts = At n (CallsWhere found login n Commit) hs o us ts
-StepGrows login plans found named hs (steps.Rollback n) o us ts = At n (CallsWhere found login n Rollback) hs o us ts
-StepGrows login plans found named hs (steps.ForgetTransaction n) o us ts =
-    At n (CallsWhere found login n ForgetTransaction) hs o us ts
-StepGrows login plans found named hs (steps.Quit n) o us ts = At n (Calls login n Quit) hs o us ts
-StepGrows login plans found named hs (steps.Stream n) o us ts = At n (StreamsAt login n) hs o us ts
-StepGrows login plans found named hs (steps.Item n) o us ts = At n (CallsWhere found login n NextRow) hs o us ts
-StepGrows login plans found named hs (steps.Unstream n) o us ts = At n (UnstreamsAt found) hs o us ts
-StepGrows login plans found named hs (steps.Fields n) o us ts = At n (TellsFields login) hs o us ts
-StepGrows login plans found named hs (steps.Poll n) o us ts = At n (GoesOn login plans n) hs o us ts
-StepGrows login plans found named hs (steps.Cancel n) o us ts = At n (Cancels login) hs o us ts
-StepGrows login plans found named hs (steps.Advance by) o us ts = Moves hs o us ts
-StepGrows login plans found named hs (steps.Random word) o us ts = Moves hs o us ts
+-- transaction at the one that it names, the aim of the call that is open there, and the statement that it names
+abbrev pub StepGrows : Login → Plans → Bool → Aim → Option StatementView → List Handle → Step → Outcome → List Use
+    → List Handle → Type 0
+StepGrows login plans found aim named hs steps.Conn o us ts = DialsNext login plans hs o us ts
+StepGrows login plans found aim named hs (steps.Query n text) o us ts = At n (Calls login n (Query text)) hs o us ts
+StepGrows login plans found aim named hs (steps.Prepare n text) o us ts = At n (Calls login n (Prepare text)) hs o us ts
+StepGrows login plans found aim named hs (steps.Execute n number params) o us ts =
+    At n (ExecutesAt named login n params) hs o us ts
+StepGrows login plans found aim named hs (steps.CloseStatement n number) o us ts =
+    At n (ClosesAt named login n) hs o us ts
+StepGrows login plans found aim named hs (steps.Next n) o us ts = At n (ReadsAt aims.Row login n) hs o us ts
+StepGrows login plans found aim named hs (steps.Collect n) o us ts = At n (ReadsAt aims.Rows login n) hs o us ts
+StepGrows login plans found aim named hs (steps.Drop n) o us ts = At n (Calls login n DropResult) hs o us ts
+StepGrows login plans found aim named hs (steps.Ping n) o us ts = At n (Calls login n Ping) hs o us ts
+StepGrows login plans found aim named hs (steps.Reset n) o us ts = At n (Calls login n Reset) hs o us ts
+StepGrows login plans found aim named hs (steps.User n change) o us ts =
+    At n (Calls login n (ChangeUser change)) hs o us ts
+StepGrows login plans found aim named hs (steps.Begin n opts) o us ts = At n (Calls login n (Begin opts)) hs o us ts
+StepGrows login plans found aim named hs (steps.Commit n) o us ts = At n (Where found (Calls login n Commit)) hs o us ts
+StepGrows login plans found aim named hs (steps.Rollback n) o us ts =
+    At n (Where found (Calls login n Rollback)) hs o us ts
+StepGrows login plans found aim named hs (steps.ForgetTransaction n) o us ts =
+    At n (Where found (Calls login n ForgetTransaction)) hs o us ts
+StepGrows login plans found aim named hs (steps.Quit n) o us ts = At n (Calls login n Quit) hs o us ts
+StepGrows login plans found aim named hs (steps.Stream n) o us ts = At n (ReadsAt aims.Take login n) hs o us ts
+StepGrows login plans found aim named hs (steps.Item n) o us ts = At n (Where found (ItemsAt login n)) hs o us ts
+StepGrows login plans found aim named hs (steps.Unstream n) o us ts = At n (Where found LetsGo) hs o us ts
+StepGrows login plans found aim named hs (steps.Fields n) o us ts = At n (TellsFields login) hs o us ts
+StepGrows login plans found aim named hs (steps.Poll n) o us ts = At n (GoesOn login plans aim n) hs o us ts
+StepGrows login plans found aim named hs (steps.Cancel n) o us ts = At n (Cancels login) hs o us ts
+StepGrows login plans found aim named hs (steps.Advance by) o us ts = Moves hs o us ts
+StepGrows login plans found aim named hs (steps.Random word) o us ts = Moves hs o us ts
 
 -- a step, its answer, and what the numbers stand for then
 pub record Line : Type 0 where
@@ -402,6 +420,11 @@ abbrev pub is_found : Option ℕ → Step → List Line → Bool
 is_found None step ls = true
 is_found (Some n) step ls = finds (beside_of n ls) step
 
+-- the aim of the call that is open at the number that a step names
+abbrev pub aim_at : Option ℕ → List Line → Aim
+aim_at None ls = aims.Row
+aim_at (Some n) ls = (beside_of n ls).aim
+
 -- what lines make of the statements by their numbers
 abbrev pub statements_of : List Line → List (Option StatementView)
 statements_of [] = []
@@ -410,8 +433,9 @@ statements_of (l ∷ ls) = statements_by (statements_of ls) l.step l.outcome
 -- the lines are newest first; each is what its step may come to after the earlier ones
 pub record Grows (login : Login) (plans : Plans) (before : List Line) (l : Line) : Type 0 where
   pub number : l.number ≡ length before + 1
-  pub answer : StepGrows login plans (is_found (target l.step) l.step before)
-      (statement_named (named_statement l.step) (statements_of before)) (handles_after before) l.step l.outcome l.uses l.handles
+  pub answer : StepGrows login plans (is_found (target l.step) l.step before) (aim_at (target l.step) before)
+      (statement_named (named_statement l.step) (statements_of before)) (handles_after before)
+      l.step l.outcome l.uses l.handles
 
 abbrev pub AreGrown : Login → Plans → List Line → Type 0
 AreGrown login plans [] = Unit {0}

@@ -21,8 +21,9 @@ number_by orders.Dial next = Some next
 number_by (orders.Move line) next = None
 number_by (orders.Visit e) next = Some e.number
 
--- What a dial of this number did: none was made, or it gave the link that is at the number; it failed; it wasn't ready; it gave a
--- link for which memory lacked, so that it was handed back at once, before anything was sent; or what was handed back isn't told.
+-- What a dial of this number did: none was made, or it gave the link that is at the number; it failed; it wasn't ready;
+-- it gave a link for which memory lacked, so that it was handed back at once, before anything was sent; or what was
+-- handed back isn't told.
 pub data DialTried (number : Option ℕ) (c d : DialCounts) (old new : Option (List Back)) : Type 0 where
   Kept : d ≡ c → new ≡ old → DialTried number c d old new
   Faulted : DialFailed c d → new ≡ old → DialTried number c d old new
@@ -66,7 +67,8 @@ slot_at (s ∷ ss) zero = s
 slot_at (s ∷ ss) (suc n) = slot_at ss n
 
 -- A step that dials, or doesn't, at this number: the others are what they were.
-pub record InMidst {L : Type 0} (dials : Bool) (number : Option ℕ) (before later : WorldSeen) (old new : List (Slot L)) : Type 0 where
+pub record InMidst {L : Type 0} (dials : Bool) (number : Option ℕ) (before later : WorldSeen)
+    (old new : List (Slot L)) : Type 0 where
   pub others : (n : ℕ) → number ≢ Some n → slot_at new n ≡ slot_at old n
   pub links : dials ≡ false → (n : ℕ) → is_linked (slot_at new n) ≡ is_linked (slot_at old n)
   pub tried : MayTry dials number before later

@@ -2,7 +2,7 @@
 use Rattle.std.specs.Prelude.{ℕ, suc, List, [], ◌∷◌, Option, None, Bool, true, false}
 use Rattle.my_steps.specs.declared.slot.Slot.{Slot}
 use Rattle.my_steps.specs.declared.slot.Slot.TheVariants.{Gone, Held, There, Ended}
-use Rattle.my_steps.specs.Handle.{Handle, Absent, Dialing, Joined}
+use Rattle.my_steps.specs.Handle.{Handle, Absent, Dialing, Joined, at_number}
 use Rattle.my_client.specs.declared.conn.TapedConn.{TapedConn}
 use Rattle.my_client.specs.Conn.{kept_of}
 use Rattle.my_link.specs.Looks.{Looks}
@@ -28,6 +28,9 @@ handles_from look left n (s ∷ ss) = handle_with look (left n) s ∷ handles_fr
 
 abbrev pub handles_in : {L : Type 0} → (L → Looks) → Plans → List (Slot L) → List Handle
 handles_in look plans slots = handles_from look plans.dials 0 slots
+
+abbrev pub handle_at : {L : Type 0} → (L → Looks) → Plans → List (Slot L) → ℕ → Handle
+handle_at look plans slots n = at_number (handles_in look plans slots) n
 
 -- a slot with a link, so that its dials are over
 abbrev pub HasLink : {L : Type 0} → Slot L → Type 0

@@ -4,11 +4,10 @@ ghost use Rattle.my_reading.specs.declared.call.Call.TheVariants.{NextRow as Nex
 ghost use Rattle.my_client.specs.Kept.{asking};
 ghost use Rattle.my_session.specs.Sessions.{begun};
 ghost use Rattle.my_client.specs.Conn.{kept_of};
-ghost use Rattle.my_steps.specs.Did.{EachDid};
+ghost use Rattle.my_steps.specs.Did.{EachFollowed};
 ghost use Rattle.my_steps.specs.Gathering.{asking_on, Goes, EachGathers};
 ghost use Rattle.my_steps.specs.Ready.{ConnReady, AskedReady, RestsBy, StaysOpen};
-ghost use Rattle.my_steps.specs.declared.slot.Slot.TheVariants.{There as ThereAt};
-ghost use Rattle.my_steps.specs.declared.work.Work.TheVariants.{Collect as CollectWork};
+ghost use Rattle.my_script.specs.declared.aim.Aim.TheVariants.{Rows as RowsAim};
 
 use crate::begin::refused_call;
 use crate::outcome::{StepResult, unused};
@@ -158,7 +157,7 @@ pub(crate) fn collect_call<L: Link>(
     now: u64,
 ) -> Result<StepResult, NoMemory>
     requires { ConnReady conn.old }
-    ensures { IfOk result (λ d. EachDid L.looks number CollectWork conn.old (ThereAt conn.new) d) }
+    ensures { IfOk result (λ d. EachFollowed L.looks number RowsAim conn.old conn.new d) }
 {
     if conn.session.is_open() {
         return Ok(unused(alloc, Outcome::NoSuchHandle));

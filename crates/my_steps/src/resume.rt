@@ -9,11 +9,11 @@ use crate::begin::poll_open;
 use crate::connect::poll_connect;
 use crate::gather::gather;
 use crate::outcome::{Worked, unused};
-use crate::stream::{is_skipping, then_take};
+use crate::stream::{is_skipping, then_read};
 use my_client::{TapedConn, is_connecting, is_gathering};
 use my_frame::NoMemory;
 use my_link::Link;
-use my_script::Outcome;
+use my_script::{Aim, Outcome};
 use std::alloc::Global;
 
 /// Polls the open call: the handshake, a gathering, the passing over of a set's rest, or another call.
@@ -22,9 +22,10 @@ pub(crate) fn resume_there<L: Link>(
     conn: &mut TapedConn<L>,
     number: u64,
     now: u64,
+    aim: Aim,
 ) -> Result<Worked, NoMemory>
     requires { ConnReady conn.old }
-    ensures { IfOk result (λ w. EachDid L.looks number PollWork conn.old (placed w.there conn.new) w.did) }
+    ensures { IfOk result (λ w. EachDid L.looks number (PollWork aim) conn.old (placed w.there conn.new) w.did) }
 {
     if !conn.session.is_open() {
         return Ok(Worked {
@@ -43,7 +44,7 @@ pub(crate) fn resume_there<L: Link>(
     let skipping = is_skipping(conn);
     let did = poll_open(alloc, conn, number, now)?;
     if skipping {
-        let did = then_take(alloc, conn, number, now, did)?;
+        let did = then_read(alloc, conn, number, now, aim, did)?;
         return Ok(Worked { there: true, did });
     }
     Ok(Worked { there: true, did })

@@ -6,7 +6,7 @@ ghost use Rattle.my_script.specs.Script.{may_stand};
 ghost use Rattle.my_world.specs.World.{SamePlans};
 ghost use Rattle.my_world.specs.Plan.{chance_on};
 ghost use Rattle.my_steps.specs.Dialing.{DialsTo, chance_by, dial_met, has_dialed};
-ghost use Rattle.my_steps.specs.Did.{IsMoving, StepsOn, at_place, close_work, execute_work, found_work, order_of, unstream_work};
+ghost use Rattle.my_steps.specs.Did.{IsMoving, StepsOn, at_place, close_work, execute_work, found_work, order_of};
 ghost use Rattle.my_steps.specs.Orders.{Carries, MayCarry, chance_of, dials_by};
 ghost use Rattle.my_steps.specs.Grows.{StepGrows};
 ghost use Rattle.my_steps.specs.Midst.{InMidst, number_by, number_of};
@@ -21,26 +21,20 @@ use my_frame::NoMemory;
 use my_opts::Opts;
 use my_params::Params;
 use my_reading::Call;
-use my_script::{Outcome, Step};
+use my_script::{Aim, Outcome, Step};
 use my_statements::Statement;
 use my_world::{World, WorldLine};
 use std::alloc::Global;
 
-// Begins the call where the step finds what it needs.
-fn begin_where(found: bool, call: Call) -> Work
-    ensures { result ≡ found_work found call }
+// Does this where the step finds what it needs.
+fn where_found(found: bool, work: Work) -> Work
+    ensures { result ≡ found_work found work }
 {
     if found {
-        return Work::Begin(call);
+        return work;
     }
-    drop(call);
+    drop(work);
     Work::Miss
-}
-
-fn unstream(found: bool) -> Work
-    ensures { result ≡ unstream_work found }
-{
-    if found { Work::LetGo } else { Work::Miss }
 }
 
 // A statement is executed, and closed by its id, where one is there.
@@ -88,9 +82,10 @@ fn order_for(
     alloc: Global,
     step: &Step,
     found: bool,
+    aim: Aim,
     named: Option<&Statement>,
 ) -> Result<Order, NoMemory>
-    ensures { IfOk result (λ order. order ≡ order_of found (option_copied named.entry) step.now) }
+    ensures { IfOk result (λ order. order ≡ order_of found aim (option_copied named.entry) step.now) }
 {
     match step {
         Step::Conn => Ok(Order::Dial),
@@ -104,7 +99,7 @@ fn order_for(
         }
         Step::Execute(number, _, params) => Ok(visit(*number, execute(alloc, named, params)?)),
         Step::CloseStatement(number, _) => Ok(visit(*number, close(named))),
-        Step::Next(number) => Ok(visit(*number, Work::Begin(Call::NextRow))),
+        Step::Next(number) => Ok(visit(*number, Work::Read(Aim::Row))),
         Step::Drop(number) => Ok(visit(*number, Work::Begin(Call::DropResult))),
         Step::Ping(number) => Ok(visit(*number, Work::Begin(Call::Ping))),
         Step::Reset(number) => Ok(visit(*number, Work::Begin(Call::Reset))),
@@ -113,19 +108,26 @@ fn order_for(
             Ok(visit(*number, Work::Begin(Call::ChangeUser(change))))
         }
         Step::Begin(number, opts) => Ok(visit(*number, Work::Begin(Call::Begin(*opts)))),
-        Step::Commit(number) => Ok(visit(*number, begin_where(found, Call::Commit))),
-        Step::Rollback(number) => Ok(visit(*number, begin_where(found, Call::Rollback))),
+        Step::Commit(number) => {
+            let work = Work::Begin(Call::Commit);
+            Ok(visit(*number, where_found(found, work)))
+        }
+        Step::Rollback(number) => {
+            let work = Work::Begin(Call::Rollback);
+            Ok(visit(*number, where_found(found, work)))
+        }
         Step::ForgetTransaction(number) => {
-            Ok(visit(*number, begin_where(found, Call::ForgetTransaction)))
+            let work = Work::Begin(Call::ForgetTransaction);
+            Ok(visit(*number, where_found(found, work)))
         }
         Step::Quit(number) => Ok(visit(*number, Work::Begin(Call::Quit))),
         Step::Fields(number) => Ok(visit(*number, Work::Fields)),
         Step::Cancel(number) => Ok(visit(*number, Work::Cancel)),
-        Step::Collect(number) => Ok(visit(*number, Work::Collect)),
-        Step::Poll(number) => Ok(visit(*number, Work::Poll)),
-        Step::Stream(number) => Ok(visit(*number, Work::Take)),
-        Step::Item(number) => Ok(visit(*number, begin_where(found, Call::NextRow))),
-        Step::Unstream(number) => Ok(visit(*number, unstream(found))),
+        Step::Collect(number) => Ok(visit(*number, Work::Read(Aim::Rows))),
+        Step::Poll(number) => Ok(visit(*number, Work::Poll(aim))),
+        Step::Stream(number) => Ok(visit(*number, Work::Read(Aim::Take))),
+        Step::Item(number) => Ok(visit(*number, where_found(found, Work::Item))),
+        Step::Unstream(number) => Ok(visit(*number, where_found(found, Work::LetGo))),
         Step::Advance(by) => Ok(Order::Move(WorldLine::Advance(*by))),
         Step::Random(word) => Ok(Order::Move(WorldLine::Random(*word))),
     }
@@ -189,9 +191,9 @@ fn carry_out<N: World>(
     }
 }
 
-/// Does a step at the number that it names, where it finds its stream or its transaction or doesn't, with the statement that
-/// it names; a `conn` takes the next number, and a step that moves the world needs one that takes a plan. All polls of a step
-/// are at one moment.
+/// Does a step at the number that it names, where it finds its stream or its transaction or doesn't, with the aim of the
+/// call that is open there, and with the statement that it names; a `conn` takes the next number, and a step that moves
+/// the world needs one that takes a plan. All polls of a step are at one moment.
 ///
 /// What the step comes to is what `StepGrows` lets it come to after the earlier ones, for any plans that the world
 /// told. Also out of memory the other numbers are what they were.
@@ -202,6 +204,7 @@ pub fn run_step<N: World>(
     slots: &mut Vec<Slot<N::L>>,
     step: &Step,
     found: bool,
+    aim: Aim,
     named: Option<&Statement>,
 ) -> Result<StepResult, NoMemory>
     requires ready { AreReady slots.old.items }
@@ -221,9 +224,9 @@ pub fn run_step<N: World>(
         StepsOn N.L.looks (login_of opts.now) (N.seen world.old).plans (N.seen world.new).plans
         slots.old.items slots.new.items
         (λ plans hs o us ts.
-        StepGrows (login_of opts.now) plans found (option_copied named.entry) hs step.now o us ts) d) }
+        StepGrows (login_of opts.now) plans found aim (option_copied named.entry) hs step.now o us ts) d) }
 {
-    let order = order_for(alloc, step, found, named)?;
+    let order = order_for(alloc, step, found, aim, named)?;
     let now = world.now();
     carry_out(alloc, opts, world, slots, order, now)
 }

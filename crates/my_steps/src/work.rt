@@ -4,8 +4,7 @@ ghost use Rattle.my_session.specs.Login.{login_of};
 ghost use Rattle.my_world.specs.World.{SameBut};
 ghost use Rattle.my_steps.specs.Dialing.{DialsTo, chance_dialed, dial_met};
 ghost use Rattle.my_steps.specs.Did.{does_at, EachDid, DoesAt, StepsOn, is_poll, redials};
-ghost use Rattle.my_steps.specs.Handle.{at_number};
-ghost use Rattle.my_steps.specs.Slot.{HasLink, handle_of, handles_in, placed};
+ghost use Rattle.my_steps.specs.Slot.{HasLink, handle_at, handle_of, placed};
 ghost use Rattle.my_steps.specs.Grows.{At};
 ghost use Rattle.my_steps.specs.Midst.{InMidst, LinkStays, MayTry, is_linked};
 ghost use Rattle.my_steps.specs.Ready.{ConnReady, SlotReady, AreReady};
@@ -15,17 +14,16 @@ use crate::begin::begin_call;
 use crate::cancel::cancel_there;
 use crate::connect::dial_at;
 use crate::fields::tell;
-use crate::gather::collect_call;
 use crate::outcome::{StepResult, Worked, unused};
 use crate::resume::resume_there;
 use crate::slot::{Slot, place, put};
-use crate::stream::{let_go, take_call};
+use crate::stream::{item_call, let_go, read_call};
 use my_client::TapedConn;
 use my_frame::NoMemory;
 use my_link::Link;
 use my_opts::Opts;
 use my_reading::Call;
-use my_script::Outcome;
+use my_script::{Aim, Outcome};
 use my_world::World;
 use std::alloc::Global;
 use std::mem;
@@ -35,15 +33,17 @@ use std::mem;
 pub(crate) enum Work {
     /// Begins a call.
     Begin(Call),
-    Collect,
-    /// Lets a stream take a set.
-    Take,
+    /// Reads what this aim says, once the rest of a set that a stream took is passed over.
+    Read(Aim),
+    /// Reads on in a stream's set.
+    Item,
     /// Lets a stream go.
     LetGo,
-    /// Finds no stream there, or no statement.
+    /// Finds no stream there, no transaction, or no statement.
     Miss,
     Fields,
-    Poll,
+    /// Goes on with the open call, which has this aim.
+    Poll(Aim),
     Cancel,
 }
 
@@ -70,12 +70,12 @@ fn work_there<L: Link>(
             let did = begin_call(alloc, conn, number, now, call)?;
             Ok(Worked { there: true, did })
         }
-        Work::Collect => {
-            let did = collect_call(alloc, conn, number, now)?;
+        Work::Read(aim) => {
+            let did = read_call(alloc, conn, number, now, aim)?;
             Ok(Worked { there: true, did })
         }
-        Work::Take => {
-            let did = take_call(alloc, conn, number, now)?;
+        Work::Item => {
+            let did = item_call(alloc, conn, number, now)?;
             Ok(Worked { there: true, did })
         }
         Work::LetGo => Ok(Worked {
@@ -90,7 +90,7 @@ fn work_there<L: Link>(
             let did = tell(alloc, conn, number)?;
             Ok(Worked { there: true, did })
         }
-        Work::Poll => resume_there(alloc, conn, number, now),
+        Work::Poll(aim) => resume_there(alloc, conn, number, now, aim),
         Work::Cancel => Ok(cancel_there(alloc, conn, number)),
     }
 }
@@ -136,11 +136,12 @@ fn work_held<N: World>(
         (N.seen world.old).plans (N.seen world.new).plans number work.now HeldAt result.0 d) }
 {
     match work {
-        Work::Poll => dial_at(alloc, opts, world, number, now),
+        Work::Poll(_) => dial_at(alloc, opts, world, number, now),
         Work::Cancel => (Slot::Gone, Ok(unused(alloc, Outcome::Done))),
-        Work::Begin(_) | Work::Collect | Work::Take | Work::LetGo | Work::Miss | Work::Fields => {
-            (Slot::Held, Ok(unused(alloc, Outcome::NoSuchHandle)))
-        }
+        Work::Begin(_) | Work::Read(_) | Work::Item | Work::LetGo | Work::Miss | Work::Fields => (
+            Slot::Held,
+            Ok(unused(alloc, Outcome::NoSuchHandle)),
+        ),
     }
 }
 
@@ -159,7 +160,8 @@ fn work_on<N: World>(
     ensures chance { OnOk result.1 ((N.seen world.new).chance ≡
         chance_dialed (redials (handle_of N.L.looks slot) work) (N.seen world.old).chance) }
     ensures back { OnOk result.1 ((N.seen world.new).back ≡ (N.seen world.old).back) }
-    ensures tried { MayTry (redials (handle_of N.L.looks slot) work) (Some number) (N.seen world.old) (N.seen world.new) }
+    ensures tried { MayTry (redials (handle_of N.L.looks slot) work) (Some number)
+        (N.seen world.old) (N.seen world.new) }
     ensures links { LinkStays (redials (handle_of N.L.looks slot) work) slot result.0 }
     ensures counts { IfOk result.1 (λ d. DialsTo (N.seen world.old).dials (N.seen world.new).dials
         (dial_met (redials (handle_of N.L.looks slot) work) d.uses.items)) }
@@ -196,15 +198,15 @@ pub(crate) fn work_at<N: World>(
 ) -> Result<StepResult, NoMemory>
     requires { AreReady slots.old.items }
     ensures count { OnOk result (length slots.new.items ≡ length slots.old.items) }
-    ensures midst { InMidst (redials (at_number (handles_in N.L.looks (N.seen world.old).plans slots.old.items) number) work)
+    ensures midst { InMidst (redials (handle_at N.L.looks (N.seen world.old).plans slots.old.items number) work)
         (Some number) (N.seen world.old) (N.seen world.new) slots.old.items slots.new.items }
     ensures takes { (N.seen world.new).takes ≡ (N.seen world.old).takes }
     ensures back { OnOk result ((N.seen world.new).back ≡ (N.seen world.old).back) }
     ensures chance { OnOk result ((N.seen world.new).chance ≡ chance_dialed
-        (redials (at_number (handles_in N.L.looks (N.seen world.old).plans slots.old.items) number) work)
+        (redials (handle_at N.L.looks (N.seen world.old).plans slots.old.items number) work)
         (N.seen world.old).chance) }
     ensures counts { IfOk result (λ d. DialsTo (N.seen world.old).dials (N.seen world.new).dials
-        (dial_met (redials (at_number (handles_in N.L.looks (N.seen world.old).plans slots.old.items) number) work)
+        (dial_met (redials (handle_at N.L.looks (N.seen world.old).plans slots.old.items number) work)
         d.uses.items)) }
     ensures steps { IfOk result (λ d.
         StepsOn N.L.looks (login_of opts.now) (N.seen world.old).plans (N.seen world.new).plans

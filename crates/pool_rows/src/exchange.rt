@@ -9,8 +9,10 @@ use crate::links::{connected, opts_of, play};
 use crate::play::looks;
 use crate::queries::queried;
 use crate::runs::replayed;
+use crate::tapes::taken_tapes;
 use crate::views::view_of;
 use crate::words::{event_of, is_wanted, numbers_of, told};
+use my_client::Tape;
 use my_conn::Conn;
 use my_frame::NoMemory;
 use my_link::MemLink;
@@ -24,13 +26,47 @@ use std::cell::Cell;
 use std::rc::Rc;
 use std::test::Fail;
 
+// Connections with their numbers.
+#[derive(Drop)]
+struct Hand {
+    conns: Vec<Conn<MemLink>>,
+    numbers: Vec<u64>,
+}
+
+impl Hand {
+    // A connection comes into it.
+    fn hold(&mut self, number: u64, conn: Option<Conn<MemLink>>) -> Result<(), NoMemory> {
+        if let Some(conn) = conn {
+            self.conns.push(conn)?;
+            self.numbers.push(number)?;
+        }
+        Ok(())
+    }
+
+    // The connection of a number leaves it.
+    fn take(&mut self, number: u64) -> Option<Conn<MemLink>> {
+        let index = self.numbers.iter().position(|held| *held == number)?;
+        if index >= self.conns.len() {
+            return None;
+        }
+        self.numbers.remove(index);
+        Some(self.conns.remove(index))
+    }
+
+    // It is let go: its tape.
+    fn let_go(&mut self, number: u64) -> Option<Tape> {
+        let mut conn = self.take(number)?;
+        let tape = conn.take_tape();
+        drop(conn);
+        tape
+    }
+}
+
 // A pool with the connections in its caller's hand, the links that are there to be dialed, and the wakers that were called.
 #[derive(Drop)]
 struct Table {
     pool: Exchange<MemLink, Kept, Bell>,
-    hand: Vec<Conn<MemLink>>,
-    // Their numbers.
-    numbers: Vec<u64>,
+    hand: Hand,
     world: MemWorld,
     rung: Rung,
 }
@@ -41,30 +77,13 @@ impl Table {
         let opts = opts_of(alloc, words)?;
         Ok(Table {
             pool: Exchange::new(alloc, opts, Kept::new(alloc), 1000)?,
-            hand: Vec::new(alloc),
-            numbers: Vec::new(alloc),
+            hand: Hand {
+                conns: Vec::new(alloc),
+                numbers: Vec::new(alloc),
+            },
             world: MemWorld::new(alloc),
             rung,
         })
-    }
-
-    // A connection comes into the caller's hand.
-    fn hold(&mut self, number: u64, conn: Option<Conn<MemLink>>) -> Result<(), NoMemory> {
-        if let Some(conn) = conn {
-            self.hand.push(conn)?;
-            self.numbers.push(number)?;
-        }
-        Ok(())
-    }
-
-    // The connection of a number that is in the caller's hand.
-    fn take(&mut self, number: u64) -> Option<Conn<MemLink>> {
-        let index = self.numbers.iter().position(|held| *held == number)?;
-        if index >= self.hand.len() {
-            return None;
-        }
-        self.numbers.remove(index);
-        Some(self.hand.remove(index))
     }
 
     fn poll(&mut self, alloc: Global, age: u64, now: u64) -> Result<Option<Answer>, NoMemory> {
@@ -78,11 +97,11 @@ impl Table {
         let (answer, conn, rest) = self.pool.poll_request(age, now, Some(bell));
         drop(rest);
         match answer {
-            PollAnswer::Take(number) => self.hold(number, conn)?,
+            PollAnswer::Take(number) => self.hand.hold(number, conn)?,
             PollAnswer::Dial(number) => {
                 drop(conn);
                 let conn = connected(alloc, &mut self.world, self.pool.opts(), number, now)?;
-                self.hold(number, conn)?;
+                self.hand.hold(number, conn)?;
             }
             _ => drop(conn),
         }
@@ -97,8 +116,8 @@ impl Table {
         if good {
             self.pool.ready(age, number);
         } else {
-            self.pool.failed(age, number);
-            drop(self.take(number));
+            let tape = self.hand.let_go(number);
+            self.pool.failed(age, number, tape);
         }
         Some(Answer::Done)
     }
@@ -115,7 +134,7 @@ impl Table {
     }
 
     fn give(&mut self, number: u64) -> Option<Answer> {
-        let conn = self.take(number)?;
+        let conn = self.hand.take(number)?;
         match conn.open_call() {
             None => self.give_still(number, conn),
             Some(_) => {
@@ -130,7 +149,7 @@ impl Table {
             return None;
         }
         self.pool.detach(number);
-        drop(self.take(number));
+        drop(self.hand.take(number));
         Some(Answer::Done)
     }
 
@@ -138,7 +157,7 @@ impl Table {
         if !self.pool.core().may(&PoolEvent::Cancel { age }) {
             return None;
         }
-        self.pool.cancel(age);
+        self.pool.cancel(age, None);
         Some(Answer::Done)
     }
 
@@ -176,10 +195,10 @@ impl Table {
 
     // What a query of a connection in the caller's hand returns, of which nothing is read.
     fn query(&mut self, alloc: Global, number: u64) -> &'static str {
-        let Some(index) = self.numbers.iter().position(|held| *held == number) else {
+        let Some(index) = self.hand.numbers.iter().position(|held| *held == number) else {
             return "none";
         };
-        match self.hand.get_mut(index) {
+        match self.hand.conns.get_mut(index) {
             Some(conn) => queried(alloc, conn),
             None => "none",
         }
@@ -225,6 +244,10 @@ impl Table {
             }
             "query" => Ok(self.query(alloc, number) == want),
             "rung" => Ok(is_wanted(want, "ages", &[self.rung()], 0)),
+            "tapes" => {
+                let (numbers, calls) = taken_tapes(alloc, &mut self.pool)?;
+                Ok(is_wanted(want, "left", &[numbers, calls], 0))
+            }
             "view" => Ok(is_wanted(want, "shows", &view_of(alloc, self.pool.core())?, 0)),
             "told" => match self.count_told(alloc)? {
                 Some(count) => Ok(is_wanted(want, "events", &[count], 0)),

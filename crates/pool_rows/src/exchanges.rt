@@ -11,6 +11,7 @@
 //! was asked last. `told = events 5`: the journal tells five events, and they lead to this pool. `request AGE`, `place NUMBER`,
 //! `oldest`, `live`, `working` and `metrics` look. `view = shows 1 2 0 1 1000`: one connection is counted, two requests wait,
 //! none was woken, the pool is closed, and the connection that came to its place last has the number 1000.
+//! `tapes = left 101 112`: the tapes of connections that are gone are handed out (`tapes.rt`).
 
 pub const EXCHANGES: &str = "\
 # pool_min=1&pool_max=1 a woken request that is given up wakes the next one; each waker is called once, in the event that wakes its request
@@ -274,4 +275,79 @@ turn 0 = left 0
 view = shows 0 0 0 1 0
 gone = gone
 metrics = counts 0 0 0 0 0 0 0 1 0 0 1 0
+# pool_min=5&pool_max=10 of ten connections that come back five stay, and each other one is closed by a turn: its tape is left
+link 1000 @greeting turn @login_ok
+link 1001 @greeting turn @login_ok
+link 1002 @greeting turn @login_ok
+link 1003 @greeting turn @login_ok
+link 1004 @greeting turn @login_ok
+link 1005 @greeting turn @login_ok
+link 1006 @greeting turn @login_ok
+link 1007 @greeting turn @login_ok
+link 1008 @greeting turn @login_ok
+link 1009 @greeting turn @login_ok
+ask = age 0
+poll 0 0 = dial 1000
+ready 0 1000 = done
+ask = age 1
+poll 1 0 = dial 1001
+ready 1 1001 = done
+ask = age 2
+poll 2 0 = dial 1002
+ready 2 1002 = done
+ask = age 3
+poll 3 0 = dial 1003
+ready 3 1003 = done
+ask = age 4
+poll 4 0 = dial 1004
+ready 4 1004 = done
+ask = age 5
+poll 5 0 = dial 1005
+ready 5 1005 = done
+ask = age 6
+poll 6 0 = dial 1006
+ready 6 1006 = done
+ask = age 7
+poll 7 0 = dial 1007
+ready 7 1007 = done
+ask = age 8
+poll 8 0 = dial 1008
+ready 8 1008 = done
+ask = age 9
+poll 9 0 = dial 1009
+ready 9 1009 = done
+give 1000 = done
+turn 0 = left 0
+metrics = counts 10
+give 1001 = done
+turn 0 = left 0
+metrics = counts 10
+give 1002 = done
+turn 0 = left 0
+metrics = counts 10
+give 1003 = done
+turn 0 = left 0
+metrics = counts 10
+give 1004 = done
+turn 0 = left 0
+metrics = counts 10
+give 1005 = done
+turn 0 = left 0
+metrics = counts 9
+give 1006 = done
+turn 0 = left 0
+metrics = counts 8
+give 1007 = done
+turn 0 = left 0
+metrics = counts 7
+give 1008 = done
+turn 0 = left 0
+metrics = counts 6
+give 1009 = done
+turn 0 = left 0
+metrics = counts 5
+tapes = left 156789 122222
+tapes = left 1 1
+place 1004 = idle 0 0 0 28800000
+place 1005 = none
 ";

@@ -1,13 +1,15 @@
 //! Rows over my_pool_core, my_pool_parts, my_pool, my_pool_turns and my_pool_requests: a row is an event of a pool, of a
 //! heap, or of an exchange over links in memory, or a call of a request there, with what it returns (`rows.rt`,
 //! `exchanges.rt` and `request_rows.rt` say how it reads). Beside them many events from a seed, after each of which the
-//! pool is looked at whole. This crate has tests alone.
+//! pool is looked at whole, and many calls of requests. This crate has tests alone.
 #![tactic(auto)]
 
 #[cfg(test)]
 mod asked;
 #[cfg(test)]
 mod bell;
+#[cfg(test)]
+mod calls;
 #[cfg(test)]
 mod dice;
 #[cfg(test)]
@@ -16,6 +18,8 @@ mod exchange;
 mod exchanges;
 #[cfg(test)]
 mod heap;
+#[cfg(test)]
+mod leases;
 #[cfg(test)]
 mod links;
 #[cfg(test)]
@@ -34,6 +38,8 @@ mod runs;
 mod scanned;
 #[cfg(test)]
 mod sound;
+#[cfg(test)]
+mod tapes;
 #[cfg(test)]
 mod views;
 #[cfg(test)]

@@ -8,6 +8,8 @@
 //! given up. `give NUMBER`, `detach NUMBER`: a lease ends; a connection that was detached is let go. `no`: there is no such
 //! request or lease in hand. `query NUMBER`: a leased connection asks for a set, of which nothing is read. The other words
 //! are those of `exchanges.rt`; of the events `ttl`, `close` and `gone` alone.
+//! `tapes = left 101 112`: the tapes of connections that are gone are handed out, that of 1000 with one call, and then that
+//! of 1001 with two (`tapes.rt`).
 
 pub const REQUESTS: &str = "\
 # pool_min=1&pool_max=1 a lease that comes back is leased to the oldest request that waits, and one that is given up hands its wake on
@@ -76,6 +78,22 @@ get 0 = lease 1001
 place 1000 = none
 metrics = counts 1 0 1 0 1 0 0 0 0 0 1 0
 told = events 13
+# pool_min=1&pool_max=1 a woken request whose connection is dead frees it, which wakes the next one, and makes another
+link 1000 @greeting turn @login_ok end
+link 1001 @greeting turn @login_ok
+get 0 = lease 1000
+get 0 = pending
+get 0 = pending
+give 1000 = done
+turn 0 = left 0
+rung = ages 1
+again 1 0 = lease 1001
+rung = ages 2
+request 2 = woken 1
+place 1000 = none
+place 1001 = leased
+tapes = left 10 11
+told = events 16
 # pool_min=2&pool_max=2 of two idle connections the one that came last is looked at first, and the other where that is dead
 link 1000 @greeting turn @login_ok
 link 1001 @greeting turn @login_ok end
@@ -165,6 +183,34 @@ place 1000 = returned 0
 turn 1001 = left 0
 rung = ages 1
 again 1 1001 = lease 1001
+# pool_min=1&pool_max=1 the tape of a connection that is gone is handed out once; while it is kept, it isn't
+link 1000 @greeting turn @login_ok end
+link 1001 @greeting turn @login_ok turn end
+get 0 = lease 1000
+tapes = left 1 1
+give 1000 = done
+turn 0 = left 0
+tapes = left 1 1
+get 0 = lease 1001
+tapes = left 10 11
+tapes = left 1 1
+query 1001 = failed
+give 1001 = done
+tapes = left 1 1
+turn 0 = left 0
+tapes = left 11 12
+# pool_min=2&pool_max=2 tapes are handed out in the order in which their connections went; one that was detached keeps its own
+link 1000 @greeting turn wait @login_ok
+link 1001 @greeting turn fail
+link 1002 dfail
+link 1003 @greeting turn @login_ok
+get 0 = pending
+get 0 = failed
+drop 0 = done
+get 0 = dial
+get 0 = lease 1003
+detach 1003 = done
+tapes = left 110 110
 # pool_min=2&pool_max=2 a turn polls each connection at work, and not the first alone
 link 1000 @greeting turn @login_ok turn @set
 link 1001 @greeting turn @login_ok turn @set

@@ -6,6 +6,7 @@ use crate::play::looks;
 use crate::queries::queried;
 use crate::request_rows::REQUESTS;
 use crate::runs::replayed;
+use crate::tapes::taken_tapes;
 use crate::words::{is_wanted, numbers_of};
 use my_conn::Conn;
 use my_frame::NoMemory;
@@ -22,26 +23,28 @@ use std::process::Abort;
 use std::rc::Rc;
 use std::test::Fail;
 
-type Pool = Exchange<MemLink, Kept, Bell>;
+/// A pool over links in memory.
+pub type Pool = Exchange<MemLink, Kept, Bell>;
 
-// A pool, the links that are there to be dialed, and the wakers that were called.
+/// A pool, the links that are there to be dialed, and the wakers that were called.
 #[derive(Drop)]
-struct Table {
-    pool: Pool,
-    world: MemWorld,
+pub struct Table {
+    pub pool: Pool,
+    pub world: MemWorld,
     rung: Rung,
 }
 
-// The requests of the ages 0 to 3, and the leases of the numbers 1000 to 1003.
-struct Hands {
+/// Requests and leases: four of each, by the remainders of their ages and numbers.
+pub struct Hands {
     asks: [Option<Asking<MemLink>>; 4],
     leases: [Option<Held<MemLink>>; 4],
 }
 
-// What a poll came to: a word with two numbers.
-type Told = (&'static str, u64, u64);
+/// What a call came to: a word with two numbers.
+pub type Told = (&'static str, u64, u64);
 
-fn table_of(alloc: Global, words: &str) -> Result<Table, NoMemory> {
+/// A pool of these options, with no connection.
+pub fn table_of(alloc: Global, words: &str) -> Result<Table, NoMemory> {
     let rung = Rc::new(alloc, Cell::new(0))?;
     let opts = opts_of(alloc, words)?;
     Ok(Table {
@@ -108,7 +111,8 @@ fn end_detached(rt: &impl Abort, pool: &mut Pool, held: Option<Held<MemLink>>) -
 }
 
 impl Hands {
-    fn new() -> Hands {
+    /// None.
+    pub fn new() -> Hands {
         Hands {
             asks: [None, None, None, None],
             leases: [None, None, None, None],
@@ -116,17 +120,16 @@ impl Hands {
     }
 
     fn take_ask(&mut self, age: u64) -> Option<Asking<MemLink>> {
-        self.asks.get_mut(age as usize)?.take()
+        self.asks.get_mut((age % 4) as usize)?.take()
     }
 
     fn take_lease(&mut self, number: u64) -> Option<Held<MemLink>> {
-        let index = number.checked_sub(1000)?;
-        self.leases.get_mut(index as usize)?.take()
+        self.leases.get_mut((number % 4) as usize)?.take()
     }
 
     // A request comes into its caller's hand; one that was there is given up.
     fn hold(&mut self, rt: &impl Abort, pool: &mut Pool, age: u64, asking: Asking<MemLink>) {
-        let before = match self.asks.get_mut(age as usize) {
+        let before = match self.asks.get_mut((age % 4) as usize) {
             Some(slot) => slot.replace(asking),
             None => Some(asking),
         };
@@ -134,7 +137,7 @@ impl Hands {
     }
 
     fn hold_lease(&mut self, rt: &impl Abort, pool: &mut Pool, number: u64, held: Held<MemLink>) {
-        let before = match self.leases.get_mut(number.wrapping_sub(1000) as usize) {
+        let before = match self.leases.get_mut((number % 4) as usize) {
             Some(slot) => slot.replace(held),
             None => Some(held),
         };
@@ -208,7 +211,8 @@ impl Hands {
         }
     }
 
-    fn end(self, rt: &impl Abort, pool: &mut Pool) {
+    /// All are given up and given back.
+    pub fn end(self, rt: &impl Abort, pool: &mut Pool) {
         let Hands { asks, leases } = self;
         let [first, second, third, fourth] = asks;
         end_ask(rt, pool, first);
@@ -244,8 +248,8 @@ impl Table {
         rung
     }
 
-    // How many events the journal tells, where they lead to this pool.
-    fn count_told(&self, alloc: Global) -> Result<u64, NoMemory> {
+    /// How many events the journal tells, where they lead to this pool; 0 where they don't.
+    pub fn count_told(&self, alloc: Global) -> Result<u64, NoMemory> {
         let events = self.pool.journal().copy(alloc)?;
         let count = events.len() as u64;
         let opts = self.pool.opts().pool_opts();
@@ -277,21 +281,25 @@ impl Table {
             ),
             "rung" => ("ages", self.rung(), 0),
             "told" => ("events", self.count_told(alloc)?, 0),
+            "tapes" => {
+                let (numbers, calls) = taken_tapes(alloc, &mut self.pool)?;
+                ("left", numbers, calls)
+            }
             _ => return Ok(None),
         };
         Ok(Some(told))
     }
 
-    // What a row returns; none where it looks at the core.
-    fn happens(
+    /// What a call of a word returns; none where it is no call.
+    pub fn called(
         &mut self,
         rt: &impl Abort,
         alloc: Global,
         hands: &mut Hands,
-        given: &str,
+        word: &str,
+        first: u64,
+        second: u64,
     ) -> Result<Option<Told>, NoMemory> {
-        let [first, second, ..] = numbers_of(given);
-        let (word, _) = given.split_once(' ').unwrap_or((given, ""));
         let told = match word {
             "get" => {
                 let asking = ask(&mut self.pool)?;
@@ -324,7 +332,9 @@ impl Table {
             play(alloc, &mut self.world, number, words)?;
             return Ok(true);
         }
-        match self.happens(rt, alloc, hands, given)? {
+        let [first, second, ..] = numbers_of(given);
+        let (word, _) = given.split_once(' ').unwrap_or((given, ""));
+        match self.called(rt, alloc, hands, word, first, second)? {
             Some((word, first, second)) => Ok(is_wanted(want, word, &[first, second], 0)),
             None => Ok(looks(self.pool.core(), given, want)),
         }

@@ -2,9 +2,7 @@
 
 use crate::dice::{Dice, some_event, some_word};
 use crate::scanned::follow;
-use crate::sound::{
-    Shown, are_connections_sound, are_requests_sound, count_idle, count_working, is_covered,
-};
+use crate::sound::{Shown, is_sound};
 use crate::words::told;
 use my_frame::NoMemory;
 use my_opts_parts::{Millis, PoolConstraints, PoolOpts};
@@ -84,13 +82,7 @@ fn is_right(core: &Core, beside: &Beside) -> bool {
     let connections = beside.connections.as_slice();
     let requests = beside.requests.as_slice();
     let empty = core.is_closed() && connections.is_empty();
-    are_connections_sound(core, connections, requests, shown)
-        && connections.len() as u64 <= beside.max
-        && count_idle(connections) <= beside.bound
-        && core.count_working() as u64 == count_working(connections)
-        && core.count_live() == requests.len()
-        && are_requests_sound(core, requests, shown)
-        && is_covered(core, connections, requests, beside.max)
+    is_sound(core, connections, requests, shown, beside.max, beside.bound)
         && core.poll_disconnect() == shown.settled
         && (empty || !shown.settled)
         && requests == beside.plain.as_slice()

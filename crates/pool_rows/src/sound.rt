@@ -47,8 +47,8 @@ fn count_number(connections: &[Connection], number: u64) -> u64 {
     count
 }
 
-/// How many connections are idle.
-pub fn count_idle(connections: &[Connection]) -> u64 {
+// How many connections are idle.
+fn count_idle(connections: &[Connection]) -> u64 {
     let mut count = 0u64;
     for connection in connections {
         if connection.place.is(PlaceKind::Idle) {
@@ -58,8 +58,8 @@ pub fn count_idle(connections: &[Connection]) -> u64 {
     count
 }
 
-/// How many connections are being cleaned, reset or closed.
-pub fn count_working(connections: &[Connection]) -> u64 {
+// How many connections are being cleaned, reset or closed.
+fn count_working(connections: &[Connection]) -> u64 {
     let mut count = 0u64;
     for connection in connections {
         let place = connection.place;
@@ -112,8 +112,8 @@ fn is_connection_sound(
         && core.connection(number) == Some(*connection)
 }
 
-/// Whether each connection is sound.
-pub fn are_connections_sound(
+// Whether each connection is sound.
+fn are_connections_sound(
     core: &Core,
     connections: &[Connection],
     requests: &[Request],
@@ -145,8 +145,8 @@ fn is_request_sound(core: &Core, request: &Request, shown: &Shown) -> bool {
         && there
 }
 
-/// Whether the ages rise, each request is sound and look-ups find it, and there are numbers and room for those that may dial.
-pub fn are_requests_sound(core: &Core, requests: &[Request], shown: &Shown) -> bool {
+// Whether the ages rise, each request is sound and look-ups find it, and there are numbers and room for those that may dial.
+fn are_requests_sound(core: &Core, requests: &[Request], shown: &Shown) -> bool {
     let mut least = 0u64;
     let mut dialers = 0u64;
     for request in requests {
@@ -165,8 +165,8 @@ pub fn are_requests_sound(core: &Core, requests: &[Request], shown: &Shown) -> b
     dialers <= u64::MAX.saturating_sub(shown.number) && dialers <= core.spare()
 }
 
-/// Whether the woken requests before the first waiting one, which is the oldest one that waits, are as many as what they may have.
-pub fn is_covered(core: &Core, connections: &[Connection], requests: &[Request], max: u64) -> bool {
+// Whether the woken requests before the first waiting one, which is the oldest one that waits, are as many as what they may have.
+fn is_covered(core: &Core, connections: &[Connection], requests: &[Request], max: u64) -> bool {
     let left = max.saturating_sub(connections.len() as u64);
     let mut woken = 0u64;
     for request in requests {
@@ -179,4 +179,23 @@ pub fn is_covered(core: &Core, connections: &[Connection], requests: &[Request],
         }
     }
     core.oldest_waiting().is_none()
+}
+
+/// Whether a pool with these lists is sound, counts no more connections than `max`, no more idle ones than `bound`, and is
+/// covered.
+pub fn is_sound(
+    core: &Core,
+    connections: &[Connection],
+    requests: &[Request],
+    shown: &Shown,
+    max: u64,
+    bound: u64,
+) -> bool {
+    are_connections_sound(core, connections, requests, shown)
+        && connections.len() as u64 <= max
+        && count_idle(connections) <= bound
+        && core.count_working() as u64 == count_working(connections)
+        && core.count_live() == requests.len()
+        && are_requests_sound(core, requests, shown)
+        && is_covered(core, connections, requests, max)
 }

@@ -1,15 +1,12 @@
 //! Results that are read.
 
-use crate::answers::{add, failure, kinds, shown};
-use crate::link::{Near, client_of};
-use crate::queries::{asked, batched, given};
 use crate::rows::ROWS;
-use crate::streams::{firsts, sets, streamed};
-use crate::unread;
-use my_sets::{
-    Calls, Error, Lent, Params, QueryError, QueryResult, Results, Row, TextProtocol, Value,
-    positional,
+use crate::streams::{firsts, sets, small, streamed};
+use crate::tried::kinds;
+use my_results::{
+    Error, Lent, Params, QueryError, QueryResult, Results, Row, TextProtocol, Value, positional,
 };
+use near_rows::{Near, Numbered, add, client_of, ends_so, failure, row_of, shown};
 use std::alloc::{AllocError, Global};
 use std::test::Fail;
 
@@ -48,7 +45,7 @@ fn facts(alloc: Global, answer: &mut Answer<'_>) -> Result<String, AllocError> {
     format!(in alloc; "{rows} {id:?} {warnings} {noted}")
 }
 
-fn folded(sum: u64, row: (u64, String)) -> u64 {
+fn folded(sum: u64, row: Numbered) -> u64 {
     sum.wrapping_mul(10).wrapping_add(row.0)
 }
 
@@ -58,16 +55,20 @@ fn read(alloc: Global, answer: &mut Answer<'_>, how: &str) -> Result<String, All
         "next" => four(alloc, answer),
         "facts" => facts(alloc, answer),
         "stream" => streamed(alloc, answer),
+        "small" => small(alloc, answer),
         "sets" => sets(alloc, answer),
         "firsts" => firsts(alloc, answer),
-        "unread" => unread::unread(alloc, answer),
-        "collect" => shown(alloc, answer.collect::<(u64, String)>(alloc)),
-        "try_collect" => kinds(alloc, answer.try_collect::<(u64, String)>(alloc)),
+        "collect" => shown(alloc, answer.collect::<Numbered>(alloc)),
+        "try_collect" => kinds(alloc, answer.try_collect::<Numbered>(alloc)),
+        "try_small" => kinds(alloc, answer.try_collect::<u8>(alloc)),
         "map" => shown(alloc, answer.map::<usize, _>(alloc, |row| row.len())),
-        "reduce" => shown(
+        "sum" => shown(
             alloc,
-            answer.reduce::<(u64, String), u64, _>(alloc, 1, folded),
+            answer.reduce::<(u64, u64), u64, _>(alloc, 0, |sum, pair| {
+                sum.wrapping_add(pair.0).wrapping_add(pair.1)
+            }),
         ),
+        "reduce" => shown(alloc, answer.reduce::<Numbered, u64, _>(alloc, 1, folded)),
         _ => shown(alloc, answer.for_each(alloc, |_row| ())),
     }
 }
@@ -75,15 +76,15 @@ fn read(alloc: Global, answer: &mut Answer<'_>, how: &str) -> Result<String, All
 // What is read of the set, after which the rest is dropped.
 fn read_and_drop(alloc: Global, answer: Answer<'_>, how: &str) -> Result<String, AllocError> {
     match how {
-        "collect" => shown(alloc, answer.collect_and_drop::<(u64, String)>(alloc)),
-        "try_collect" => kinds(alloc, answer.try_collect_and_drop::<(u64, String)>(alloc)),
+        "collect" => shown(alloc, answer.collect_and_drop::<Numbered>(alloc)),
+        "try_collect" => kinds(alloc, answer.try_collect_and_drop::<Numbered>(alloc)),
         "map" => shown(
             alloc,
             answer.map_and_drop::<usize, _>(alloc, |row| row.len()),
         ),
         "reduce" => shown(
             alloc,
-            answer.reduce_and_drop::<(u64, String), u64, _>(alloc, 1, folded),
+            answer.reduce_and_drop::<Numbered, u64, _>(alloc, 1, folded),
         ),
         "for_each" => shown(alloc, answer.for_each_and_drop(alloc, |_row| ())),
         _ => shown(alloc, answer.drop_result(alloc).map_err(QueryError::Client)),
@@ -112,54 +113,41 @@ fn executed(alloc: Global, client: &mut Near) -> Result<String, AllocError> {
     }
 }
 
-// What the other calls return.
-fn called(alloc: Global, client: &mut Near, how: &str) -> Result<String, AllocError> {
+// The rows of a result that is made of its holder, which is lent to it.
+fn of_holder(alloc: Global, client: &mut Near) -> Result<String, AllocError> {
+    let mut answer = Answer::of(client);
+    shown(alloc, answer.collect::<Numbered>(alloc))
+}
+
+// The same of a holder that was lent before.
+fn of_lent(alloc: Global, client: &mut Near) -> Result<String, AllocError> {
+    let mut answer = Answer::new(Lent::new(client));
+    shown(alloc, answer.collect::<Numbered>(alloc))
+}
+
+// The rows of a result that is made of its holder, once the query was accepted.
+fn made(alloc: Global, client: &mut Near, how: &str) -> Result<String, AllocError> {
+    match client.query_iter(alloc, &"SELECT n, t FROM people") {
+        Ok(answer) => drop(answer),
+        Err(error) => return shown::<()>(alloc, Err(QueryError::Client(error))),
+    }
     match how {
-        "exec" => executed(alloc, client),
-        "exec_stream" => unread::executed(alloc, client),
-        "batch" => batched(alloc, client),
-        _ => match how.split_once(' ') {
-            Some(("own", how)) => unread::owned(alloc, client, how),
-            _ => answered(alloc, client, how),
-        },
+        "of" => of_holder(alloc, client),
+        _ => of_lent(alloc, client),
     }
 }
 
-// One more read, of what the result left at its holder.
-fn left(alloc: Global, client: &mut Near) -> &'static str {
-    let mut rest = Answer::of(client);
-    let read = rest.next(alloc);
-    let word = word_of(&read);
-    drop(read);
-    word
-}
-
-// Whether the reads and one more return what they should, and a ping is answered then.
-fn is_read(alloc: Global, client: &mut Near, how: &str, wanted: &str, more: &str) -> bool {
-    let text = match how.split_once(' ') {
-        Some(("query_stream", how)) => unread::queried(alloc, client, how),
-        Some(("text", how)) => asked(alloc, client, how),
-        Some(("with", how)) => given(alloc, client, how),
-        _ => called(alloc, client, how),
-    };
-    let right = match text {
-        Ok(text) => text.as_str() == wanted,
-        Err(_) => false,
-    };
-    let rest = left(alloc, client) == more;
-    client.ping(alloc).is_ok() && right && rest
-}
-
-fn is_right(alloc: Global, row: &str) -> bool {
-    let mut fields = row.split(" | ");
-    let how = fields.next().unwrap_or("");
-    let names = fields.next().unwrap_or("");
-    let wanted = fields.next().unwrap_or("");
-    let more = fields.next().unwrap_or("");
-    match client_of(alloc, names) {
+fn is_right(alloc: Global, line: &str) -> bool {
+    let row = row_of(line);
+    match client_of(alloc, row.names) {
         Ok(client) => {
             let mut client = client;
-            let right = is_read(alloc, &mut client, how, wanted, more);
+            let text = match row.how {
+                "exec" => executed(alloc, &mut client),
+                "of" | "new" => made(alloc, &mut client, row.how),
+                how => answered(alloc, &mut client, how),
+            };
+            let right = ends_so(alloc, &mut client, text, &row);
             drop(client);
             right
         }
@@ -173,10 +161,10 @@ fn is_right(alloc: Global, row: &str) -> bool {
 #[test]
 fn results_are_read(rt: HostRuntime) -> Result<(), Fail> {
     let mut ran = 0u64;
-    for row in ROWS.lines() {
-        assert!(rt; is_right(rt.alloc(), row), "{row}");
+    for line in ROWS.lines() {
+        assert!(rt; is_right(rt.alloc(), line), "{line}");
         ran = ran.wrapping_add(1);
     }
-    assert!(rt; ran == 71);
+    assert!(rt; ran == 39);
     Ok(())
 }

@@ -1,21 +1,9 @@
 //! Results that are streamed.
 
-use crate::answers::{add, failed, refused};
 use crate::reads::Answer;
-use my_sets::{QueryError, Row};
+use my_results::Row;
+use near_rows::{Numbered, add, failed, number_word, refused, shown};
 use std::alloc::{AllocError, Global};
-
-type Numbered = (u64, String);
-
-fn word_of(read: &Result<Option<Numbered>, QueryError>) -> &'static str {
-    match read {
-        Ok(Some((7, _))) => "7",
-        Ok(Some((9, _))) => "9",
-        Ok(Some(_)) => "a number",
-        Ok(None) => "end",
-        Err(error) => refused(error),
-    }
-}
 
 /// Four reads of a stream, the set of which has people.
 pub fn streamed(alloc: Global, answer: &mut Answer<'_>) -> Result<String, AllocError> {
@@ -28,9 +16,28 @@ pub fn streamed(alloc: Global, answer: &mut Answer<'_>) -> Result<String, AllocE
             };
             for _ in 0..4u8 {
                 let read = stream.next(alloc);
-                let added = add(&mut text, word_of(&read));
+                let added = add(&mut text, number_word(&read));
                 drop(read);
                 added?;
+            }
+        }
+        Err(error) => add(&mut text, failed(error))?,
+    }
+    Ok(text)
+}
+
+/// Four reads of a stream, the set of which has cells.
+pub fn small(alloc: Global, answer: &mut Answer<'_>) -> Result<String, AllocError> {
+    let mut text = String::new(alloc);
+    match answer.stream::<u8>(alloc) {
+        Ok(found) => {
+            let Some(mut stream) = found else {
+                add(&mut text, "none")?;
+                return Ok(text);
+            };
+            for _ in 0..4u8 {
+                let read = shown(alloc, stream.next(alloc))?;
+                add(&mut text, read.as_str())?;
             }
         }
         Err(error) => add(&mut text, failed(error))?,

@@ -17,6 +17,8 @@ use Rattle.my_reading.specs.declared.call.Call.TheVariants as calls
 use Rattle.my_reading.specs.Calls.{kind_of, is_connect}
 use Rattle.my_client.specs.Made.{has_closed}
 use Rattle.my_session.specs.Sessions.{is_refused}
+use Rattle.my_script.specs.declared.aim.Aim.{Aim}
+use Rattle.my_script.specs.declared.aim.Aim.TheVariants as aims
 use Rattle.my_script.specs.declared.step.Step.{Step}
 use Rattle.my_script.specs.declared.step.Step.TheVariants as steps
 use Rattle.my_script.specs.declared.transcript.Outcome.{Outcome}
@@ -32,7 +34,7 @@ use Rattle.my_world.specs.World.{Plans}
 use Rattle.my_client.specs.Polls.{IsPolled, moved_by}
 use Rattle.my_client.proofs.Moving.{all_pending}
 use Rattle.my_run.proofs.Polls.{all_calls, all_sent, all_taken}
-use Rattle.my_steps.specs.Grows.{Line, IsRefused, OnConnection, PolledOnce, IsClosed, Begins, BeginsOn, Calls, ConnectShows, Connects, Dials, Holds, Fails, Links, Gathers, GathersOn, Collects, CollectsOn, CollectsAt, PollsOn, PollsCall, ThenTakes, Skips, Takes, TakesOn, StreamsAt, CallsWhere, LetsGoWith, UnstreamsAt, ExecutesAt, ClosesAt, GoesOnWith, GoesOn, CancelsWith, Cancels, TellsWith, TellsFields, At, StepGrows, AreGrown, gathered, next_asked, handles_after, is_done, is_found, statements_of, skips_first}
+use Rattle.my_steps.specs.Grows.{Line, aim_at, IsRefused, OnConnection, PolledOnce, IsClosed, Begins, BeginsOn, Calls, ConnectShows, Connects, Dials, Holds, Fails, Links, Gathers, GathersOn, Collects, CollectsOn, CollectsAt, PollsOn, PollsCall, Then, Skips, Follows, Reads, ReadsOn, ReadsAt, Where, Items, ItemsOn, ItemsAt, LetsGoWith, LetsGo, ExecutesAt, ClosesAt, GoesOnWith, GoesOn, CancelsWith, Cancels, TellsWith, TellsFields, At, StepGrows, AreGrown, gathered, next_asked, handles_after, is_done, is_found, statements_of, has_taken}
 use Rattle.my_steps.specs.Handle.{Handle, Absent, Dialing, Joined, at_number, put_at}
 
 -- what is at a number has the property
@@ -131,36 +133,53 @@ module _ (P : Kept → Type 0)
     dials_keeps plan rules items n o us t (Fails left e f g h) = subst (HasAt P) (sym g) tt
     dials_keeps plan rules items n o us t (Links u x left e new given r) = connect_keeps n first_asked first_kept x o u t refl first r
 
-    -- a stream takes a set, after the rest of an earlier one
-    then_keeps : (b : Bool) (n : ℕ) (first : Outcome) (mid : Handle) (o : Outcome) (us : List Use) (t : Handle) → HasAt P mid → ThenTakes b login n first mid o us t → HasAt P t
-    then_keeps true n first mid o us t w r = calls_keeps n calls.TakeSet o us mid t refl w r
-    then_keeps false n first mid o us t w r = subst (HasAt P) (sym r.2) w
+    -- a connection reads on, after the rest of a set that a stream took
+    then_keeps : (b : Bool) (Next : Handle → Outcome → List Use → Handle → Type 0) (first : Outcome) (mid : Handle) (o : Outcome) (us : List Use) (t : Handle) → (HasAt P mid → Next mid o us t → HasAt P t) → HasAt P mid → Then b Next first mid o us t → HasAt P t
+    then_keeps true Next first mid o us t next w r = next w r
+    then_keeps false Next first mid o us t next w r = subst (HasAt P) (sym r.2) w
 
-    skips_keeps : (R : Outcome → List Use → Handle → Type 0) (n : ℕ) (o : Outcome) (us : List Use) (t : Handle) → ((first : Outcome) (used : List Use) (mid : Handle) → R first used mid → HasAt P mid) → Skips R login n o us t → HasAt P t
-    skips_keeps R n o us t f r = then_keeps (is_done r.first) n r.first r.mid o r.later t (f r.first r.used r.mid r.skips) r.takes
+    skips_keeps : (R : Outcome → List Use → Handle → Type 0) (Next : Handle → Outcome → List Use → Handle → Type 0) (o : Outcome) (us : List Use) (t : Handle) → ((first : Outcome) (used : List Use) (mid : Handle) → R first used mid → HasAt P mid) → ((later : List Use) (mid : Handle) → HasAt P mid → Next mid o later t → HasAt P t) → Skips R Next o us t → HasAt P t
+    skips_keeps R Next o us t f next r = then_keeps (is_done r.first) Next r.first r.mid o r.later t (next r.later r.mid) (f r.first r.used r.mid r.skips) r.follows
 
-    takes_keeps : (b : Bool) (n : ℕ) (o : Outcome) (us : List Use) (h t : Handle) → HasAt P h → Takes b login n h o us t → HasAt P t
-    takes_keeps true n o us h t w r = skips_keeps (Calls login n calls.SkipTaken h) n o us t (λ first used mid s. calls_keeps n calls.SkipTaken first used h mid refl w s) r
-    takes_keeps false n o us h t w r = calls_keeps n calls.TakeSet o us h t refl w r
+    follows_keeps : (aim : Aim) (n : ℕ) (o : Outcome) (us : List Use) (h t : Handle) → HasAt P h → Follows aim login n h o us t → HasAt P t
+    follows_keeps aims.Take n o us h t w r = calls_keeps n calls.TakeSet o us h t refl w r
+    follows_keeps aims.Row n o us h t w r = calls_keeps n calls.NextRow o us h t refl w r
+    follows_keeps aims.Rows n o us h t w r = collects_keeps n o us h t w r
 
-    takes_on : (q : Option Asked) (n : ℕ) (k : Kept) (x : Looks) (o : Outcome) (us : List Use) (t : Handle) → P k → TakesOn q login n k x o us t → HasAt P t
-    takes_on None n k x o us t w r = takes_keeps (skips_first login k) n o us (Joined true k x) t w r
-    takes_on (Some a) n k x o us t w r = refused_keeps (Joined true k x) o us t w r
+    reads_by : (b : Bool) (aim : Aim) (n : ℕ) (o : Outcome) (us : List Use) (h t : Handle) → HasAt P h → Reads b aim login n h o us t → HasAt P t
+    reads_by true aim n o us h t w r = skips_keeps (Calls login n calls.SkipTaken h) (Follows aim login n) o us t (λ first used mid s. calls_keeps n calls.SkipTaken first used h mid refl w s) (λ later mid. follows_keeps aim n o later mid t) r
+    reads_by false aim n o us h t w r = follows_keeps aim n o us h t w r
 
-    streams_keeps : (n : ℕ) (o : Outcome) (us : List Use) (h t : Handle) → HasAt P h → StreamsAt login n h o us t → HasAt P t
-    streams_keeps n o us h t = on_keeps (λ k. TakesOn k.pending login n k) o us h t (λ k x. takes_on k.pending n k x o us t)
+    reads_on : (q : Option Asked) (aim : Aim) (n : ℕ) (k : Kept) (x : Looks) (o : Outcome) (us : List Use) (t : Handle) → P k → ReadsOn q aim login n k x o us t → HasAt P t
+    reads_on None aim n k x o us t w r = reads_by (has_taken login k) aim n o us (Joined true k x) t w r
+    reads_on (Some a) aim n k x o us t w r = refused_keeps (Joined true k x) o us t w r
 
-    where_keeps : (b : Bool) (n : ℕ) (call : Call) (o : Outcome) (us : List Use) (h t : Handle) → is_connect (kind_of call) ≡ false → HasAt P h → CallsWhere b login n call h o us t → HasAt P t
-    where_keeps true n call o us h t other w r = calls_keeps n call o us h t other w r
-    where_keeps false n call o us h t other w r = refused_keeps h o us t w r
+    reads_keeps : (aim : Aim) (n : ℕ) (o : Outcome) (us : List Use) (h t : Handle) → HasAt P h → ReadsAt aim login n h o us t → HasAt P t
+    reads_keeps aim n o us h t = on_keeps (λ k. ReadsOn k.pending aim login n k) o us h t (λ k x. reads_on k.pending aim n k x o us t)
+
+    -- what a step does where it finds what it needs
+    where_keeps : (b : Bool) (R : Handle → Outcome → List Use → Handle → Type 0) (o : Outcome) (us : List Use) → ((h t : Handle) → HasAt P h → R h o us t → HasAt P t) → (h t : Handle) → HasAt P h → Where b R h o us t → HasAt P t
+    where_keeps true R o us does h t w r = does h t w r
+    where_keeps false R o us does h t w r = refused_keeps h o us t w r
+
+    -- an item
+    items_by : (b : Bool) (n : ℕ) (k : Kept) (x : Looks) (o : Outcome) (us : List Use) (t : Handle) → P k → Items b login n k x o us t → HasAt P t
+    items_by true n k x o us t w r = calls_keeps n calls.NextRow o us (Joined true k x) t refl w r
+    items_by false n k x o us t w r = subst (HasAt P) (sym r.left) w
+
+    items_on : (q : Option Asked) (n : ℕ) (k : Kept) (x : Looks) (o : Outcome) (us : List Use) (t : Handle) → P k → ItemsOn q login n k x o us t → HasAt P t
+    items_on None n k x o us t w r = items_by (has_taken login k) n k x o us t w r
+    items_on (Some a) n k x o us t w r = refused_keeps (Joined true k x) o us t w r
+
+    items_keeps : (n : ℕ) (o : Outcome) (us : List Use) (h t : Handle) → HasAt P h → ItemsAt login n h o us t → HasAt P t
+    items_keeps n o us h t = on_keeps (λ k. ItemsOn k.pending login n k) o us h t (λ k x. items_on k.pending n k x o us t)
 
     lets_go_with : (q : Option Asked) (k : Kept) (x : Looks) (o : Outcome) (us : List Use) (t : Handle) → P k → LetsGoWith q k x o us t → HasAt P t
     lets_go_with None k x o us t w r = subst (HasAt P) (sym r.left) w
     lets_go_with (Some a) k x o us t w r = refused_keeps (Joined true k x) o us t w r
 
-    unstreams_keeps : (b : Bool) (o : Outcome) (us : List Use) (h t : Handle) → HasAt P h → UnstreamsAt b h o us t → HasAt P t
-    unstreams_keeps true o us h t w r = on_keeps (λ k. LetsGoWith k.pending k) o us h t (λ k x. lets_go_with k.pending k x o us t) w r
-    unstreams_keeps false o us h t w r = refused_keeps h o us t w r
+    lets_go_keeps : (o : Outcome) (us : List Use) (h t : Handle) → HasAt P h → LetsGo h o us t → HasAt P t
+    lets_go_keeps o us h t w r = on_keeps (λ k. LetsGoWith k.pending k) o us h t (λ k x. lets_go_with k.pending k x o us t) w r
 
     executes_keeps : (named : Option StatementView) (n : ℕ) (params : Params) (o : Outcome) (us : List Use) (h t : Handle) → HasAt P h → ExecutesAt named login n params h o us t → HasAt P t
     executes_keeps (Some s) n params o us h t w r = calls_keeps n (calls.Execute s params) o us h t refl w r
@@ -170,24 +189,24 @@ module _ (P : Kept → Type 0)
     closes_keeps (Some s) n o us h t w r = calls_keeps n (calls.CloseStmt s.inner.id) o us h t refl w r
     closes_keeps None n o us h t w r = refused_keeps h o us t w r
 
-    polls_call : (b : Bool) (n : ℕ) (a : Asked) (k : Kept) (x : Looks) (o : Outcome) (us : List Use) (t : Handle) → k.pending ≡ Some a → P k → PollsCall b login n a k x o us t → HasAt P t
-    polls_call true n a k x o us t e w r = skips_keeps (PolledOnce login n a k x) n o us t (λ first used mid s. once_keeps n a k x first used mid e w s) r
-    polls_call false n a k x o us t e w r = once_keeps n a k x o us t e w r
+    polls_call : (b : Bool) (aim : Aim) (n : ℕ) (a : Asked) (k : Kept) (x : Looks) (o : Outcome) (us : List Use) (t : Handle) → k.pending ≡ Some a → P k → PollsCall b aim login n a k x o us t → HasAt P t
+    polls_call true aim n a k x o us t e w r = skips_keeps (PolledOnce login n a k x) (Follows aim login n) o us t (λ first used mid s. once_keeps n a k x first used mid e w s) (λ later mid. follows_keeps aim n o later mid t) r
+    polls_call false aim n a k x o us t e w r = once_keeps n a k x o us t e w r
 
-    polls_on : (b : Bool) (rows : Option (List RowParts)) (n : ℕ) (a : Asked) (k : Kept) (x : Looks) (o : Outcome) (us : List Use) (t : Handle) → k.pending ≡ Some a → P k → PollsOn b rows login n a k x o us t → HasAt P t
-    polls_on true rows n a k x o us t e w r = connect_keeps n a k x o r.0 t e w r.2
-    polls_on false None n a k x o us t e w r = polls_call (is_skip (kind_of a.call)) n a k x o us t e w r
-    polls_on false (Some rows) n a k x o us t e w r = gathers_keeps n us a k x o t e w r
+    polls_on : (b : Bool) (rows : Option (List RowParts)) (aim : Aim) (n : ℕ) (a : Asked) (k : Kept) (x : Looks) (o : Outcome) (us : List Use) (t : Handle) → k.pending ≡ Some a → P k → PollsOn b rows aim login n a k x o us t → HasAt P t
+    polls_on true rows aim n a k x o us t e w r = connect_keeps n a k x o r.0 t e w r.2
+    polls_on false None aim n a k x o us t e w r = polls_call (is_skip (kind_of a.call)) aim n a k x o us t e w r
+    polls_on false (Some rows) aim n a k x o us t e w r = gathers_keeps n us a k x o t e w r
 
-    goes_on_with : (q : Option Asked) (n : ℕ) (k : Kept) (x : Looks) (o : Outcome) (us : List Use) (t : Handle) → k.pending ≡ q → P k → GoesOnWith q login n k x o us t → HasAt P t
-    goes_on_with None n k x o us t e w r = refused_keeps (Joined true k x) o us t w r
-    goes_on_with (Some a) n k x o us t e w r = polls_on (is_connect (kind_of a.call)) a.rows n a k x o us t e w r
+    goes_on_with : (q : Option Asked) (aim : Aim) (n : ℕ) (k : Kept) (x : Looks) (o : Outcome) (us : List Use) (t : Handle) → k.pending ≡ q → P k → GoesOnWith q aim login n k x o us t → HasAt P t
+    goes_on_with None aim n k x o us t e w r = refused_keeps (Joined true k x) o us t w r
+    goes_on_with (Some a) aim n k x o us t e w r = polls_on (is_connect (kind_of a.call)) a.rows aim n a k x o us t e w r
 
-    goes_on_keeps : (plans : Plans) (n : ℕ) (o : Outcome) (us : List Use) (h t : Handle) → HasAt P h → GoesOn login plans n h o us t → HasAt P t
-    goes_on_keeps plans n o us Absent t w r = refused_keeps Absent o us t w r
-    goes_on_keeps plans n o us (Dialing left) t w r = dials_keeps (plans.reads n) (plans.writes n) left n o us t r
-    goes_on_keeps plans n o us (Joined false k x) t w r = refused_keeps (Joined false k x) o us t w r
-    goes_on_keeps plans n o us (Joined true k x) t w r = goes_on_with k.pending n k x o us t refl w r
+    goes_on_keeps : (plans : Plans) (aim : Aim) (n : ℕ) (o : Outcome) (us : List Use) (h t : Handle) → HasAt P h → GoesOn login plans aim n h o us t → HasAt P t
+    goes_on_keeps plans aim n o us Absent t w r = refused_keeps Absent o us t w r
+    goes_on_keeps plans aim n o us (Dialing left) t w r = dials_keeps (plans.reads n) (plans.writes n) left n o us t r
+    goes_on_keeps plans aim n o us (Joined false k x) t w r = refused_keeps (Joined false k x) o us t w r
+    goes_on_keeps plans aim n o us (Joined true k x) t w r = goes_on_with k.pending aim n k x o us t refl w r
 
     cancels_with : (q : Option Asked) (k : Kept) (x : Looks) (o : Outcome) (us : List Use) (t : Handle) → k.pending ≡ q → P k → CancelsWith q login k x o us t → HasAt P t
     cancels_with None k x o us t e w r = refused_keeps (Joined true k x) o us t w r
@@ -224,32 +243,32 @@ module _ (P : Kept → Type 0)
     at_step : (n : ℕ) (R : Handle → Outcome → List Use → Handle → Type 0) (hs ts : List Handle) (o : Outcome) (us : List Use) → ((h t : Handle) → HasAt P h → R h o us t → HasAt P t) → AllHave P hs → At n R hs o us ts → AllHave P ts
     at_step n R hs ts o us f w r = subst (AllHave P) (sym r.others) (put_keeps hs n r.made (f (at_number hs n) r.made (at_has hs n w) r.does) w)
 
-    step_keeps : (plans : Plans) (found : Bool) (named : Option StatementView) (hs : List Handle) (step : Step) (o : Outcome) (us : List Use) (ts : List Handle) → AllHave P hs → StepGrows login plans found named hs step o us ts → AllHave P ts
-    step_keeps plans found named hs steps.Conn o us ts w r = subst (AllHave P) (sym r.others) (push_keeps hs r.made (dials_keeps _ _ _ _ o us r.made r.dials) w)
-    step_keeps plans found named hs (steps.Query n text) o us ts w r = at_step n _ hs ts o us (λ h t. calls_keeps n (calls.Query text) o us h t refl) w r
-    step_keeps plans found named hs (steps.Prepare n text) o us ts w r = at_step n _ hs ts o us (λ h t. calls_keeps n (calls.Prepare text) o us h t refl) w r
-    step_keeps plans found named hs (steps.Execute n number params) o us ts w r = at_step n _ hs ts o us (λ h t. executes_keeps named n params o us h t) w r
-    step_keeps plans found named hs (steps.CloseStatement n number) o us ts w r = at_step n _ hs ts o us (λ h t. closes_keeps named n o us h t) w r
-    step_keeps plans found named hs (steps.Next n) o us ts w r = at_step n _ hs ts o us (λ h t. calls_keeps n calls.NextRow o us h t refl) w r
-    step_keeps plans found named hs (steps.Collect n) o us ts w r = at_step n _ hs ts o us (λ h t. collects_keeps n o us h t) w r
-    step_keeps plans found named hs (steps.Drop n) o us ts w r = at_step n _ hs ts o us (λ h t. calls_keeps n calls.DropResult o us h t refl) w r
-    step_keeps plans found named hs (steps.Ping n) o us ts w r = at_step n _ hs ts o us (λ h t. calls_keeps n calls.Ping o us h t refl) w r
-    step_keeps plans found named hs (steps.Reset n) o us ts w r = at_step n _ hs ts o us (λ h t. calls_keeps n calls.Reset o us h t refl) w r
-    step_keeps plans found named hs (steps.User n change) o us ts w r = at_step n _ hs ts o us (λ h t. calls_keeps n (calls.ChangeUser change) o us h t refl) w r
-    step_keeps plans found named hs (steps.Begin n opts) o us ts w r = at_step n _ hs ts o us (λ h t. calls_keeps n (calls.Begin opts) o us h t refl) w r
-    step_keeps plans found named hs (steps.Commit n) o us ts w r = at_step n _ hs ts o us (λ h t. where_keeps found n calls.Commit o us h t refl) w r
-    step_keeps plans found named hs (steps.Rollback n) o us ts w r = at_step n _ hs ts o us (λ h t. where_keeps found n calls.Rollback o us h t refl) w r
-    step_keeps plans found named hs (steps.ForgetTransaction n) o us ts w r = at_step n _ hs ts o us (λ h t. where_keeps found n calls.ForgetTransaction o us h t refl) w r
-    step_keeps plans found named hs (steps.Quit n) o us ts w r = at_step n _ hs ts o us (λ h t. calls_keeps n calls.Quit o us h t refl) w r
-    step_keeps plans found named hs (steps.Stream n) o us ts w r = at_step n _ hs ts o us (λ h t. streams_keeps n o us h t) w r
-    step_keeps plans found named hs (steps.Item n) o us ts w r = at_step n _ hs ts o us (λ h t. where_keeps found n calls.NextRow o us h t refl) w r
-    step_keeps plans found named hs (steps.Unstream n) o us ts w r = at_step n _ hs ts o us (λ h t. unstreams_keeps found o us h t) w r
-    step_keeps plans found named hs (steps.Fields n) o us ts w r = at_step n _ hs ts o us (λ h t. tells_keeps o us h t) w r
-    step_keeps plans found named hs (steps.Poll n) o us ts w r = at_step n _ hs ts o us (λ h t. goes_on_keeps plans n o us h t) w r
-    step_keeps plans found named hs (steps.Cancel n) o us ts w r = at_step n _ hs ts o us (λ h t. cancels_keeps o us h t) w r
-    step_keeps plans found named hs (steps.Advance by) o us ts w r = subst (AllHave P) (sym r.same) w
-    step_keeps plans found named hs (steps.Random word) o us ts w r = subst (AllHave P) (sym r.same) w
+    step_keeps : (plans : Plans) (found : Bool) (aim : Aim) (named : Option StatementView) (hs : List Handle) (step : Step) (o : Outcome) (us : List Use) (ts : List Handle) → AllHave P hs → StepGrows login plans found aim named hs step o us ts → AllHave P ts
+    step_keeps plans found aim named hs steps.Conn o us ts w r = subst (AllHave P) (sym r.others) (push_keeps hs r.made (dials_keeps _ _ _ _ o us r.made r.dials) w)
+    step_keeps plans found aim named hs (steps.Query n text) o us ts w r = at_step n _ hs ts o us (λ h t. calls_keeps n (calls.Query text) o us h t refl) w r
+    step_keeps plans found aim named hs (steps.Prepare n text) o us ts w r = at_step n _ hs ts o us (λ h t. calls_keeps n (calls.Prepare text) o us h t refl) w r
+    step_keeps plans found aim named hs (steps.Execute n number params) o us ts w r = at_step n _ hs ts o us (λ h t. executes_keeps named n params o us h t) w r
+    step_keeps plans found aim named hs (steps.CloseStatement n number) o us ts w r = at_step n _ hs ts o us (λ h t. closes_keeps named n o us h t) w r
+    step_keeps plans found aim named hs (steps.Next n) o us ts w r = at_step n _ hs ts o us (λ h t. reads_keeps aims.Row n o us h t) w r
+    step_keeps plans found aim named hs (steps.Collect n) o us ts w r = at_step n _ hs ts o us (λ h t. reads_keeps aims.Rows n o us h t) w r
+    step_keeps plans found aim named hs (steps.Drop n) o us ts w r = at_step n _ hs ts o us (λ h t. calls_keeps n calls.DropResult o us h t refl) w r
+    step_keeps plans found aim named hs (steps.Ping n) o us ts w r = at_step n _ hs ts o us (λ h t. calls_keeps n calls.Ping o us h t refl) w r
+    step_keeps plans found aim named hs (steps.Reset n) o us ts w r = at_step n _ hs ts o us (λ h t. calls_keeps n calls.Reset o us h t refl) w r
+    step_keeps plans found aim named hs (steps.User n change) o us ts w r = at_step n _ hs ts o us (λ h t. calls_keeps n (calls.ChangeUser change) o us h t refl) w r
+    step_keeps plans found aim named hs (steps.Begin n opts) o us ts w r = at_step n _ hs ts o us (λ h t. calls_keeps n (calls.Begin opts) o us h t refl) w r
+    step_keeps plans found aim named hs (steps.Commit n) o us ts w r = at_step n _ hs ts o us (where_keeps found (Calls login n calls.Commit) o us (λ h t. calls_keeps n calls.Commit o us h t refl)) w r
+    step_keeps plans found aim named hs (steps.Rollback n) o us ts w r = at_step n _ hs ts o us (where_keeps found (Calls login n calls.Rollback) o us (λ h t. calls_keeps n calls.Rollback o us h t refl)) w r
+    step_keeps plans found aim named hs (steps.ForgetTransaction n) o us ts w r = at_step n _ hs ts o us (where_keeps found (Calls login n calls.ForgetTransaction) o us (λ h t. calls_keeps n calls.ForgetTransaction o us h t refl)) w r
+    step_keeps plans found aim named hs (steps.Quit n) o us ts w r = at_step n _ hs ts o us (λ h t. calls_keeps n calls.Quit o us h t refl) w r
+    step_keeps plans found aim named hs (steps.Stream n) o us ts w r = at_step n _ hs ts o us (λ h t. reads_keeps aims.Take n o us h t) w r
+    step_keeps plans found aim named hs (steps.Item n) o us ts w r = at_step n _ hs ts o us (where_keeps found (ItemsAt login n) o us (λ h t. items_keeps n o us h t)) w r
+    step_keeps plans found aim named hs (steps.Unstream n) o us ts w r = at_step n _ hs ts o us (where_keeps found LetsGo o us (λ h t. lets_go_keeps o us h t)) w r
+    step_keeps plans found aim named hs (steps.Fields n) o us ts w r = at_step n _ hs ts o us (λ h t. tells_keeps o us h t) w r
+    step_keeps plans found aim named hs (steps.Poll n) o us ts w r = at_step n _ hs ts o us (λ h t. goes_on_keeps plans aim n o us h t) w r
+    step_keeps plans found aim named hs (steps.Cancel n) o us ts w r = at_step n _ hs ts o us (λ h t. cancels_keeps o us h t) w r
+    step_keeps plans found aim named hs (steps.Advance by) o us ts w r = subst (AllHave P) (sym r.same) w
+    step_keeps plans found aim named hs (steps.Random word) o us ts w r = subst (AllHave P) (sym r.same) w
 
     pub grown_keeps : (plans : Plans) (ls : List Line) → AreGrown login plans ls → AllHave P (handles_after ls)
     grown_keeps plans [] w = tt
-    grown_keeps plans (l ∷ ls) w = step_keeps plans (is_found (target l.step) l.step ls) (statement_named (named_statement l.step) (statements_of ls)) (handles_after ls) l.step l.outcome l.uses l.handles (grown_keeps plans ls w.1) w.0.answer
+    grown_keeps plans (l ∷ ls) w = step_keeps plans (is_found (target l.step) l.step ls) (aim_at (target l.step) ls) (statement_named (named_statement l.step) (statements_of ls)) (handles_after ls) l.step l.outcome l.uses l.handles (grown_keeps plans ls w.1) w.0.answer

@@ -5,6 +5,7 @@ pub mod Polling
 pub mod Gathering
 pub mod Stepping
 pub mod Calling
+pub mod Reading
 pub mod Failing
 pub mod Streaming
 pub mod Resuming

@@ -1,6 +1,7 @@
 pub mod Growing
 pub mod Connecting
 pub mod Tapes
+pub mod Untaken
 pub mod Ordering
 pub mod Judging
 pub mod Planning

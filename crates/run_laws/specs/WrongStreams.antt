@@ -17,7 +17,7 @@ use Rattle.my_world.specs.World.{Plans}
 use Rattle.my_steps.specs.Dialing.{Course}
 use Rattle.my_run.specs.Headline.{AnswerView, Headline, answer_view}
 use Rattle.my_run.specs.Tapes.{TapeView, tape_view}
-use Rattle.reading_laws.specs.Bytes.{root, response, greeting, fine, asks, head, one, packet, row}
+use Rattle.reading_laws.specs.Bytes.{root, response, greeting, fine, asks, head, end, one, packet, row}
 
 -- No run of these steps has a transcript of these answers and this tape.
 abbrev pub NoRun : List Step → List AnswerView → TapeView → Type 0
@@ -84,6 +84,30 @@ kept_answers = begun (line 3 outcomes.Done (polled 0 ∷ []) ∷ line 4 outcomes
 abbrev pub kept_tape : TapeView
 kept_tape = taped [] (made calls.TakeSet all_sent answers.Ready ∷ made calls.TakeSet all_sent answers.Ready ∷ [])
 
+-- `stream`, `unstream`, `next`: the row of the set that the stream took
+abbrev pub read_steps : List Step
+read_steps = steps.Conn ∷ steps.Query 0 text ∷ steps.Stream 0 ∷ steps.Unstream 0 ∷ steps.Next 0 ∷ []
+
+abbrev pub read_answers : List AnswerView
+read_answers = begun (line 3 outcomes.Done (polled 0 ∷ []) ∷ line 4 outcomes.Done []
+    ∷ line 5 (outcomes.Row (row (codes "1"))) (polled (length (one 3)) ∷ []) ∷ [])
+
+abbrev pub read_tape : TapeView
+read_tape = taped (one 3) (made calls.TakeSet all_sent answers.Ready ∷ made calls.NextRow all_sent (answers.Row (row (codes "1"))) ∷ [])
+
+-- `stream`, `item`, `item`: the second is refused, though the stream is there
+abbrev pub over_steps : List Step
+over_steps = steps.Conn ∷ steps.Query 0 text ∷ steps.Stream 0 ∷ steps.Item 0 ∷ steps.Item 0 ∷ []
+
+abbrev pub over_answers : List AnswerView
+over_answers = begun (line 3 outcomes.Done (polled 0 ∷ []) ∷ line 4 outcomes.SetEnd (polled (length (end 3)) ∷ [])
+    ∷ line 5 outcomes.NoSuchHandle [] ∷ [])
+
+abbrev pub over_tape : TapeView
+over_tape = taped (end 3) (made calls.TakeSet all_sent answers.Ready ∷ made calls.NextRow all_sent answers.SetEnd ∷ [])
+
 pub record AreNoStreams : Type 0 where
   pub other_set : NoRun other_steps other_answers other_tape
   pub nothing_passed : NoRun kept_steps kept_answers kept_tape
+  pub stream_read : NoRun read_steps read_answers read_tape
+  pub item_refused : NoRun over_steps over_answers over_tape

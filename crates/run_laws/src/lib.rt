@@ -43,8 +43,8 @@ pub fn no_transcript_is_wrong()
     ensures { AreWrong }
 {}
 
-/// No run has one of these: an item that shows a row of the next set, and a stream that doesn't pass over the rest of the
-/// set that an earlier one took.
+/// No run has one of these: an item that shows a row of the next set, a stream and a `next` that don't pass over the rest
+/// of the set that an earlier stream took, and an item that is refused, though its stream is there.
 pub fn no_stream_is_wrong()
     ensures { AreNoStreams }
 {}

@@ -63,7 +63,7 @@ fn connecting(rt: HostRuntime) -> Result<(), Fail> {
 fn sets(rt: HostRuntime) -> Result<(), Fail> {
     let rows = ran(&rt, rt.alloc(), SETS)?;
     println!(rt; "{rows} rows of sets")?;
-    assert!(rt; rows == 45);
+    assert!(rt; rows == 53);
     Ok(())
 }
 

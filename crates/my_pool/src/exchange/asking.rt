@@ -1,13 +1,14 @@
 //! The events of a request.
 
-ghost use Rattle.std.specs.Prelude.{◌≡◌, IfSome};
-ghost use Rattle.my_pool.specs.Asks.{is_wait, room_wanted};
+ghost use Rattle.std.specs.Prelude.{◌≡◌};
+ghost use Rattle.my_pool.specs.Asks.{is_wait};
 
-use super::Exchange;
+use super::{Exchange, room_for_one_more};
+use my_client::Tape;
 use my_conn::Conn;
 use my_frame::NoMemory;
-use my_pool_core::{Core, PollAnswer, PoolEvent};
-use my_pool_store::{Journal, Wake};
+use my_pool_core::{PollAnswer, PoolEvent};
+use my_pool_store::{Journal, Wake, numbered};
 
 /// Whether a polled request is to wait.
 fn is_wait(answer: &PollAnswer) -> bool
@@ -16,30 +17,21 @@ fn is_wait(answer: &PollAnswer) -> bool
     matches!(answer, PollAnswer::Wait)
 }
 
-/// How much room a pool wants where one more request comes.
-fn room_for_one_more(core: &Core) -> Option<usize>
-    ensures { IfSome result (λ n. n ≡ room_wanted core.now) }
-{
-    let live = core.count_live().checked_add(1)?;
-    let spare = core.spare().max(live as u64) as usize;
-    let counted = core.metrics().connection_count as usize;
-    counted.checked_add(spare)
-}
-
 impl<L: Drop, J: Journal, W: Wake> Exchange<L, J, W> {
-    ghost use Rattle.std.specs.Prelude.{◌≡◌, ◌==◌, ◌&&◌, Some, true, false, [], ◌∷◌, ◌++◌, IfOk, OnOk, OnErr, is_some};
+    ghost use Rattle.std.specs.Prelude.{◌≡◌, ◌==◌, ◌&&◌, Some, true, false, [], ◌∷◌, ◌++◌, IfOk, IfSome, OnOk, OnErr, is_some};
     ghost use Rattle.my_frame.specs.Lists.{without};
     ghost use Rattle.my_pool_core.specs.declared.event.PoolEvent.TheVariants as events;
     ghost use Rattle.my_pool_core.specs.declared.event.Answer.TheVariants as answers;
     ghost use Rattle.my_pool_core.specs.Events.{may_cancel};
     ghost use Rattle.my_pool_core.specs.Moves.{failed_token, polled_token};
     ghost use Rattle.my_pool_core.specs.Owners.{Free, is_lease, token};
-    ghost use Rattle.my_pool_store.specs.Shelves.{left_by, taken_by};
+    ghost use Rattle.my_pool_store.specs.Shelves.{left_by, numbered, taken_by};
     ghost use Rattle.my_pool_store.specs.Woken.{kept_for, waiting};
     ghost use Rattle.my_pool.specs.Asks.{GivesFit, IsHolding, TakesOneLess};
-    ghost use Rattle.my_pool.specs.Pools.{Made, IsCalled};
+    ghost use Rattle.my_pool.specs.Pools.{Made, MadeWith, IsCalled};
 
-    /// A connection is asked for; returns the age of the new request. Out of memory, nothing changes.
+    /// A connection is asked for; returns the age of the new request. Room is made for what the connections of the pool
+    /// may leave, too. Out of memory, nothing changes.
     pub fn request(&mut self) -> Result<u64, NoMemory>
         ensures made { IfOk result (λ age. Made events.Request (answers.Age age) self.old self.new) }
         ensures called { OnOk result (IsCalled self.old self.new) }
@@ -52,6 +44,7 @@ impl<L: Drop, J: Journal, W: Wake> Exchange<L, J, W> {
         };
         self.shelf.make_room(count)?;
         self.wakers.make_room(count)?;
+        self.gone.make_more_room(count)?;
         let age = self.core.request()?;
         self.journal.note(PoolEvent::Request);
         self.wakers.call_closed(&self.core);
@@ -97,10 +90,10 @@ impl<L: Drop, J: Journal, W: Wake> Exchange<L, J, W> {
         self.journal.note(PoolEvent::Ready { age, conn: number });
     }
 
-    /// A request's connection isn't good, and is counted no more.
-    pub fn failed(&mut self, age: u64, number: u64)
+    /// A request's connection isn't good, and is counted no more. Its tape is kept, where it has one.
+    pub fn failed(&mut self, age: u64, number: u64, tape: Option<Tape>)
         requires { IsHolding age number self.old }
-        ensures made { Made (events.Failed age number) answers.Done self.old self.new }
+        ensures made { MadeWith (numbered number tape) (events.Failed age number) answers.Done self.old self.new }
         ensures called { IsCalled self.old self.new }
         ensures kept { self.new.kept ≡ self.old.kept }
         ensures holds { token age self.new.state ≡ failed_token age (token age self.old.state) }
@@ -108,13 +101,16 @@ impl<L: Drop, J: Journal, W: Wake> Exchange<L, J, W> {
         let oldest = self.core.oldest_waiting();
         self.core.failed(age, number);
         self.journal.note(PoolEvent::Failed { age, conn: number });
+        self.gone.put_left(numbered(number, tape));
         self.wakers.call_at(oldest, &self.core);
     }
 
-    /// A live request is given up: its own waker isn't called.
-    pub fn cancel(&mut self, age: u64)
-        requires { may_cancel age self.old.state ≡ true }
-        ensures made { Made (events.Cancel age) answers.Done self.old self.new }
+    /// A live request is given up: its own waker isn't called. What is left of its connection, its tape, is kept by its
+    /// number.
+    pub fn cancel(&mut self, age: u64, left: Option<(u64, Tape)>)
+        requires live { may_cancel age self.old.state ≡ true }
+        requires holds { IfSome left (λ l. IsHolding age l.0 self.old) }
+        ensures made { MadeWith left (events.Cancel age) answers.Done self.old self.new }
         ensures called { self.new.ages ≡ waiting self.new.state (without (λ a. a == age) self.old.ages) }
         ensures kept { self.new.kept ≡ self.old.kept }
     {
@@ -122,6 +118,7 @@ impl<L: Drop, J: Journal, W: Wake> Exchange<L, J, W> {
         let oldest = self.core.oldest_waiting();
         self.core.cancel(age);
         self.journal.note(PoolEvent::Cancel { age });
+        self.gone.put_left(left);
         self.wakers.call_at(oldest, &self.core);
     }
 }

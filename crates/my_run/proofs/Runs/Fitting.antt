@@ -20,6 +20,8 @@ use Rattle.my_reading.specs.declared.call.Call.TheVariants.{CloseStmt, Execute, 
 use Rattle.my_reading.specs.Calls.{kind_of}
 use Rattle.my_client.specs.declared.poll.After.{After}
 use Rattle.my_client.specs.declared.poll.After.TheVariants as after
+use Rattle.my_script.specs.declared.aim.Aim.{Aim}
+use Rattle.my_script.specs.declared.aim.Aim.TheVariants as aims
 use Rattle.my_script.specs.declared.step.Step.{Step}
 use Rattle.my_script.specs.declared.step.Step.TheVariants as steps
 use Rattle.my_script.specs.declared.transcript.Outcome.{Outcome}
@@ -29,7 +31,7 @@ use Rattle.my_script.specs.Streams.{is_skip, target}
 use Rattle.my_client.specs.Kept.{Asked, Kept, asking, asked_by}
 use Rattle.my_world.specs.World.{Plans, HeldBy, IsFresh}
 use Rattle.my_client.specs.Polls.{IsPolled}
-use Rattle.my_steps.specs.Grows.{AreGrown, Line, handles_after, is_found, statements_of, IsRefused, OnConnection, PolledOnce, IsClosed, Begins, BeginsOn, Calls, ConnectShows, Connects, HasPlan, IsNew, Dials, Holds, Fails, Links, Gathers, GathersOn, Collects, CollectsOn, CollectsAt, PollsOn, PollsCall, ThenTakes, Skips, Takes, TakesOn, StreamsAt, CallsWhere, LetsGoWith, UnstreamsAt, ExecutesAt, ClosesAt, GoesOnWith, GoesOn, CancelsWith, Cancels, TellsWith, TellsFields, At, StepGrows, is_done, skips_first}
+use Rattle.my_steps.specs.Grows.{AreGrown, Line, handles_after, aim_at, is_found, statements_of, IsRefused, OnConnection, PolledOnce, IsClosed, Begins, BeginsOn, Calls, ConnectShows, Connects, HasPlan, IsNew, Dials, Holds, Fails, Links, Gathers, GathersOn, Collects, CollectsOn, CollectsAt, PollsOn, PollsCall, Then, Skips, Follows, Reads, ReadsOn, ReadsAt, Where, Items, ItemsOn, ItemsAt, LetsGoWith, LetsGo, ExecutesAt, ClosesAt, GoesOnWith, GoesOn, CancelsWith, Cancels, TellsWith, TellsFields, At, StepGrows, is_done, has_taken}
 use Rattle.my_steps.specs.Handle.{Handle, Absent, Dialing, Joined, at_number, put_at}
 use Rattle.my_run.specs.Fits.{AllFit, EachFits, FitsLink, HasWaited, IsFit, LinksFit, waits}
 use Rattle.my_run.proofs.Polls.{sent_so, taken_so, used_so}
@@ -131,36 +133,53 @@ module _ (plan : Option (List ReadItem)) (items : Option (List DialItem)) where
   connects_fits : (login : Login) (n : ℕ) (a : Asked) (k : Kept) (x : Looks) (o : Outcome) (u : Use) (t : Handle) → FitsLink plan x k.sent k.taken → Connects login n a k x o u t → IsFit plan items t
   connects_fits login n a k x o u t f r = shown_fits login n r.after r.end r.link o t (polled_fits login a k r.end x r.link u.met r.after r.polled f) r.shows
 
-  -- a stream takes a set, after the rest of an earlier one
-  then_fits : (b : Bool) (login : Login) (n : ℕ) (first : Outcome) (mid : Handle) (o : Outcome) (us : List Use) (t : Handle) → IsFit plan items mid → ThenTakes b login n first mid o us t → IsFit plan items t
-  then_fits true login n first mid o us t f r = calls_fits login n TakeSet o us mid t f r
-  then_fits false login n first mid o us t f r = subst (IsFit plan items) (sym r.2) f
+  -- a connection reads on, after the rest of a set that a stream took
+  then_fits : (b : Bool) (Next : Handle → Outcome → List Use → Handle → Type 0) (first : Outcome) (mid : Handle) (o : Outcome) (us : List Use) (t : Handle) → (IsFit plan items mid → Next mid o us t → IsFit plan items t) → IsFit plan items mid → Then b Next first mid o us t → IsFit plan items t
+  then_fits true Next first mid o us t next f r = next f r
+  then_fits false Next first mid o us t next f r = subst (IsFit plan items) (sym r.2) f
 
-  skips_fits : (R : Outcome → List Use → Handle → Type 0) (login : Login) (n : ℕ) (o : Outcome) (us : List Use) (t : Handle) → ((first : Outcome) (used : List Use) (mid : Handle) → R first used mid → IsFit plan items mid) → Skips R login n o us t → IsFit plan items t
-  skips_fits R login n o us t f r = then_fits (is_done r.first) login n r.first r.mid o r.later t (f r.first r.used r.mid r.skips) r.takes
+  skips_fits : (R : Outcome → List Use → Handle → Type 0) (Next : Handle → Outcome → List Use → Handle → Type 0) (o : Outcome) (us : List Use) (t : Handle) → ((first : Outcome) (used : List Use) (mid : Handle) → R first used mid → IsFit plan items mid) → ((later : List Use) (mid : Handle) → IsFit plan items mid → Next mid o later t → IsFit plan items t) → Skips R Next o us t → IsFit plan items t
+  skips_fits R Next o us t f next r = then_fits (is_done r.first) Next r.first r.mid o r.later t (next r.later r.mid) (f r.first r.used r.mid r.skips) r.follows
 
-  takes_fits : (b : Bool) (login : Login) (n : ℕ) (o : Outcome) (us : List Use) (h t : Handle) → IsFit plan items h → Takes b login n h o us t → IsFit plan items t
-  takes_fits true login n o us h t f r = skips_fits (Calls login n SkipTaken h) login n o us t (λ first used mid s. calls_fits login n SkipTaken first used h mid f s) r
-  takes_fits false login n o us h t f r = calls_fits login n TakeSet o us h t f r
+  follows_fits : (aim : Aim) (login : Login) (n : ℕ) (o : Outcome) (us : List Use) (h t : Handle) → IsFit plan items h → Follows aim login n h o us t → IsFit plan items t
+  follows_fits aims.Take login n o us h t f r = calls_fits login n TakeSet o us h t f r
+  follows_fits aims.Row login n o us h t f r = calls_fits login n NextRow o us h t f r
+  follows_fits aims.Rows login n o us h t f r = collects_fits login n o us h t f r
 
-  takes_on : (q : Option Asked) (login : Login) (n : ℕ) (k : Kept) (x : Looks) (o : Outcome) (us : List Use) (t : Handle) → FitsLink plan x k.sent k.taken → TakesOn q login n k x o us t → IsFit plan items t
-  takes_on None login n k x o us t f r = takes_fits (skips_first login k) login n o us (Joined true k x) t f r
-  takes_on (Some a) login n k x o us t f r = kept_fits (Joined true k x) o us t f r
+  reads_by : (b : Bool) (aim : Aim) (login : Login) (n : ℕ) (o : Outcome) (us : List Use) (h t : Handle) → IsFit plan items h → Reads b aim login n h o us t → IsFit plan items t
+  reads_by true aim login n o us h t f r = skips_fits (Calls login n SkipTaken h) (Follows aim login n) o us t (λ first used mid s. calls_fits login n SkipTaken first used h mid f s) (λ later mid. follows_fits aim login n o later mid t) r
+  reads_by false aim login n o us h t f r = follows_fits aim login n o us h t f r
 
-  streams_fits : (login : Login) (n : ℕ) (o : Outcome) (us : List Use) (h t : Handle) → IsFit plan items h → StreamsAt login n h o us t → IsFit plan items t
-  streams_fits login n o us h t = on_fits (λ k. TakesOn k.pending login n k) o us h t (λ k x. takes_on k.pending login n k x o us t)
+  reads_on : (q : Option Asked) (aim : Aim) (login : Login) (n : ℕ) (k : Kept) (x : Looks) (o : Outcome) (us : List Use) (t : Handle) → FitsLink plan x k.sent k.taken → ReadsOn q aim login n k x o us t → IsFit plan items t
+  reads_on None aim login n k x o us t f r = reads_by (has_taken login k) aim login n o us (Joined true k x) t f r
+  reads_on (Some a) aim login n k x o us t f r = kept_fits (Joined true k x) o us t f r
 
-  where_fits : (b : Bool) (login : Login) (n : ℕ) (call : Call) (o : Outcome) (us : List Use) (h t : Handle) → IsFit plan items h → CallsWhere b login n call h o us t → IsFit plan items t
-  where_fits true login n call o us h t f r = calls_fits login n call o us h t f r
-  where_fits false login n call o us h t f r = kept_fits h o us t f r
+  reads_fits : (aim : Aim) (login : Login) (n : ℕ) (o : Outcome) (us : List Use) (h t : Handle) → IsFit plan items h → ReadsAt aim login n h o us t → IsFit plan items t
+  reads_fits aim login n o us h t = on_fits (λ k. ReadsOn k.pending aim login n k) o us h t (λ k x. reads_on k.pending aim login n k x o us t)
+
+  -- what a step does where it finds what it needs
+  where_fits : (b : Bool) (R : Handle → Outcome → List Use → Handle → Type 0) (o : Outcome) (us : List Use) → ((h t : Handle) → IsFit plan items h → R h o us t → IsFit plan items t) → (h t : Handle) → IsFit plan items h → Where b R h o us t → IsFit plan items t
+  where_fits true R o us does h t f r = does h t f r
+  where_fits false R o us does h t f r = kept_fits h o us t f r
+
+  -- an item
+  items_by : (b : Bool) (login : Login) (n : ℕ) (k : Kept) (x : Looks) (o : Outcome) (us : List Use) (t : Handle) → FitsLink plan x k.sent k.taken → Items b login n k x o us t → IsFit plan items t
+  items_by true login n k x o us t f r = calls_fits login n NextRow o us (Joined true k x) t f r
+  items_by false login n k x o us t f r = subst (IsFit plan items) (sym r.left) f
+
+  items_on : (q : Option Asked) (login : Login) (n : ℕ) (k : Kept) (x : Looks) (o : Outcome) (us : List Use) (t : Handle) → FitsLink plan x k.sent k.taken → ItemsOn q login n k x o us t → IsFit plan items t
+  items_on None login n k x o us t f r = items_by (has_taken login k) login n k x o us t f r
+  items_on (Some a) login n k x o us t f r = kept_fits (Joined true k x) o us t f r
+
+  items_fits : (login : Login) (n : ℕ) (o : Outcome) (us : List Use) (h t : Handle) → IsFit plan items h → ItemsAt login n h o us t → IsFit plan items t
+  items_fits login n o us h t = on_fits (λ k. ItemsOn k.pending login n k) o us h t (λ k x. items_on k.pending login n k x o us t)
 
   lets_go_with : (q : Option Asked) (k : Kept) (x : Looks) (o : Outcome) (us : List Use) (t : Handle) → FitsLink plan x k.sent k.taken → LetsGoWith q k x o us t → IsFit plan items t
   lets_go_with None k x o us t f r = subst (IsFit plan items) (sym r.left) f
   lets_go_with (Some a) k x o us t f r = kept_fits (Joined true k x) o us t f r
 
-  unstreams_fits : (b : Bool) (o : Outcome) (us : List Use) (h t : Handle) → IsFit plan items h → UnstreamsAt b h o us t → IsFit plan items t
-  unstreams_fits true o us h t f r = on_fits (λ k. LetsGoWith k.pending k) o us h t (λ k x. lets_go_with k.pending k x o us t) f r
-  unstreams_fits false o us h t f r = kept_fits h o us t f r
+  lets_go_fits : (o : Outcome) (us : List Use) (h t : Handle) → IsFit plan items h → LetsGo h o us t → IsFit plan items t
+  lets_go_fits o us h t f r = on_fits (λ k. LetsGoWith k.pending k) o us h t (λ k x. lets_go_with k.pending k x o us t) f r
 
   executes_fits : (named : Option StatementView) (login : Login) (n : ℕ) (params : Params) (o : Outcome) (us : List Use) (h t : Handle) → IsFit plan items h → ExecutesAt named login n params h o us t → IsFit plan items t
   executes_fits (Some s) login n params o us h t f r = calls_fits login n (Execute s params) o us h t f r
@@ -170,18 +189,18 @@ module _ (plan : Option (List ReadItem)) (items : Option (List DialItem)) where
   closes_fits (Some s) login n o us h t f r = calls_fits login n (CloseStmt s.inner.id) o us h t f r
   closes_fits None login n o us h t f r = kept_fits h o us t f r
 
-  polls_call : (b : Bool) (login : Login) (n : ℕ) (a : Asked) (k : Kept) (x : Looks) (o : Outcome) (us : List Use) (t : Handle) → FitsLink plan x k.sent k.taken → PollsCall b login n a k x o us t → IsFit plan items t
-  polls_call true login n a k x o us t f r = skips_fits (PolledOnce login n a k x) login n o us t (λ first used mid s. once_fits login n a k x first used mid f s) r
-  polls_call false login n a k x o us t f r = once_fits login n a k x o us t f r
+  polls_call : (b : Bool) (aim : Aim) (login : Login) (n : ℕ) (a : Asked) (k : Kept) (x : Looks) (o : Outcome) (us : List Use) (t : Handle) → FitsLink plan x k.sent k.taken → PollsCall b aim login n a k x o us t → IsFit plan items t
+  polls_call true aim login n a k x o us t f r = skips_fits (PolledOnce login n a k x) (Follows aim login n) o us t (λ first used mid s. once_fits login n a k x first used mid f s) (λ later mid. follows_fits aim login n o later mid t) r
+  polls_call false aim login n a k x o us t f r = once_fits login n a k x o us t f r
 
-  polls_on : (b : Bool) (rows : Option (List RowParts)) (login : Login) (n : ℕ) (a : Asked) (k : Kept) (x : Looks) (o : Outcome) (us : List Use) (t : Handle) → FitsLink plan x k.sent k.taken → PollsOn b rows login n a k x o us t → IsFit plan items t
-  polls_on true rows login n a k x o us t f r = connects_fits login n a k x o r.0 t f r.2
-  polls_on false None login n a k x o us t f r = polls_call (is_skip (kind_of a.call)) login n a k x o us t f r
-  polls_on false (Some rows) login n a k x o us t f r = gathers_fits login n us a k x o t f r
+  polls_on : (b : Bool) (rows : Option (List RowParts)) (aim : Aim) (login : Login) (n : ℕ) (a : Asked) (k : Kept) (x : Looks) (o : Outcome) (us : List Use) (t : Handle) → FitsLink plan x k.sent k.taken → PollsOn b rows aim login n a k x o us t → IsFit plan items t
+  polls_on true rows aim login n a k x o us t f r = connects_fits login n a k x o r.0 t f r.2
+  polls_on false None aim login n a k x o us t f r = polls_call (is_skip (kind_of a.call)) aim login n a k x o us t f r
+  polls_on false (Some rows) aim login n a k x o us t f r = gathers_fits login n us a k x o t f r
 
-  goes_on_with : (q : Option Asked) (login : Login) (n : ℕ) (k : Kept) (x : Looks) (o : Outcome) (us : List Use) (t : Handle) → FitsLink plan x k.sent k.taken → GoesOnWith q login n k x o us t → IsFit plan items t
-  goes_on_with None login n k x o us t f r = kept_fits (Joined true k x) o us t f r
-  goes_on_with (Some a) login n k x o us t f r = polls_on _ a.rows login n a k x o us t f r
+  goes_on_with : (q : Option Asked) (aim : Aim) (login : Login) (n : ℕ) (k : Kept) (x : Looks) (o : Outcome) (us : List Use) (t : Handle) → FitsLink plan x k.sent k.taken → GoesOnWith q aim login n k x o us t → IsFit plan items t
+  goes_on_with None aim login n k x o us t f r = kept_fits (Joined true k x) o us t f r
+  goes_on_with (Some a) aim login n k x o us t f r = polls_on _ a.rows aim login n a k x o us t f r
 
   -- a dial
   fresh_got : (got : Option (List ℕ)) → IsFresh got → HasGot got []
@@ -200,11 +219,11 @@ module _ (plan : Option (List ReadItem)) (items : Option (List DialItem)) where
   dials_fits login rules now n o us t waited (Fails left e f g failed) = subst (IsFit plan items) (sym g) tt
   dials_fits login rules now n o us t waited (Links u x left e new given r) = connects_fits login n _ _ x o u t (new_fits rules x new) r
 
-  goes_on_fits : (login : Login) (plans : Plans) (n : ℕ) (o : Outcome) (us : List Use) (h t : Handle) → plans.reads n ≡ plan → IsFit plan items h → GoesOn login plans n h o us t → IsFit plan items t
-  goes_on_fits login plans n o us Absent t is f r = kept_fits Absent o us t f r
-  goes_on_fits login plans n o us (Dialing left) t is f r = dials_fits login (plans.writes n) left n o us t (λ next held. waited_on items left next f held) (subst (λ (p : Option (List ReadItem)). Dials login p (plans.writes n) left n o us t) is r)
-  goes_on_fits login plans n o us (Joined false k x) t is f r = kept_fits (Joined false k x) o us t f r
-  goes_on_fits login plans n o us (Joined true k x) t is f r = goes_on_with k.pending login n k x o us t f r
+  goes_on_fits : (login : Login) (plans : Plans) (aim : Aim) (n : ℕ) (o : Outcome) (us : List Use) (h t : Handle) → plans.reads n ≡ plan → IsFit plan items h → GoesOn login plans aim n h o us t → IsFit plan items t
+  goes_on_fits login plans aim n o us Absent t is f r = kept_fits Absent o us t f r
+  goes_on_fits login plans aim n o us (Dialing left) t is f r = dials_fits login (plans.writes n) left n o us t (λ next held. waited_on items left next f held) (subst (λ (p : Option (List ReadItem)). Dials login p (plans.writes n) left n o us t) is r)
+  goes_on_fits login plans aim n o us (Joined false k x) t is f r = kept_fits (Joined false k x) o us t f r
+  goes_on_fits login plans aim n o us (Joined true k x) t is f r = goes_on_with k.pending aim login n k x o us t f r
 
   cancels_with : (q : Option Asked) (login : Login) (k : Kept) (x : Looks) (o : Outcome) (us : List Use) (t : Handle) → FitsLink plan x k.sent k.taken → CancelsWith q login k x o us t → IsFit plan items t
   cancels_with None login k x o us t f r = kept_fits (Joined true k x) o us t f r
@@ -240,36 +259,36 @@ push_all P t (h ∷ hs) all p (suc m) = push_all (λ i. P (suc i)) t hs (λ i. a
 at_fits : (plans : Plans) (n : ℕ) (R : Handle → Outcome → List Use → Handle → Type 0) (hs ts : List Handle) (o : Outcome) (us : List Use) → ((h t : Handle) → IsFit (plans.reads n) (plans.dials n) h → R h o us t → IsFit (plans.reads n) (plans.dials n) t) → AllFit plans hs → At n R hs o us ts → AllFit plans ts
 at_fits plans n R hs ts o us f w r = subst (AllFit plans) (sym r.others) (put_all (λ m. IsFit (plans.reads m) (plans.dials m)) n r.made hs w (f (at_number hs n) r.made (w n) r.does))
 
-pub step_fits : (login : Login) (plans : Plans) (found : Bool) (named : Option StatementView) (hs : List Handle) (step : Step) (o : Outcome) (us : List Use) (ts : List Handle) → AllFit plans hs → StepGrows login plans found named hs step o us ts → AllFit plans ts
-step_fits login plans found named hs steps.Conn o us ts w r = subst (AllFit plans) (sym r.others) (push_all (λ m. IsFit (plans.reads m) (plans.dials m)) r.made hs w (dials_fits (plans.reads (length hs)) (plans.dials (length hs)) login (plans.writes (length hs)) (plans.dials (length hs)) (length hs) o us r.made (λ left held. waited_first (plans.dials (length hs)) left held) r.dials))
-step_fits login plans found named hs (steps.Query n text) o us ts w r = at_fits plans n _ hs ts o us (λ h t. calls_fits (plans.reads n) (plans.dials n) login n _ o us h t) w r
-step_fits login plans found named hs (steps.Prepare n text) o us ts w r = at_fits plans n _ hs ts o us (λ h t. calls_fits (plans.reads n) (plans.dials n) login n _ o us h t) w r
-step_fits login plans found named hs (steps.Execute n number params) o us ts w r = at_fits plans n _ hs ts o us (λ h t. executes_fits (plans.reads n) (plans.dials n) named login n params o us h t) w r
-step_fits login plans found named hs (steps.CloseStatement n number) o us ts w r = at_fits plans n _ hs ts o us (λ h t. closes_fits (plans.reads n) (plans.dials n) named login n o us h t) w r
-step_fits login plans found named hs (steps.Next n) o us ts w r = at_fits plans n _ hs ts o us (λ h t. calls_fits (plans.reads n) (plans.dials n) login n _ o us h t) w r
-step_fits login plans found named hs (steps.Collect n) o us ts w r = at_fits plans n _ hs ts o us (λ h t. collects_fits (plans.reads n) (plans.dials n) login n o us h t) w r
-step_fits login plans found named hs (steps.Drop n) o us ts w r = at_fits plans n _ hs ts o us (λ h t. calls_fits (plans.reads n) (plans.dials n) login n _ o us h t) w r
-step_fits login plans found named hs (steps.Ping n) o us ts w r = at_fits plans n _ hs ts o us (λ h t. calls_fits (plans.reads n) (plans.dials n) login n _ o us h t) w r
-step_fits login plans found named hs (steps.Reset n) o us ts w r = at_fits plans n _ hs ts o us (λ h t. calls_fits (plans.reads n) (plans.dials n) login n _ o us h t) w r
-step_fits login plans found named hs (steps.User n change) o us ts w r = at_fits plans n _ hs ts o us (λ h t. calls_fits (plans.reads n) (plans.dials n) login n _ o us h t) w r
-step_fits login plans found named hs (steps.Begin n opts) o us ts w r = at_fits plans n _ hs ts o us (λ h t. calls_fits (plans.reads n) (plans.dials n) login n _ o us h t) w r
-step_fits login plans found named hs (steps.Commit n) o us ts w r = at_fits plans n _ hs ts o us (λ h t. where_fits (plans.reads n) (plans.dials n) found login n Commit o us h t) w r
-step_fits login plans found named hs (steps.Rollback n) o us ts w r = at_fits plans n _ hs ts o us (λ h t. where_fits (plans.reads n) (plans.dials n) found login n Rollback o us h t) w r
-step_fits login plans found named hs (steps.ForgetTransaction n) o us ts w r = at_fits plans n _ hs ts o us (λ h t. where_fits (plans.reads n) (plans.dials n) found login n ForgetTransaction o us h t) w r
-step_fits login plans found named hs (steps.Quit n) o us ts w r = at_fits plans n _ hs ts o us (λ h t. calls_fits (plans.reads n) (plans.dials n) login n _ o us h t) w r
-step_fits login plans found named hs (steps.Stream n) o us ts w r = at_fits plans n _ hs ts o us (λ h t. streams_fits (plans.reads n) (plans.dials n) login n o us h t) w r
-step_fits login plans found named hs (steps.Item n) o us ts w r = at_fits plans n _ hs ts o us (λ h t. where_fits (plans.reads n) (plans.dials n) found login n NextRow o us h t) w r
-step_fits login plans found named hs (steps.Unstream n) o us ts w r = at_fits plans n _ hs ts o us (λ h t. unstreams_fits (plans.reads n) (plans.dials n) found o us h t) w r
-step_fits login plans found named hs (steps.Fields n) o us ts w r = at_fits plans n _ hs ts o us (λ h t. tells_fits (plans.reads n) (plans.dials n) login o us h t) w r
-step_fits login plans found named hs (steps.Poll n) o us ts w r = at_fits plans n _ hs ts o us (λ h t f g. goes_on_fits (plans.reads n) (plans.dials n) login plans n o us h t refl f g) w r
-step_fits login plans found named hs (steps.Cancel n) o us ts w r = at_fits plans n _ hs ts o us (λ h t. cancels_fits (plans.reads n) (plans.dials n) login o us h t) w r
-step_fits login plans found named hs (steps.Advance by) o us ts w r = subst (AllFit plans) (sym r.same) w
-step_fits login plans found named hs (steps.Random word) o us ts w r = subst (AllFit plans) (sym r.same) w
+pub step_fits : (login : Login) (plans : Plans) (found : Bool) (aim : Aim) (named : Option StatementView) (hs : List Handle) (step : Step) (o : Outcome) (us : List Use) (ts : List Handle) → AllFit plans hs → StepGrows login plans found aim named hs step o us ts → AllFit plans ts
+step_fits login plans found aim named hs steps.Conn o us ts w r = subst (AllFit plans) (sym r.others) (push_all (λ m. IsFit (plans.reads m) (plans.dials m)) r.made hs w (dials_fits (plans.reads (length hs)) (plans.dials (length hs)) login (plans.writes (length hs)) (plans.dials (length hs)) (length hs) o us r.made (λ left held. waited_first (plans.dials (length hs)) left held) r.dials))
+step_fits login plans found aim named hs (steps.Query n text) o us ts w r = at_fits plans n _ hs ts o us (λ h t. calls_fits (plans.reads n) (plans.dials n) login n _ o us h t) w r
+step_fits login plans found aim named hs (steps.Prepare n text) o us ts w r = at_fits plans n _ hs ts o us (λ h t. calls_fits (plans.reads n) (plans.dials n) login n _ o us h t) w r
+step_fits login plans found aim named hs (steps.Execute n number params) o us ts w r = at_fits plans n _ hs ts o us (λ h t. executes_fits (plans.reads n) (plans.dials n) named login n params o us h t) w r
+step_fits login plans found aim named hs (steps.CloseStatement n number) o us ts w r = at_fits plans n _ hs ts o us (λ h t. closes_fits (plans.reads n) (plans.dials n) named login n o us h t) w r
+step_fits login plans found aim named hs (steps.Next n) o us ts w r = at_fits plans n _ hs ts o us (λ h t. reads_fits (plans.reads n) (plans.dials n) aims.Row login n o us h t) w r
+step_fits login plans found aim named hs (steps.Collect n) o us ts w r = at_fits plans n _ hs ts o us (λ h t. reads_fits (plans.reads n) (plans.dials n) aims.Rows login n o us h t) w r
+step_fits login plans found aim named hs (steps.Drop n) o us ts w r = at_fits plans n _ hs ts o us (λ h t. calls_fits (plans.reads n) (plans.dials n) login n _ o us h t) w r
+step_fits login plans found aim named hs (steps.Ping n) o us ts w r = at_fits plans n _ hs ts o us (λ h t. calls_fits (plans.reads n) (plans.dials n) login n _ o us h t) w r
+step_fits login plans found aim named hs (steps.Reset n) o us ts w r = at_fits plans n _ hs ts o us (λ h t. calls_fits (plans.reads n) (plans.dials n) login n _ o us h t) w r
+step_fits login plans found aim named hs (steps.User n change) o us ts w r = at_fits plans n _ hs ts o us (λ h t. calls_fits (plans.reads n) (plans.dials n) login n _ o us h t) w r
+step_fits login plans found aim named hs (steps.Begin n opts) o us ts w r = at_fits plans n _ hs ts o us (λ h t. calls_fits (plans.reads n) (plans.dials n) login n _ o us h t) w r
+step_fits login plans found aim named hs (steps.Commit n) o us ts w r = at_fits plans n _ hs ts o us (where_fits (plans.reads n) (plans.dials n) found (Calls login n Commit) o us (λ h t. calls_fits (plans.reads n) (plans.dials n) login n Commit o us h t)) w r
+step_fits login plans found aim named hs (steps.Rollback n) o us ts w r = at_fits plans n _ hs ts o us (where_fits (plans.reads n) (plans.dials n) found (Calls login n Rollback) o us (λ h t. calls_fits (plans.reads n) (plans.dials n) login n Rollback o us h t)) w r
+step_fits login plans found aim named hs (steps.ForgetTransaction n) o us ts w r = at_fits plans n _ hs ts o us (where_fits (plans.reads n) (plans.dials n) found (Calls login n ForgetTransaction) o us (λ h t. calls_fits (plans.reads n) (plans.dials n) login n ForgetTransaction o us h t)) w r
+step_fits login plans found aim named hs (steps.Quit n) o us ts w r = at_fits plans n _ hs ts o us (λ h t. calls_fits (plans.reads n) (plans.dials n) login n _ o us h t) w r
+step_fits login plans found aim named hs (steps.Stream n) o us ts w r = at_fits plans n _ hs ts o us (λ h t. reads_fits (plans.reads n) (plans.dials n) aims.Take login n o us h t) w r
+step_fits login plans found aim named hs (steps.Item n) o us ts w r = at_fits plans n _ hs ts o us (where_fits (plans.reads n) (plans.dials n) found (ItemsAt login n) o us (λ h t. items_fits (plans.reads n) (plans.dials n) login n o us h t)) w r
+step_fits login plans found aim named hs (steps.Unstream n) o us ts w r = at_fits plans n _ hs ts o us (where_fits (plans.reads n) (plans.dials n) found LetsGo o us (λ h t. lets_go_fits (plans.reads n) (plans.dials n) o us h t)) w r
+step_fits login plans found aim named hs (steps.Fields n) o us ts w r = at_fits plans n _ hs ts o us (λ h t. tells_fits (plans.reads n) (plans.dials n) login o us h t) w r
+step_fits login plans found aim named hs (steps.Poll n) o us ts w r = at_fits plans n _ hs ts o us (λ h t f g. goes_on_fits (plans.reads n) (plans.dials n) login plans aim n o us h t refl f g) w r
+step_fits login plans found aim named hs (steps.Cancel n) o us ts w r = at_fits plans n _ hs ts o us (λ h t. cancels_fits (plans.reads n) (plans.dials n) login o us h t) w r
+step_fits login plans found aim named hs (steps.Advance by) o us ts w r = subst (AllFit plans) (sym r.same) w
+step_fits login plans found aim named hs (steps.Random word) o us ts w r = subst (AllFit plans) (sym r.same) w
 
 -- so it is after each line
 pub grown_fit : (login : Login) (plans : Plans) (lines : List Line) → AreGrown login plans lines → AllFit plans (handles_after lines)
 grown_fit login plans [] w m = tt
-grown_fit login plans (l ∷ ls) w m = step_fits login plans (is_found (target l.step) l.step ls) (statement_named (named_statement l.step) (statements_of ls)) (handles_after ls) l.step l.outcome l.uses l.handles (grown_fit login plans ls w.1) w.0.answer m
+grown_fit login plans (l ∷ ls) w m = step_fits login plans (is_found (target l.step) l.step ls) (aim_at (target l.step) ls) (statement_named (named_statement l.step) (statements_of ls)) (handles_after ls) l.step l.outcome l.uses l.handles (grown_fit login plans ls w.1) w.0.answer m
 
 lines_fit : (login : Login) (plans : Plans) (lines : List Line) → AreGrown login plans lines → EachFits plans lines
 lines_fit login plans [] w = tt

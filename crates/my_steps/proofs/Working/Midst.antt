@@ -4,6 +4,7 @@ use Rattle.my_statements.specs.Prepared.{StatementView}
 use Rattle.my_link.specs.Looks.{Looks}
 use Rattle.my_world.specs.World.{Back, DialCounts, IsFresh, WorldSeen, with_back}
 use Rattle.my_client.specs.declared.conn.TapedConn.{TapedConn}
+use Rattle.my_script.specs.declared.aim.Aim.{Aim}
 use Rattle.my_script.specs.declared.step.Step.{Step}
 use Rattle.my_script.specs.declared.step.Step.TheVariants as steps
 use Rattle.my_steps.specs.declared.slot.Slot.{Slot}
@@ -110,14 +111,14 @@ midst_push {L} n before later ss ts new is at w = record {
 }
 
 -- of a step by its order
-number_is : (found : Bool) (named : Option StatementView) (step : Step) (next : ℕ) → number_by (order_of found named step) next ≡ number_of step next
-number_is found named steps.Conn next = refl
-number_is found named step next = refl
+number_is : (found : Bool) (aim : Aim) (named : Option StatementView) (step : Step) (next : ℕ) → number_by (order_of found aim named step) next ≡ number_of step next
+number_is found aim named steps.Conn next = refl
+number_is found aim named step next = refl
 
-pub step_midst : {L : Type 0} (found : Bool) (named : Option StatementView) (step : Step) (order : Order) (hs gs : List Handle) (next : ℕ) (first before later : WorldSeen) (ss ts : List (Slot L)) → order ≡ order_of found named step → hs ≡ gs → before.dials ≡ first.dials → before.back ≡ first.back → InMidst (dials_by order hs) (number_by order next) before later ss ts → InMidst (has_dialed step gs) (number_of step next) first later ss ts
-step_midst {L} found named step order hs gs next first before later ss ts is same d b w =
-    let dials : dials_by order hs ≡ has_dialed step gs = ap (λ (o : Order). dials_by o hs) is ∙ dials_is found named step hs ∙ ap (has_dialed step) same in
-    let number : number_by order next ≡ number_of step next = ap (λ (o : Order). number_by o next) is ∙ number_is found named step next in
+pub step_midst : {L : Type 0} (found : Bool) (aim : Aim) (named : Option StatementView) (step : Step) (order : Order) (hs gs : List Handle) (next : ℕ) (first before later : WorldSeen) (ss ts : List (Slot L)) → order ≡ order_of found aim named step → hs ≡ gs → before.dials ≡ first.dials → before.back ≡ first.back → InMidst (dials_by order hs) (number_by order next) before later ss ts → InMidst (has_dialed step gs) (number_of step next) first later ss ts
+step_midst {L} found aim named step order hs gs next first before later ss ts is same d b w =
+    let dials : dials_by order hs ≡ has_dialed step gs = ap (λ (o : Order). dials_by o hs) is ∙ dials_is found aim named step hs ∙ ap (has_dialed step) same in
+    let number : number_by order next ≡ number_of step next = ap (λ (o : Order). number_by o next) is ∙ number_is found aim named step next in
     let so : InMidst (has_dialed step gs) (number_of step next) before later ss ts =
     subst (λ (b : Bool). InMidst b (number_of step next) before later ss ts) dials
     (subst (λ (q : Option ℕ). InMidst (dials_by order hs) q before later ss ts) number w) in

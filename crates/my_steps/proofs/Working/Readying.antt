@@ -15,8 +15,11 @@ use Rattle.my_client.specs.Drives.{Drives}
 use Rattle.my_client.specs.Stands.{StandsAsked, Waits, WaitsIn}
 use Rattle.my_client.proofs.Resting.{stands_closed, waits_unclosed}
 use Rattle.my_steps.specs.declared.gather.Gathering.TheVariants.{On}
+use Rattle.my_steps.specs.declared.outcome.StepResult.{StepResult}
 use Rattle.my_steps.specs.declared.slot.Slot.{Slot}
 use Rattle.my_steps.specs.declared.slot.Slot.TheVariants.{There}
+use Rattle.my_steps.specs.declared.work.Work.{Work}
+use Rattle.my_steps.specs.Did.{EachDid, EachPolled}
 use Rattle.my_steps.specs.Gathering.{Goes}
 use Rattle.my_steps.specs.Ready.{AreReady, AskedReady, ConnReady, RestsBy, SlotReady, StaysOpen}
 use Rattle.my_steps.proofs.Working.Gathered.{collect_asks, next_row}
@@ -42,6 +45,15 @@ asked_again c r op =
     let a = some_asked r.0 c.session.seen (kept_of c) r.1.stands op in
     let waits : Waits r.0 c.session.seen (kept_of c) a.0 = subst (WaitsIn r.0 c.session.seen (kept_of c)) a.1.asked r.1.waits in
     (r.0, a.0, a.1, waits_unclosed r.0 c.session.seen (kept_of c) a.0 waits)
+
+-- after a call that ended, and after a poll
+pub ready_after : {L : Type 0} (look : L → Looks) (n : ℕ) (work : Work) (c d : TapedConn L) (r : StepResult) → ConnReady c → EachDid look n work c (There d) r → ConnReady d
+ready_after look n work c d r ready did = (ready.0, (did ready.0 ready.1).stood)
+
+pub ready_polled : {L : Type 0} (look : L → Looks) (n : ℕ) (c d : TapedConn L) (r : StepResult) → ConnReady c → not (is_none c.session.seen.opened) ≡ true → EachPolled look n c d r → ConnReady d
+ready_polled look n c d r ready op did =
+    let a = some_asked ready.0 c.session.seen (kept_of c) ready.1.stands op in
+    (ready.0, (did ready.0 a.0 a.1).rests)
 
 module _ {L : Type 0} (x y : Looks) (d e : TapedConn L) (met : Met) (p : After) (r : AskedReady d)
     (drives : (login : Login) (a : Asked) → StandsAsked login d.session.seen (kept_of d) a → Drives login a e.session.seen x y (kept_of d) (kept_of e) met p) where

@@ -7,6 +7,7 @@ use Rattle.my_grammar.specs.declared.login.Login.{Login}
 use Rattle.my_reading.specs.Endings.{AreCalls}
 use Rattle.my_reading.specs.Reading.{read_calls, reading}
 use Rattle.my_reading.specs.Tape.{TapeCall as ReadCall}
+use Rattle.my_script.specs.declared.aim.Aim.{Aim}
 use Rattle.my_script.specs.declared.step.Step.{Step}
 use Rattle.my_script.specs.declared.step.Step.TheVariants as steps
 use Rattle.my_script.specs.declared.transcript.Outcome.{Outcome}
@@ -98,31 +99,31 @@ tapes_so m most (Joined there k x ∷ hs) (t ∷ ts) once sum e =
     one_tape m most there k x hs t ts once.0 (omega (arith, sum)) (cc) (tapes_so (suc m) most hs ts once.1 (omega (arith, sum)) (cc))
 
 -- how many were dialed
-pub step_dials : (login : Login) (plans : Plans) (there : Bool) (statement : Option StatementView) (hs ts : List Handle) (step : Step) (o : Outcome) (us : List Use) → StepGrows login plans there statement hs step o us ts → length ts ≡ length hs + dialed_by step
-step_dials login plans there statement hs ts steps.Conn o us r = ap length r.others ∙ length-append hs (r.made ∷ [])
-step_dials login plans there statement hs ts (steps.Query m text) o us r = let e = ap length r.others ∙ put_length m r.made hs in omega arith
-step_dials login plans there statement hs ts (steps.Prepare m text) o us r = let e = ap length r.others ∙ put_length m r.made hs in omega arith
-step_dials login plans there statement hs ts (steps.Execute m number params) o us r = let e = ap length r.others ∙ put_length m r.made hs in omega arith
-step_dials login plans there statement hs ts (steps.CloseStatement m number) o us r = let e = ap length r.others ∙ put_length m r.made hs in omega arith
-step_dials login plans there statement hs ts (steps.Next m) o us r = let e = ap length r.others ∙ put_length m r.made hs in omega arith
-step_dials login plans there statement hs ts (steps.Collect m) o us r = let e = ap length r.others ∙ put_length m r.made hs in omega arith
-step_dials login plans there statement hs ts (steps.Drop m) o us r = let e = ap length r.others ∙ put_length m r.made hs in omega arith
-step_dials login plans there statement hs ts (steps.Ping m) o us r = let e = ap length r.others ∙ put_length m r.made hs in omega arith
-step_dials login plans there statement hs ts (steps.Reset m) o us r = let e = ap length r.others ∙ put_length m r.made hs in omega arith
-step_dials login plans there statement hs ts (steps.User m change) o us r = let e = ap length r.others ∙ put_length m r.made hs in omega arith
-step_dials login plans there statement hs ts (steps.Begin m opts) o us r = let e = ap length r.others ∙ put_length m r.made hs in omega arith
-step_dials login plans there statement hs ts (steps.Commit m) o us r = let e = ap length r.others ∙ put_length m r.made hs in omega arith
-step_dials login plans there statement hs ts (steps.Rollback m) o us r = let e = ap length r.others ∙ put_length m r.made hs in omega arith
-step_dials login plans there statement hs ts (steps.ForgetTransaction m) o us r = let e = ap length r.others ∙ put_length m r.made hs in omega arith
-step_dials login plans there statement hs ts (steps.Quit m) o us r = let e = ap length r.others ∙ put_length m r.made hs in omega arith
-step_dials login plans there statement hs ts (steps.Stream m) o us r = let e = ap length r.others ∙ put_length m r.made hs in omega arith
-step_dials login plans there statement hs ts (steps.Item m) o us r = let e = ap length r.others ∙ put_length m r.made hs in omega arith
-step_dials login plans there statement hs ts (steps.Unstream m) o us r = let e = ap length r.others ∙ put_length m r.made hs in omega arith
-step_dials login plans there statement hs ts (steps.Fields m) o us r = let e = ap length r.others ∙ put_length m r.made hs in omega arith
-step_dials login plans there statement hs ts (steps.Poll m) o us r = let e = ap length r.others ∙ put_length m r.made hs in omega arith
-step_dials login plans there statement hs ts (steps.Cancel m) o us r = let e = ap length r.others ∙ put_length m r.made hs in omega arith
-step_dials login plans there statement hs ts (steps.Advance by) o us r = let e = ap length r.same in omega arith
-step_dials login plans there statement hs ts (steps.Random word) o us r = let e = ap length r.same in omega arith
+pub step_dials : (login : Login) (plans : Plans) (there : Bool) (aim : Aim) (statement : Option StatementView) (hs ts : List Handle) (step : Step) (o : Outcome) (us : List Use) → StepGrows login plans there aim statement hs step o us ts → length ts ≡ length hs + dialed_by step
+step_dials login plans there aim statement hs ts steps.Conn o us r = ap length r.others ∙ length-append hs (r.made ∷ [])
+step_dials login plans there aim statement hs ts (steps.Query m text) o us r = let e = ap length r.others ∙ put_length m r.made hs in omega arith
+step_dials login plans there aim statement hs ts (steps.Prepare m text) o us r = let e = ap length r.others ∙ put_length m r.made hs in omega arith
+step_dials login plans there aim statement hs ts (steps.Execute m number params) o us r = let e = ap length r.others ∙ put_length m r.made hs in omega arith
+step_dials login plans there aim statement hs ts (steps.CloseStatement m number) o us r = let e = ap length r.others ∙ put_length m r.made hs in omega arith
+step_dials login plans there aim statement hs ts (steps.Next m) o us r = let e = ap length r.others ∙ put_length m r.made hs in omega arith
+step_dials login plans there aim statement hs ts (steps.Collect m) o us r = let e = ap length r.others ∙ put_length m r.made hs in omega arith
+step_dials login plans there aim statement hs ts (steps.Drop m) o us r = let e = ap length r.others ∙ put_length m r.made hs in omega arith
+step_dials login plans there aim statement hs ts (steps.Ping m) o us r = let e = ap length r.others ∙ put_length m r.made hs in omega arith
+step_dials login plans there aim statement hs ts (steps.Reset m) o us r = let e = ap length r.others ∙ put_length m r.made hs in omega arith
+step_dials login plans there aim statement hs ts (steps.User m change) o us r = let e = ap length r.others ∙ put_length m r.made hs in omega arith
+step_dials login plans there aim statement hs ts (steps.Begin m opts) o us r = let e = ap length r.others ∙ put_length m r.made hs in omega arith
+step_dials login plans there aim statement hs ts (steps.Commit m) o us r = let e = ap length r.others ∙ put_length m r.made hs in omega arith
+step_dials login plans there aim statement hs ts (steps.Rollback m) o us r = let e = ap length r.others ∙ put_length m r.made hs in omega arith
+step_dials login plans there aim statement hs ts (steps.ForgetTransaction m) o us r = let e = ap length r.others ∙ put_length m r.made hs in omega arith
+step_dials login plans there aim statement hs ts (steps.Quit m) o us r = let e = ap length r.others ∙ put_length m r.made hs in omega arith
+step_dials login plans there aim statement hs ts (steps.Stream m) o us r = let e = ap length r.others ∙ put_length m r.made hs in omega arith
+step_dials login plans there aim statement hs ts (steps.Item m) o us r = let e = ap length r.others ∙ put_length m r.made hs in omega arith
+step_dials login plans there aim statement hs ts (steps.Unstream m) o us r = let e = ap length r.others ∙ put_length m r.made hs in omega arith
+step_dials login plans there aim statement hs ts (steps.Fields m) o us r = let e = ap length r.others ∙ put_length m r.made hs in omega arith
+step_dials login plans there aim statement hs ts (steps.Poll m) o us r = let e = ap length r.others ∙ put_length m r.made hs in omega arith
+step_dials login plans there aim statement hs ts (steps.Cancel m) o us r = let e = ap length r.others ∙ put_length m r.made hs in omega arith
+step_dials login plans there aim statement hs ts (steps.Advance by) o us r = let e = ap length r.same in omega arith
+step_dials login plans there aim statement hs ts (steps.Random word) o us r = let e = ap length r.same in omega arith
 
 dialed_more : (ss : List Step) (s : Step) → dialed_in (ss ++ s ∷ []) ≡ dialed_in ss + dialed_by s
 dialed_more [] s = omega arith
@@ -132,7 +133,7 @@ dialed_so : (login : Login) (plans : Plans) (ls : List Line) → AreGrown login 
 dialed_so login plans [] grown = refl
 dialed_so login plans (l ∷ ls) grown =
     let before : length (handles_after ls) ≡ dialed_in (steps_of ls) = dialed_so login plans ls grown.1 in
-    let here : length l.handles ≡ length (handles_after ls) + dialed_by l.step = step_dials login plans _ _ (handles_after ls) l.handles l.step l.outcome l.uses grown.0.answer in
+    let here : length l.handles ≡ length (handles_after ls) + dialed_by l.step = step_dials login plans _ _ _ (handles_after ls) l.handles l.step l.outcome l.uses grown.0.answer in
     let more : dialed_in (steps_of ls ++ l.step ∷ []) ≡ dialed_in (steps_of ls) + dialed_by l.step = dialed_more (steps_of ls) l.step in
     omega arith
 

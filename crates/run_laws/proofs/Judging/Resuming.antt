@@ -21,6 +21,7 @@ use Rattle.my_reading.specs.Course.{Halt}
 use Rattle.my_reading.specs.Tape.{Tape}
 use Rattle.my_reading.specs.Told.{told}
 use Rattle.my_session.specs.Fits.{may_be}
+use Rattle.my_script.specs.declared.aim.Aim.{Aim}
 use Rattle.my_script.specs.declared.step.Step.{Step}
 use Rattle.my_script.specs.Streams.{is_skip}
 use Rattle.my_script.specs.declared.step.Step.TheVariants as steps
@@ -28,11 +29,11 @@ use Rattle.my_script.specs.declared.transcript.Outcome.{Outcome}
 use Rattle.my_script.specs.declared.transcript.Outcome.TheVariants as outcomes
 use Rattle.my_script.specs.declared.transcript.Use.{Use}
 use Rattle.my_acts.specs.declared.act.Act.{Act}
-use Rattle.my_acts.specs.declared.act.Act.TheVariants.{Wrong, Skips, Connects, Polls, Takes, Cancels}
+use Rattle.my_acts.specs.declared.act.Act.TheVariants.{Wrong, Skips, Connects, Polls, Cancels}
 use Rattle.my_acts.specs.declared.act.Act.TheVariants as acts
 use Rattle.my_acts.specs.declared.act.Status.{Status}
 use Rattle.my_acts.specs.declared.act.Status.TheVariants as status
-use Rattle.my_acts.specs.Acts.{act_of, after_cancel, connecting, dialed, gathered, gathering, polled, polled_once, taking}
+use Rattle.my_acts.specs.Acts.{act_of, after_cancel, connecting, dialed, gathered, gathering, passed, polled}
 use Rattle.my_client.specs.declared.poll.After.{After}
 use Rattle.my_world.specs.World.{Plans}
 use Rattle.my_client.specs.declared.poll.After.TheVariants as after
@@ -42,13 +43,13 @@ use Rattle.my_client.specs.Made.{has_closed}
 use Rattle.my_client.specs.Kept.{Asked, Kept, nothing_kept, made_of, ended_by, first_asked, first_kept, told_by}
 use Rattle.my_session.specs.Sessions.{is_refused}
 use Rattle.my_client.specs.Reads.{calls_kept, facts_kept, place_kept}
-use Rattle.my_steps.specs.Grows.{Cancels as CancelsAt, CancelsWith, ConnectShows, Connects as ConnectsTo, Dials, Gathers, GoesOn, GoesOnWith, IsCancelled, IsDropped, PollsCall, PolledOnce, PollsOn, shown}
+use Rattle.my_steps.specs.Grows.{Cancels as CancelsAt, CancelsWith, ConnectShows, Connects as ConnectsTo, Dials, Gathers, GoesOn, GoesOnWith, IsCancelled, IsDropped, PollsCall, PollsOn, shown}
 use Rattle.my_steps.specs.Grows as grows
 use Rattle.my_steps.specs.Handle.{Handle, Absent, Dialing, Joined}
 use Rattle.my_steps.specs.Sums.{held_use, failed_use}
 use Rattle.run_laws.proofs.Connecting.{IsOnce, connects_once, kept_calls, left_of, none_connects, right_of}
 use Rattle.my_run_judge.specs.declared.walk.Spot.{Spot}
-use Rattle.my_run_judge.specs.Lines.{AreRows, IsToldBy, LastPoll, after_last_poll, calls_before, first_of, is_unanswered}
+use Rattle.my_run_judge.specs.Lines.{AreRows, IsToldBy, LastPoll, after_last_poll, calls_before, first_of, ground_at, is_unanswered}
 use Rattle.my_run_judge.specs.Walks.{Walk, ended, with_status}
 use Rattle.run_laws.proofs.Polls.{Polled, polled_of}
 use Rattle.run_laws.proofs.Judging.Failing.{IsLive}
@@ -58,7 +59,7 @@ use Rattle.run_laws.proofs.Judging.Polling.{HasRest, LastSo, begins_here, last_p
 use Rattle.run_laws.proofs.Judging.Gathering.{GathersSo, HasTape, gathers}
 use Rattle.run_laws.proofs.Judging.Stepping.{LineSo, OnceSo, OpenAs, Spotted, StepSo, Tied, absent_so, gone_so, here_act, idle_so, once_so, same_number}
 use Rattle.run_laws.proofs.Judging.Calling.{gathered_line}
-use Rattle.run_laws.proofs.Judging.Streaming.{SkipsSo, skip_call, skips_so}
+use Rattle.run_laws.proofs.Judging.Reading.{SkipsSo, not_one, skip_call, skips_so}
 
 -- the open call connects exactly where it is the first one
 none_last : (ds : List DoneCall) (a : Asked) → none_connects (map (λ c. c.call) (calls_kept ds (Some a))) ≡ true → is_connect (kind_of a.call) ≡ false
@@ -109,7 +110,7 @@ made_ready answers.NoSet e = cc
 made_ready (answers.Stmt prepared) e = cc
 made_ready (answers.Flag flag) e = cc
 
-module _ (login : Login) (t : Tape) (all : AreCalls login (reading login t).calls) (n : ℕ) (statement : Option StatementView) where
+module _ (login : Login) (t : Tape) (all : AreCalls login (reading login t).calls) (n : ℕ) (aim : Aim) (statement : Option StatementView) where
   -- the handshake is polled
   record Joins (o : Outcome) (used : Use) (made : Handle) (w : Walk) (first : ℕ) : Type 0 where
     pub right : LastPoll login n (shown_tape t) o first used w
@@ -186,18 +187,18 @@ module _ (login : Login) (t : Tape) (all : AreCalls login (reading login t).call
 
   -- a dial, and the handshake over its link
   pub dials_so : (step : Step) (plan : Option (List ReadItem)) (rules : Option (List WriteItem)) (items : Option (List DialItem)) (made : Handle) (o : Outcome) (us : List Use) → HasTape t made → Dials login plan rules items n o us made
-      → (w : Walk) → AtWalk login nothing_kept w → ((z : Outcome) (uses : ℕ) → act_of w.spot.status n w.spot.next w.closed step z uses ≡ dialed n z uses) → LineSo login t n statement made step o us w
+      → (w : Walk) → AtWalk login nothing_kept w → ((z : Outcome) (uses : ℕ) → act_of aim w.spot.status n w.spot.next (ground_at w) step z uses ≡ dialed n z uses) → LineSo login t n aim statement made step o us w
   dials_so step plan rules items made o us has (grows.Holds left e f g p) w at does =
-      subst (λ (z : Handle). LineSo login t n statement z step o us w) (sym g) (subst (λ (vs : List Use). LineSo login t n statement (Dialing left) step o vs w) (sym f) (subst (λ (z : Outcome). LineSo login t n statement (Dialing left) step z (held_use n ∷ []) w) (sym e)
+      subst (λ (z : Handle). LineSo login t n aim statement z step o us w) (sym g) (subst (λ (vs : List Use). LineSo login t n aim statement (Dialing left) step o vs w) (sym f) (subst (λ (z : Outcome). LineSo login t n aim statement (Dialing left) step z (held_use n ∷ []) w) (sym e)
       (record { act = acts.Holds; act_is = does outcomes.Pending 1; right = refl; tied = (refl, at) })))
   dials_so step plan rules items made o us has (grows.Fails left e f g p) w at does =
-      subst (λ (z : Handle). LineSo login t n statement z step o us w) (sym g) (subst (λ (vs : List Use). LineSo login t n statement Absent step o vs w) (sym f) (subst (λ (z : Outcome). LineSo login t n statement Absent step z (failed_use n ∷ []) w) (sym e)
+      subst (λ (z : Handle). LineSo login t n aim statement z step o us w) (sym g) (subst (λ (vs : List Use). LineSo login t n aim statement Absent step o vs w) (sym f) (subst (λ (z : Outcome). LineSo login t n aim statement Absent step z (failed_use n ∷ []) w) (sym e)
       (record { act = acts.Fails; act_is = does _ 1; right = (refl, refl); tied = (refl, at) })))
   dials_so step plan rules items made o us has (grows.Links used x left e new given r) w at does =
       let s = connect_so first_kept first_asked x made o used refl refl refl has r in
       let first : AtWalk login first_kept w = at_begin login nothing_kept calls.Connect None w refl at in
       let j = s.forth w first refl (first_of w.spot.status w.spot.next) in
-      subst (λ (vs : List Use). LineSo login t n statement made step o vs w) (sym e) (record {
+      subst (λ (vs : List Use). LineSo login t n aim statement made step o vs w) (sym e) (record {
         act = Connects j.left;
         act_is = does o 2 ∙ j.act_is Connects;
         right = (refl, (begins_here t first_kept first_asked w.spot.next at.next_is refl s.back, j.right, j.told));
@@ -206,7 +207,7 @@ module _ (login : Login) (t : Tape) (all : AreCalls login (reading login t).call
 
   -- the open call goes on
   polls_on : (b : Bool) (k : Kept) (a : Asked) (x : Looks) (made : Handle) (o : Outcome) (us : List Use) → k.pending ≡ Some a → has_closed (made_of k.calls) ≡ false → connects_once (kept_calls k) ≡ true → is_connect (kind_of a.call) ≡ b
-      → (rows : Option (List RowParts)) → a.rows ≡ rows → HasTape t made → PollsOn b rows login n a k x o us made → StepSo login t n statement (Joined true k x) made (steps.Poll n) o us
+      → (rows : Option (List RowParts)) → a.rows ≡ rows → HasTape t made → PollsOn b rows aim login n a k x o us made → StepSo login t n aim statement (Joined true k x) made (steps.Poll n) o us
   polls_on true k a x made o us kp live once con rows rs has r =
       let s = connect_so k a x made o r.0 kp live (is_connecting a.call con) has r.2 in
       record {
@@ -214,14 +215,14 @@ module _ (login : Login) (t : Tape) (all : AreCalls login (reading login t).call
         forth = λ w tied. by_rows a.rows refl w (subst (λ q. Spotted t true q w.spot) kp tied.0) tied.1 s;
       }
     where
-      by_rows : (rs : Option (List RowParts)) → a.rows ≡ rs → (w : Walk) → OpenAs t a rs w.spot → AtWalk login k w → JoinsSo k a made o r.0 → LineSo login t n statement made (steps.Poll n) o us w
+      by_rows : (rs : Option (List RowParts)) → a.rows ≡ rs → (w : Walk) → OpenAs t a rs w.spot → AtWalk login k w → JoinsSo k a made o r.0 → LineSo login t n aim statement made (steps.Poll n) o us w
       by_rows None nr w e at s =
           let j = s.forth w at nr (first_of w.spot.status w.spot.next) in
           let zero_next : (w.spot.next == 0) ≡ true = ap (λ m. m == 0) at.next_is ∙ connects_first_call k a kp once ∙ con in
-          subst (λ (vs : List Use). LineSo login t n statement made (steps.Poll n) o vs w) (sym r.1) (record {
+          subst (λ (vs : List Use). LineSo login t n aim statement made (steps.Poll n) o vs w) (sym r.1) (record {
             act = Polls j.left;
-            act_is = here_act status.Open w.spot.status n w.spot.next w.closed (steps.Poll n) o 1 refl e refl
-                ∙ ap (λ b. if b then connecting n o Polls else polled_once o 1) zero_next ∙ j.act_is Polls;
+            act_is = here_act aim status.Open w.spot.status n w.spot.next (ground_at w) (steps.Poll n) o 1 refl e refl
+                ∙ ap (λ b. if b then connecting n o Polls else polled o) zero_next ∙ j.act_is Polls;
             right = (tt, j.right, j.told);
             tied = j.tied;
           })
@@ -256,20 +257,20 @@ module _ (login : Login) (t : Tape) (all : AreCalls login (reading login t).call
       later : (w : Walk) → Tied login t (Joined true k x) w → (w.spot.next == 0) ≡ false
       later w tied = ap (λ m. m == 0) tied.1.next_is ∙ connects_first_call k a kp once ∙ con
 
-      acts : (w : Walk) → Tied login t (Joined true k x) w → (z : Outcome) (uses : ℕ) → act_of w.spot.status n w.spot.next w.closed (steps.Poll n) z uses ≡ (if uses == 2 then taking z Takes else polled_once z uses)
+      acts : (w : Walk) → Tied login t (Joined true k x) w → (z : Outcome) (uses : ℕ) → act_of aim w.spot.status n w.spot.next (ground_at w) (steps.Poll n) z uses ≡ (if uses == 1 then polled z else passed aim w.spot.next z uses)
       acts w tied z uses =
-          here_act status.Open w.spot.status n w.spot.next w.closed (steps.Poll n) z uses refl (opened w tied) refl
-          ∙ ap (λ b. if b then (if uses == 1 then connecting n z Polls else Wrong) else (if uses == 2 then taking z Takes else polled_once z uses)) (later w tied)
+          here_act aim status.Open w.spot.status n w.spot.next (ground_at w) (steps.Poll n) z uses refl (opened w tied) refl
+          ∙ ap (λ b. if b then (if uses == 1 then connecting n z Polls else Wrong) else (if uses == 1 then polled z else passed aim w.spot.next z uses)) (later w tied)
 
-      by_skip : (b : Bool) → is_skip (kind_of a.call) ≡ b → PollsCall b login n a k x o us made → StepSo login t n statement (Joined true k x) made (steps.Poll n) o us
+      by_skip : (b : Bool) → is_skip (kind_of a.call) ≡ b → PollsCall b aim login n a k x o us made → StepSo login t n aim statement (Joined true k x) made (steps.Poll n) o us
       by_skip true e g =
-          let s : SkipsSo login t all n statement (steps.Poll n) refl k made o us = skips_so login t all n statement (steps.Poll n) refl k a x made o us kp (ap (λ b. is_refused b (kind_of a.call)) live) rs (skip_call a.call e) has g in
+          let s : SkipsSo login t all n aim statement (steps.Poll n) refl aim k made o us = skips_so login t all n aim statement (steps.Poll n) refl aim k a x made o us kp (ap (λ b. is_refused b (kind_of a.call)) live) rs (skip_call a.call e) has g in
           record {
             back = s.back;
-            forth = λ w tied. s.forth w tied.1 (acts w tied outcomes.Pending 1) (λ x. acts w tied (outcomes.Failed x) 1) (λ z. acts w tied z 2) tt;
+            forth = λ w tied. s.forth w tied.1 (acts w tied outcomes.Pending 1) (λ x. acts w tied (outcomes.Failed x) 1) (λ z u v vs. acts w tied z (length (u ∷ v ∷ vs)) ∙ ap (λ b. if b then polled z else passed aim w.spot.next z (length (u ∷ v ∷ vs))) (not_one u v vs)) tt;
           }
       by_skip false e g =
-          let s : OnceSo login t all n statement (steps.Poll n) refl k made o us = once_so login t all n statement (steps.Poll n) refl k a x made o us kp (ap (λ b. is_refused b (kind_of a.call)) live) rs has g (may_end (shown g.after) a.call e) in
+          let s : OnceSo login t all n aim statement (steps.Poll n) refl k made o us = once_so login t all n aim statement (steps.Poll n) refl k a x made o us kp (ap (λ b. is_refused b (kind_of a.call)) live) rs has g (may_end (shown g.after) a.call e) in
           record {
             back = s.back;
             forth = λ w tied. s.forth w tied.1 (acts w tied o 1) tt;
@@ -281,9 +282,9 @@ module _ (login : Login) (t : Tape) (all : AreCalls login (reading login t).call
         forth = λ w tied.
             let g = subst (λ (z : Option (List RowParts)). OpenAs t a z w.spot) rs (subst (λ q. Spotted t true q w.spot) kp tied.0) in
             let same : g.3.rows ≡ rows = some_same g.3.rows rows (sym g.3.rows_are ∙ rs) in
-            gathered_line login t all n statement (steps.Poll n) us o made w g.0
+            gathered_line login t all n aim statement (steps.Poll n) us o made w g.0
             (s.forth w tied.1 g.3.call g.0 g.1 (subst (λ zs. AreRows zs (calls_before (shown_tape t) g.0 w.spot.next)) same g.3.returned))
-            (here_act (status.Gathers g.0) w.spot.status n w.spot.next w.closed (steps.Poll n) o (length us) refl g.2 refl ∙ some_gathered us r g.0)
+            (here_act aim (status.Gathers g.0) w.spot.status n w.spot.next (ground_at w) (steps.Poll n) o (length us) refl g.2 refl ∙ some_gathered us r g.0)
             (ap (λ z. first_of z w.spot.next) g.2) tt;
       }
     where
@@ -294,18 +295,18 @@ module _ (login : Login) (t : Tape) (all : AreCalls login (reading login t).call
       some_gathered [] g first = absurd g
       some_gathered (v ∷ vs) g first = let c : length (v ∷ vs) == 0 ≡ false = grind (arith, nat_tests) in ap (λ b. if b then Wrong else gathering first o) c
 
-  goes_on_with : (q : Option Asked) (k : Kept) (x : Looks) (made : Handle) (o : Outcome) (us : List Use) → k.pending ≡ q → IsLive (Joined true k x) → connects_once (kept_calls k) ≡ true → HasTape t made → GoesOnWith q login n k x o us made
-      → StepSo login t n statement (Joined true k x) made (steps.Poll n) o us
-  goes_on_with None k x made o us e live once has r = idle_so login t all n statement (steps.Poll n) refl k x made o us e (λ closed next. refl) has r
+  goes_on_with : (q : Option Asked) (k : Kept) (x : Looks) (made : Handle) (o : Outcome) (us : List Use) → k.pending ≡ q → IsLive (Joined true k x) → connects_once (kept_calls k) ≡ true → HasTape t made → GoesOnWith q aim login n k x o us made
+      → StepSo login t n aim statement (Joined true k x) made (steps.Poll n) o us
+  goes_on_with None k x made o us e live once has r = idle_so login t all n aim statement (steps.Poll n) refl k x made o us e (λ base next. refl) has r
   goes_on_with (Some a) k x made o us e live once has r = polls_on (is_connect (kind_of a.call)) k a x made o us e (live a e) once refl a.rows refl has r
 
-  pub goes_on_so : (plans : Plans) (h made : Handle) (o : Outcome) (us : List Use) → IsLive h → IsOnce h → HasTape t made → GoesOn login plans n h o us made → StepSo login t n statement h made (steps.Poll n) o us
-  goes_on_so plans Absent made o us live once has r = absent_so login t all n statement (steps.Poll n) refl made o us has r
+  pub goes_on_so : (plans : Plans) (h made : Handle) (o : Outcome) (us : List Use) → IsLive h → IsOnce h → HasTape t made → GoesOn login plans aim n h o us made → StepSo login t n aim statement h made (steps.Poll n) o us
+  goes_on_so plans Absent made o us live once has r = absent_so login t all n aim statement (steps.Poll n) refl made o us has r
   goes_on_so plans (Dialing left) made o us live once has r = record {
     back = tt;
-    forth = λ w tied. dials_so (steps.Poll n) (plans.reads n) (plans.writes n) left made o us has r w tied.1 (λ z uses. here_act status.Dialing w.spot.status n w.spot.next w.closed (steps.Poll n) z uses refl tied.0 refl);
+    forth = λ w tied. dials_so (steps.Poll n) (plans.reads n) (plans.writes n) left made o us has r w tied.1 (λ z uses. here_act aim status.Dialing w.spot.status n w.spot.next (ground_at w) (steps.Poll n) z uses refl tied.0 refl);
   }
-  goes_on_so plans (Joined false k x) made o us live once has r = gone_so login t all n statement (steps.Poll n) refl k x made o us has r
+  goes_on_so plans (Joined false k x) made o us live once has r = gone_so login t all n aim statement (steps.Poll n) refl k x made o us has r
   goes_on_so plans (Joined true k x) made o us live once has r = goes_on_with k.pending k x made o us refl live once has r
 
   -- the open call is cancelled
@@ -313,7 +314,7 @@ module _ (login : Login) (t : Tape) (all : AreCalls login (reading login t).call
   spot_cancelled true s = (refl, refl)
   spot_cancelled false s = refl
 
-  cancelled_so : (k : Kept) (a : Asked) (x : Looks) (made : Handle) (o : Outcome) (us : List Use) → k.pending ≡ Some a → connects_once (kept_calls k) ≡ true → HasTape t made → IsCancelled login a k x o us made → StepSo login t n statement (Joined true k x) made (steps.Cancel n) o us
+  cancelled_so : (k : Kept) (a : Asked) (x : Looks) (made : Handle) (o : Outcome) (us : List Use) → k.pending ≡ Some a → connects_once (kept_calls k) ≡ true → HasTape t made → IsCancelled login a k x o us made → StepSo login t n aim statement (Joined true k x) made (steps.Cancel n) o us
   cancelled_so k a x made o us kp once has r =
       let c = closes_cancelled (kind_of a.call) (place_kept login k) in
       let said = says.Cancelled c in
@@ -327,10 +328,10 @@ module _ (login : Login) (t : Tape) (all : AreCalls login (reading login t).call
             let so : c ≡ closes_cancelled (kind_of a.call) (halt_of login w.closed (own_span k a (Some (told_by said))) w.place).place =
             ap (closes_cancelled (kind_of a.call)) (place_open login k a w.closed w.place kp at.reads ∙ ap (λ (z : Halt). z.place) (same_halt login w.closed k a None (Some (told_by said)) w.place)) in
             let first : (w.spot.next == 0) ≡ is_connect (kind_of a.call) = ap (λ m. m == 0) at.next_is ∙ connects_first_call k a kp once in
-            let acts_so : act_of w.spot.status n w.spot.next w.closed (steps.Cancel n) outcomes.Done 0 ≡ Cancels (after_cancel w.spot.next) = by_rows a.rows w (subst (λ q. Spotted t true q w.spot) kp tied.0) in
-            subst (λ (z : Handle). LineSo login t n statement z (steps.Cancel n) o us w) (sym r.left)
-            (subst (λ (vs : List Use). LineSo login t n statement (Joined (not (is_connect (kind_of a.call))) (ended_by k a said) x) (steps.Cancel n) o vs w) (sym r.uses)
-            (subst (λ (z : Outcome). LineSo login t n statement (Joined (not (is_connect (kind_of a.call))) (ended_by k a said) x) (steps.Cancel n) z [] w) (sym r.outcome) (record {
+            let acts_so : act_of aim w.spot.status n w.spot.next (ground_at w) (steps.Cancel n) outcomes.Done 0 ≡ Cancels (after_cancel w.spot.next) = by_rows a.rows w (subst (λ q. Spotted t true q w.spot) kp tied.0) in
+            subst (λ (z : Handle). LineSo login t n aim statement z (steps.Cancel n) o us w) (sym r.left)
+            (subst (λ (vs : List Use). LineSo login t n aim statement (Joined (not (is_connect (kind_of a.call))) (ended_by k a said) x) (steps.Cancel n) o vs w) (sym r.uses)
+            (subst (λ (z : Outcome). LineSo login t n aim statement (Joined (not (is_connect (kind_of a.call))) (ended_by k a said) x) (steps.Cancel n) z [] w) (sym r.outcome) (record {
               act = Cancels (after_cancel w.spot.next);
               act_is = acts_so;
               right = (subst is_unanswered (sym here) refl, is_ended login t all k a said true h.0 w kp h.1 at so);
@@ -341,31 +342,31 @@ module _ (login : Login) (t : Tape) (all : AreCalls login (reading login t).call
             })));
       }
     where
-      by_rows : (rows : Option (List RowParts)) (w : Walk) → OpenAs t a rows w.spot → act_of w.spot.status n w.spot.next w.closed (steps.Cancel n) outcomes.Done 0 ≡ Cancels (after_cancel w.spot.next)
-      by_rows None w e = here_act status.Open w.spot.status n w.spot.next w.closed (steps.Cancel n) outcomes.Done 0 refl e refl
-      by_rows (Some rows) w (first, low, e, g) = here_act (status.Gathers first) w.spot.status n w.spot.next w.closed (steps.Cancel n) outcomes.Done 0 refl e refl
+      by_rows : (rows : Option (List RowParts)) (w : Walk) → OpenAs t a rows w.spot → act_of aim w.spot.status n w.spot.next (ground_at w) (steps.Cancel n) outcomes.Done 0 ≡ Cancels (after_cancel w.spot.next)
+      by_rows None w e = here_act aim status.Open w.spot.status n w.spot.next (ground_at w) (steps.Cancel n) outcomes.Done 0 refl e refl
+      by_rows (Some rows) w (first, low, e, g) = here_act aim (status.Gathers first) w.spot.status n w.spot.next (ground_at w) (steps.Cancel n) outcomes.Done 0 refl e refl
 
   cancels_with : (q : Option Asked) (k : Kept) (x : Looks) (made : Handle) (o : Outcome) (us : List Use) → k.pending ≡ q → connects_once (kept_calls k) ≡ true → HasTape t made → CancelsWith q login k x o us made
-      → StepSo login t n statement (Joined true k x) made (steps.Cancel n) o us
-  cancels_with None k x made o us e once has r = idle_so login t all n statement (steps.Cancel n) refl k x made o us e (λ closed next. refl) has r
+      → StepSo login t n aim statement (Joined true k x) made (steps.Cancel n) o us
+  cancels_with None k x made o us e once has r = idle_so login t all n aim statement (steps.Cancel n) refl k x made o us e (λ base next. refl) has r
   cancels_with (Some a) k x made o us e once has r = cancelled_so k a x made o us e once has r
 
-  dropped_so : (left : Option (List DialItem)) (made : Handle) (o : Outcome) (us : List Use) → IsDropped o us made → StepSo login t n statement (Dialing left) made (steps.Cancel n) o us
+  dropped_so : (left : Option (List DialItem)) (made : Handle) (o : Outcome) (us : List Use) → IsDropped o us made → StepSo login t n aim statement (Dialing left) made (steps.Cancel n) o us
   dropped_so left made o us r = record {
     back = tt;
     forth = λ w tied.
-        subst (λ (z : Handle). LineSo login t n statement z (steps.Cancel n) o us w) (sym r.left)
-        (subst (λ (vs : List Use). LineSo login t n statement Absent (steps.Cancel n) o vs w) (sym r.uses)
-        (subst (λ (z : Outcome). LineSo login t n statement Absent (steps.Cancel n) z [] w) (sym r.outcome) (record {
+        subst (λ (z : Handle). LineSo login t n aim statement z (steps.Cancel n) o us w) (sym r.left)
+        (subst (λ (vs : List Use). LineSo login t n aim statement Absent (steps.Cancel n) o vs w) (sym r.uses)
+        (subst (λ (z : Outcome). LineSo login t n aim statement Absent (steps.Cancel n) z [] w) (sym r.outcome) (record {
           act = Skips status.Absent;
-          act_is = here_act status.Dialing w.spot.status n w.spot.next w.closed (steps.Cancel n) outcomes.Done 0 refl tied.0 refl;
+          act_is = here_act aim status.Dialing w.spot.status n w.spot.next (ground_at w) (steps.Cancel n) outcomes.Done 0 refl tied.0 refl;
           right = tt;
           tied = (refl, tied.1);
         })));
   }
 
-  pub cancels_so : (h made : Handle) (o : Outcome) (us : List Use) → IsOnce h → HasTape t made → CancelsAt login h o us made → StepSo login t n statement h made (steps.Cancel n) o us
-  cancels_so Absent made o us once has r = absent_so login t all n statement (steps.Cancel n) refl made o us has r
+  pub cancels_so : (h made : Handle) (o : Outcome) (us : List Use) → IsOnce h → HasTape t made → CancelsAt login h o us made → StepSo login t n aim statement h made (steps.Cancel n) o us
+  cancels_so Absent made o us once has r = absent_so login t all n aim statement (steps.Cancel n) refl made o us has r
   cancels_so (Dialing left) made o us once has r = dropped_so left made o us r
-  cancels_so (Joined false k x) made o us once has r = gone_so login t all n statement (steps.Cancel n) refl k x made o us has r
+  cancels_so (Joined false k x) made o us once has r = gone_so login t all n aim statement (steps.Cancel n) refl k x made o us has r
   cancels_so (Joined true k x) made o us once has r = cancels_with k.pending k x made o us refl once has r

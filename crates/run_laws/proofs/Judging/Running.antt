@@ -8,6 +8,8 @@ use Rattle.my_reading.specs.declared.call.Call.TheVariants as calls
 use Rattle.my_reading.specs.Endings.{AreCalls}
 use Rattle.my_reading.specs.Reading.{reading}
 use Rattle.my_reading.specs.Tape.{Tape}
+use Rattle.my_script.specs.declared.aim.Aim.{Aim}
+use Rattle.my_script.specs.declared.aim.Aim.TheVariants as aims
 use Rattle.my_script.specs.declared.step.Step.{Step}
 use Rattle.my_script.specs.Streams.{target}
 use Rattle.my_script.specs.declared.step.Step.TheVariants as steps
@@ -16,24 +18,26 @@ use Rattle.my_script.specs.declared.transcript.Outcome.TheVariants as outcomes
 use Rattle.my_script.specs.declared.transcript.Use.{Use}
 use Rattle.my_acts.specs.declared.act.Act.{Act}
 use Rattle.my_acts.specs.declared.act.Act.TheVariants.{Skips}
+use Rattle.my_acts.specs.declared.act.Ground.{Ground}
 use Rattle.my_acts.specs.declared.act.Status.{Status}
 use Rattle.my_acts.specs.declared.act.Status.TheVariants as status
 use Rattle.my_acts.specs.Acts.{act_ahead, act_here, act_of, act_there, act_with, dialed, is_missing, is_unprepared, moved, moves_world, refused}
 use Rattle.my_client.specs.Kept.{Asked, nothing_kept}
 use Rattle.my_world.specs.World.{Plans}
 use Rattle.my_value.specs.RowParts.{RowParts}
-use Rattle.my_steps.specs.Grows.{At, Calls, CallsWhere, Dials, DialsNext, IsRefused, Misses, Moves, StepGrows}
+use Rattle.my_steps.specs.Grows.{At, Calls, Dials, DialsNext, IsRefused, ItemsAt, LetsGo, Misses, Moves, StepGrows, Where}
 use Rattle.my_steps.specs.Handle.{Handle, Absent, Dialing, Joined, at_number, put_at}
 use Rattle.run_laws.proofs.Connecting.{AreOnce, at_once}
 use Rattle.my_run_judge.specs.declared.walk.Spot.{Spot}
-use Rattle.my_run_judge.specs.Lines.{ActRight, after_act}
+use Rattle.my_run_judge.specs.Lines.{ActRight, after_act, ground_at}
 use Rattle.my_run_judge.specs.Walks.{Walk}
 use Rattle.run_laws.proofs.Judging.Going.{shown_tape}
 use Rattle.run_laws.proofs.Judging.Tying.{AtWalk}
 use Rattle.run_laws.proofs.Judging.Gathering.{HasTape}
 use Rattle.run_laws.proofs.Judging.Stepping.{LineSo, OpenAs, Spotted, StepSo, Tied, is_there, same_number}
-use Rattle.run_laws.proofs.Judging.Calling.{Asks, asks_begin, asks_close, asks_commit, asks_drop, asks_execute, asks_forget, asks_item, asks_next, asks_ping, asks_prepare, asks_query, asks_quit, asks_reset, asks_user, asks_rollback, calls_so, collects_so, tells_so}
-use Rattle.run_laws.proofs.Judging.Streaming.{lets_go_so, streams_so}
+use Rattle.run_laws.proofs.Judging.Calling.{Asks, asks_begin, asks_close, asks_commit, asks_drop, asks_execute, asks_forget, asks_ping, asks_prepare, asks_query, asks_quit, asks_reset, asks_user, asks_rollback, calls_so, tells_so}
+use Rattle.run_laws.proofs.Judging.Reading.{reads_so}
+use Rattle.run_laws.proofs.Judging.Streaming.{items_so, lets_go_so}
 use Rattle.run_laws.proofs.Judging.Failing.{IsLive}
 use Rattle.run_laws.proofs.Judging.Resuming.{cancels_so, dials_so, goes_on_so}
 
@@ -103,13 +107,13 @@ tied_there login t Absent w e = ap is_there e.0
 tied_there login t (Dialing left) w e = ap is_there e.0
 tied_there login t (Joined there k x) w e = spotted_there t there k.pending w.spot e.0
 
-skips_there : (s : Status) (n next : ℕ) (closed : Bool) (step : Step) (o : Outcome) (uses : ℕ) → is_there s ≡ true → act_there s n next closed step o uses (target step) ≡ Skips s → act_of s n next closed step o uses ≡ Skips s
-skips_there (status.Ahead k) n next closed step o uses e f = cc
-skips_there status.Absent n next closed step o uses e f = f
-skips_there status.Dialing n next closed step o uses e f = f
-skips_there status.Idle n next closed step o uses e f = f
-skips_there status.Open n next closed step o uses e f = f
-skips_there (status.Gathers first) n next closed step o uses e f = f
+skips_there : (aim : Aim) (s : Status) (n next : ℕ) (base : Ground) (step : Step) (o : Outcome) (uses : ℕ) → is_there s ≡ true → act_there aim s n next base step o uses (target step) ≡ Skips s → act_of aim s n next base step o uses ≡ Skips s
+skips_there aim (status.Ahead k) n next base step o uses e f = cc
+skips_there aim status.Absent n next base step o uses e f = f
+skips_there aim status.Dialing n next base step o uses e f = f
+skips_there aim status.Idle n next base step o uses e f = f
+skips_there aim status.Open n next base step o uses e f = f
+skips_there aim (status.Gathers first) n next base step o uses e f = f
 
 -- of both truth values
 either : (f : Bool → Bool) → f true ≡ false → f false ≡ false → (b : Bool) → f b ≡ false
@@ -121,16 +125,16 @@ pub record Plain (n : ℕ) (there prepared : Bool) (step : Step) : Type 0 where
   pub beside : is_missing n there step ≡ false
   pub statements : is_unprepared n prepared step ≡ false
 
-abbrev acted : Bool → Bool → Bool → Status → ℕ → ℕ → Bool → Step → Outcome → ℕ → Act
-acted moves missing unprepared s n next closed step o uses =
-    if moves then moved s o uses else if missing then refused s o uses else if unprepared then refused s o uses else act_of s n next closed step o uses
+abbrev acted : Aim → Bool → Bool → Bool → Status → ℕ → ℕ → Ground → Step → Outcome → ℕ → Act
+acted aim moves missing unprepared s n next base step o uses =
+    if moves then moved s o uses else if missing then refused s o uses else if unprepared then refused s o uses else act_of aim s n next base step o uses
 
-other_act : (n : ℕ) (there prepared : Bool) (step : Step) → moves_world step ≡ false → Plain n there prepared step → (s : Status) (next : ℕ) (closed : Bool) (o : Outcome) (uses : ℕ)
-    → act_with there prepared s n next closed step o uses ≡ act_of s n next closed step o uses
-other_act n there prepared step still plain s next closed o uses =
-    ap (λ b. acted b (is_missing n there step) (is_unprepared n prepared step) s n next closed step o uses) still
-    ∙ ap (λ b. acted false b (is_unprepared n prepared step) s n next closed step o uses) plain.beside
-    ∙ ap (λ b. acted false false b s n next closed step o uses) plain.statements
+other_act : (n : ℕ) (there prepared : Bool) (aim : Aim) (step : Step) → moves_world step ≡ false → Plain n there prepared step → (s : Status) (next : ℕ) (base : Ground) (o : Outcome) (uses : ℕ)
+    → act_with there prepared aim s n next base step o uses ≡ act_of aim s n next base step o uses
+other_act n there prepared aim step still plain s next base o uses =
+    ap (λ b. acted aim b (is_missing n there step) (is_unprepared n prepared step) s n next base step o uses) still
+    ∙ ap (λ b. acted aim false b (is_unprepared n prepared step) s n next base step o uses) plain.beside
+    ∙ ap (λ b. acted aim false false b s n next base step o uses) plain.statements
 
 always : (n : ℕ) (there prepared : Bool) (step : Step) → is_missing n true step ≡ false → is_missing n false step ≡ false → is_unprepared n true step ≡ false → is_unprepared n false step ≡ false → Plain n there prepared step
 always n there prepared step a b c d = record { beside = either (λ z. is_missing n z step) a b there; statements = either (λ z. is_unprepared n z step) c d prepared }
@@ -163,51 +167,51 @@ names_one (steps.Advance by) m e = cc
 names_one (steps.Random word) m e = cc
 
 -- a line is right at a number, and the walk is there after it
-pub record RunsLine (login : Login) (t : Tape) (n : ℕ) (there : Bool) (statement : Option StatementView) (ts : List Handle) (step : Step) (o : Outcome) (us : List Use) (w : Walk) : Type 0 where
+pub record RunsLine (login : Login) (t : Tape) (n : ℕ) (there : Bool) (aim : Aim) (statement : Option StatementView) (ts : List Handle) (step : Step) (o : Outcome) (us : List Use) (w : Walk) : Type 0 where
   pub act : Act
-  pub act_is : act_with there (is_some statement) w.spot.status n w.spot.next w.closed step o (length us) ≡ act
+  pub act_is : act_with there (is_some statement) aim w.spot.status n w.spot.next (ground_at w) step o (length us) ≡ act
   pub right : ActRight login n (shown_tape t) statement w step o us act
   pub placed : Placed login t n ts (after_act login (shown_tape t) w o us act)
 
-pub record RunsSo (login : Login) (t : Tape) (n : ℕ) (there : Bool) (statement : Option StatementView) (hs ts : List Handle) (step : Step) (o : Outcome) (us : List Use) : Type 0 where
+pub record RunsSo (login : Login) (t : Tape) (n : ℕ) (there : Bool) (aim : Aim) (statement : Option StatementView) (hs ts : List Handle) (step : Step) (o : Outcome) (us : List Use) : Type 0 where
   pub back : HasTape t (at_number hs n)
-  pub forth : (w : Walk) → Placed login t n hs w → RunsLine login t n there statement ts step o us w
+  pub forth : (w : Walk) → Placed login t n hs w → RunsLine login t n there aim statement ts step o us w
 
 module _ (login : Login) (t : Tape) (all : AreCalls login (reading login t).calls) (n : ℕ) where
   -- a line that skips this number
-  skips_line : (there : Bool) (statement : Option StatementView) (hs ts : List Handle) (step : Step) (o : Outcome) (us : List Use) → moves_world step ≡ false → Plain n there (is_some statement) step → n < length hs → n < length ts → at_number ts n ≡ at_number hs n
-      → ((s : Status) (next : ℕ) (closed : Bool) → act_there s n next closed step o (length us) (target step) ≡ Skips s) → HasTape t (at_number ts n) → RunsSo login t n there statement hs ts step o us
-  skips_line there statement hs ts step o us still plain low lower same skips has = record {
+  skips_line : (there : Bool) (aim : Aim) (statement : Option StatementView) (hs ts : List Handle) (step : Step) (o : Outcome) (us : List Use) → moves_world step ≡ false → Plain n there (is_some statement) step → n < length hs → n < length ts → at_number ts n ≡ at_number hs n
+      → ((s : Status) (next : ℕ) (base : Ground) → act_there aim s n next base step o (length us) (target step) ≡ Skips s) → HasTape t (at_number ts n) → RunsSo login t n there aim statement hs ts step o us
+  skips_line there aim statement hs ts step o us still plain low lower same skips has = record {
     back = subst (HasTape t) same has;
     forth = λ w placed.
         let tied = placed.there low in
         record {
           act = Skips w.spot.status;
-          act_is = other_act n there (is_some statement) step still plain w.spot.status w.spot.next w.closed o (length us) ∙ skips_there w.spot.status n w.spot.next w.closed step o (length us) (tied_there login t (at_number hs n) w tied) (skips w.spot.status w.spot.next w.closed);
+          act_is = other_act n there (is_some statement) aim step still plain w.spot.status w.spot.next (ground_at w) o (length us) ∙ skips_there aim w.spot.status n w.spot.next (ground_at w) step o (length us) (tied_there login t (at_number hs n) w tied) (skips w.spot.status w.spot.next (ground_at w));
           right = tt;
           placed = record { there = λ _. subst (λ (h : Handle). Tied login t h w) (sym same) tied; ahead = λ high. absurd (omega (arith, high, lower)) };
         };
   }
 
   -- a line before this number is dialed
-  ahead_line : (there : Bool) (statement : Option StatementView) (hs ts : List Handle) (step : Step) (o : Outcome) (us : List Use) → moves_world step ≡ false → Plain n there (is_some statement) step → length hs ≤ n → length ts ≤ n
-      → act_ahead (n - length hs) n o (length us) (target step) ≡ Skips (status.Ahead (n - length ts)) → RunsSo login t n there statement hs ts step o us
-  ahead_line there statement hs ts step o us still plain high higher skips = record {
+  ahead_line : (there : Bool) (aim : Aim) (statement : Option StatementView) (hs ts : List Handle) (step : Step) (o : Outcome) (us : List Use) → moves_world step ≡ false → Plain n there (is_some statement) step → length hs ≤ n → length ts ≤ n
+      → act_ahead (n - length hs) n o (length us) (target step) ≡ Skips (status.Ahead (n - length ts)) → RunsSo login t n there aim statement hs ts step o us
+  ahead_line there aim statement hs ts step o us still plain high higher skips = record {
     back = subst (HasTape t) (sym (past hs n high)) tt;
     forth = λ w placed.
         let ahead = placed.ahead high in
         record {
           act = Skips (status.Ahead (n - length ts));
-          act_is = other_act n there (is_some statement) step still plain w.spot.status w.spot.next w.closed o (length us) ∙ ap (λ s. act_of s n w.spot.next w.closed step o (length us)) ahead.0 ∙ skips;
+          act_is = other_act n there (is_some statement) aim step still plain w.spot.status w.spot.next (ground_at w) o (length us) ∙ ap (λ s. act_of aim s n w.spot.next (ground_at w) step o (length us)) ahead.0 ∙ skips;
           right = tt;
           placed = record { there = λ low. absurd (omega (arith, low, higher)); ahead = λ _. (refl, ahead.1) };
         };
   }
 
   -- a step that names a number
-  module _ (there : Bool) (statement : Option StatementView) (m : ℕ) (R : Handle → Outcome → List Use → Handle → Type 0) (step : Step) (plain : Plain n there (is_some statement) step) (named : target step ≡ Some m) (absent : (o : Outcome) (us : List Use) (made : Handle) → R Absent o us made → IsRefused Absent o us made) where
-    named_line : (hs ts : List Handle) (o : Outcome) (us : List Use) → ((made : Handle) → HasTape t made → R (at_number hs m) o us made → m ≡ n → StepSo login t n statement (at_number hs m) made step o us)
-        → At m R hs o us ts → HasTape t (at_number ts n) → RunsSo login t n there statement hs ts step o us
+  module _ (there : Bool) (aim : Aim) (statement : Option StatementView) (m : ℕ) (R : Handle → Outcome → List Use → Handle → Type 0) (step : Step) (plain : Plain n there (is_some statement) step) (named : target step ≡ Some m) (absent : (o : Outcome) (us : List Use) (made : Handle) → R Absent o us made → IsRefused Absent o us made) where
+    named_line : (hs ts : List Handle) (o : Outcome) (us : List Use) → ((made : Handle) → HasTape t made → R (at_number hs m) o us made → m ≡ n → StepSo login t n aim statement (at_number hs m) made step o us)
+        → At m R hs o us ts → HasTape t (at_number ts n) → RunsSo login t n there aim statement hs ts step o us
     named_line hs ts o us here r has = by_number (less_or n (length hs)) (same_or m n)
       where
         still : moves_world step ≡ false
@@ -216,11 +220,11 @@ module _ (login : Login) (t : Tape) (all : AreCalls login (reading login t).call
         same_length : length ts ≡ length hs
         same_length = ap length r.others ∙ put_length m r.made hs
 
-        elsewhere : n < length hs → ((m == n) ≡ false) → m ≢ n → RunsSo login t n there statement hs ts step o us
-        elsewhere low e f = skips_line there statement hs ts step o us still plain low (subst (λ z. n < z) (sym same_length) low) (ap (λ (xs : List Handle). at_number xs n) r.others ∙ put_there m n r.made hs f)
-            (λ s next closed. ap (act_there s n next closed step o (length us)) named ∙ ap (λ b. if b then act_here s n next closed step o (length us) else Skips s) e) has
+        elsewhere : n < length hs → ((m == n) ≡ false) → m ≢ n → RunsSo login t n there aim statement hs ts step o us
+        elsewhere low e f = skips_line there aim statement hs ts step o us still plain low (subst (λ z. n < z) (sym same_length) low) (ap (λ (xs : List Handle). at_number xs n) r.others ∙ put_there m n r.made hs f)
+            (λ s next base. ap (act_there aim s n next base step o (length us)) named ∙ ap (λ b. if b then act_here aim s n next base step o (length us) else Skips s) e) has
 
-        at_it : n < length hs → m ≡ n → RunsSo login t n there statement hs ts step o us
+        at_it : n < length hs → m ≡ n → RunsSo login t n there aim statement hs ts step o us
         at_it low e =
             let low_m : m < length hs = subst (λ z. z < length hs) (sym e) low in
             let made_is : at_number ts n ≡ r.made = ap (at_number ts) (sym e) ∙ ap (λ (xs : List Handle). at_number xs m) r.others ∙ put_here m r.made hs low_m in
@@ -232,14 +236,14 @@ module _ (login : Login) (t : Tape) (all : AreCalls login (reading login t).call
                   let l = s.forth w (subst (λ (h : Handle). Tied login t h w) (sym was) (placed.there low)) in
                   record {
                     act = l.act;
-                    act_is = other_act n there (is_some statement) step still plain w.spot.status w.spot.next w.closed o (length us) ∙ l.act_is;
+                    act_is = other_act n there (is_some statement) aim step still plain w.spot.status w.spot.next (ground_at w) o (length us) ∙ l.act_is;
                     right = l.right;
                     placed = record { there = λ _. subst (λ (h : Handle). Tied login t h (after_act login (shown_tape t) w o us l.act)) (sym made_is) l.tied; ahead = λ high. absurd (omega (arith, high, low, same_length)) };
                   };
             }
 
-        not_yet : length hs ≤ n → RunsSo login t n there statement hs ts step o us
-        not_yet high = ahead_line there statement hs ts step o us still plain high (subst (λ z. z ≤ n) (sym same_length) high) (by_target (less_or m (length hs)) ∙ ap (λ z. Skips (status.Ahead (n - z))) (sym same_length))
+        not_yet : length hs ≤ n → RunsSo login t n there aim statement hs ts step o us
+        not_yet high = ahead_line there aim statement hs ts step o us still plain high (subst (λ z. z ≤ n) (sym same_length) high) (by_target (less_or m (length hs)) ∙ ap (λ z. Skips (status.Ahead (n - z))) (sym same_length))
           where
             back_to : n - (n - length hs) ≡ length hs
             back_to = omega arith
@@ -257,14 +261,14 @@ module _ (login : Login) (t : Tape) (all : AreCalls login (reading login t).call
                 ∙ ap (λ (z : Outcome). refused (status.Ahead (n - length hs)) z (length us)) no.outcome
                 ∙ ap (λ (vs : List Use). refused (status.Ahead (n - length hs)) outcomes.NoSuchHandle (length vs)) no.uses
 
-        by_number : ((nat_lt n (length hs) ≡ true) × (n < length hs)) ⊎ ((nat_lt n (length hs) ≡ false) × (length hs ≤ n)) → (m ≡ n) ⊎ (((m == n) ≡ false) × (m ≢ n)) → RunsSo login t n there statement hs ts step o us
+        by_number : ((nat_lt n (length hs) ≡ true) × (n < length hs)) ⊎ ((nat_lt n (length hs) ≡ false) × (length hs ≤ n)) → (m ≡ n) ⊎ (((m == n) ≡ false) × (m ≢ n)) → RunsSo login t n there aim statement hs ts step o us
         by_number (inl low) (inl e) = at_it low.1 e
         by_number (inl low) (inr e) = elsewhere low.1 e.0 e.1
         by_number (inr high) e = not_yet high.1
 
   -- a step that dials
-  conn_line : (there : Bool) (statement : Option StatementView) (plans : Plans) (hs ts : List Handle) (o : Outcome) (us : List Use) → DialsNext login plans hs o us ts → HasTape t (at_number ts n) → RunsSo login t n there statement hs ts steps.Conn o us
-  conn_line there statement plans hs ts o us r has = by_number (less_or n (length hs)) (same_or (length hs) n)
+  conn_line : (there : Bool) (aim : Aim) (statement : Option StatementView) (plans : Plans) (hs ts : List Handle) (o : Outcome) (us : List Use) → DialsNext login plans hs o us ts → HasTape t (at_number ts n) → RunsSo login t n there aim statement hs ts steps.Conn o us
+  conn_line there aim statement plans hs ts o us r has = by_number (less_or n (length hs)) (same_or (length hs) n)
     where
       plain : Plain n there (is_some statement) steps.Conn
       plain = always n there (is_some statement) steps.Conn refl refl refl refl
@@ -272,7 +276,7 @@ module _ (login : Login) (t : Tape) (all : AreCalls login (reading login t).call
       grown : length ts ≡ length hs + 1
       grown = ap length r.others ∙ length-append hs (r.made ∷ [])
 
-      at_it : length hs ≡ n → RunsSo login t n there statement hs ts steps.Conn o us
+      at_it : length hs ≡ n → RunsSo login t n there aim statement hs ts steps.Conn o us
       at_it e =
           let none : n - length hs ≡ zero = omega arith in
           let made_is : at_number ts n ≡ r.made = ap (at_number ts) (sym e) ∙ ap (λ (xs : List Handle). at_number xs (length hs)) r.others ∙ push_last hs r.made in
@@ -282,20 +286,20 @@ module _ (login : Login) (t : Tape) (all : AreCalls login (reading login t).call
             back = subst (HasTape t) (sym (past hs n high)) tt;
             forth = λ w placed.
                 let ahead = placed.ahead high in
-                let l : LineSo login t n statement r.made steps.Conn o us w = dials_so login t all n statement steps.Conn (plans.reads (length hs)) (plans.writes (length hs)) (plans.dials (length hs)) r.made o us (subst (HasTape t) made_is has) d w ahead.1
-                (λ z uses. ap (λ s. act_of s n w.spot.next w.closed steps.Conn z uses) (ahead.0 ∙ ap status.Ahead none)) in
+                let l : LineSo login t n aim statement r.made steps.Conn o us w = dials_so login t all n aim statement steps.Conn (plans.reads (length hs)) (plans.writes (length hs)) (plans.dials (length hs)) r.made o us (subst (HasTape t) made_is has) d w ahead.1
+                (λ z uses. ap (λ s. act_of aim s n w.spot.next (ground_at w) steps.Conn z uses) (ahead.0 ∙ ap status.Ahead none)) in
                 record {
                   act = l.act;
-                  act_is = other_act n there (is_some statement) steps.Conn refl plain w.spot.status w.spot.next w.closed o (length us) ∙ l.act_is;
+                  act_is = other_act n there (is_some statement) aim steps.Conn refl plain w.spot.status w.spot.next (ground_at w) o (length us) ∙ l.act_is;
                   right = l.right;
                   placed = record { there = λ _. subst (λ (h : Handle). Tied login t h (after_act login (shown_tape t) w o us l.act)) (sym made_is) l.tied; ahead = λ up. absurd (omega (arith, up, grown, e)) };
                 };
           }
 
-      by_number : ((nat_lt n (length hs) ≡ true) × (n < length hs)) ⊎ ((nat_lt n (length hs) ≡ false) × (length hs ≤ n)) → (length hs ≡ n) ⊎ (((length hs == n) ≡ false) × (length hs ≢ n)) → RunsSo login t n there statement hs ts steps.Conn o us
+      by_number : ((nat_lt n (length hs) ≡ true) × (n < length hs)) ⊎ ((nat_lt n (length hs) ≡ false) × (length hs ≤ n)) → (length hs ≡ n) ⊎ (((length hs == n) ≡ false) × (length hs ≢ n)) → RunsSo login t n there aim statement hs ts steps.Conn o us
       by_number (inl low) e =
           let lower : n < length ts = omega (arith, low.1, grown) in
-          skips_line there statement hs ts steps.Conn o us refl plain low.1 lower (ap (λ (xs : List Handle). at_number xs n) r.others ∙ push_before hs r.made n low.1) (λ s next closed. refl) has
+          skips_line there aim statement hs ts steps.Conn o us refl plain low.1 lower (ap (λ (xs : List Handle). at_number xs n) r.others ∙ push_before hs r.made n low.1) (λ s next base. refl) has
       by_number (inr high) (inl e) = at_it e
       by_number (inr high) (inr e) =
           let other = e.1 in
@@ -303,7 +307,7 @@ module _ (login : Login) (t : Tape) (all : AreCalls login (reading login t).call
           let higher : length ts ≤ n = omega (arith, above, grown) in
           let some : (n - length hs) == 0 ≡ false = grind (arith, nat_tests) in
           let less : (n - length hs) - 1 ≡ n - length ts = omega (arith, grown) in
-          ahead_line there statement hs ts steps.Conn o us refl plain high.1 higher (ap (λ b. if b then dialed n o (length us) else Skips (status.Ahead ((n - length hs) - 1))) some ∙ ap (λ z. Skips (status.Ahead z)) less)
+          ahead_line there aim statement hs ts steps.Conn o us refl plain high.1 higher (ap (λ b. if b then dialed n o (length us) else Skips (status.Ahead ((n - length hs) - 1))) some ∙ ap (λ z. Skips (status.Ahead z)) less)
 
   -- a step of a stream or a transaction
   found_there : (f : Bool → Bool) (m : ℕ) → f true ≡ false → f false ≡ (m == n) → (there : Bool) → ((let q : Option ℕ = Some m in q) ≡ Some n → true ≡ there) → f there ≡ false
@@ -319,22 +323,22 @@ module _ (login : Login) (t : Tape) (all : AreCalls login (reading login t).call
   put_back zero (h ∷ hs) = refl
   put_back (suc m) (h ∷ hs) = ap (λ xs. h ∷ xs) (put_back m hs)
 
-  missed_line : (there : Bool) (statement : Option StatementView) (m : ℕ) (step : Step) → target step ≡ Some m → ((m == n) ≡ false → Plain n there (is_some statement) step)
-      → (m ≡ n → (s : Status) (next : ℕ) (closed : Bool) (o : Outcome) (uses : ℕ) → act_with there (is_some statement) s n next closed step o uses ≡ refused s o uses) → (hs ts : List Handle) (o : Outcome) (us : List Use)
-      → At m Misses hs o us ts → HasTape t (at_number ts n) → RunsSo login t n there statement hs ts step o us
-  missed_line there statement m step named plain misses hs ts o us r has = by_same_number (same_or m n)
+  missed_line : (there : Bool) (aim : Aim) (statement : Option StatementView) (m : ℕ) (step : Step) → target step ≡ Some m → ((m == n) ≡ false → Plain n there (is_some statement) step)
+      → (m ≡ n → (s : Status) (next : ℕ) (base : Ground) (o : Outcome) (uses : ℕ) → act_with there (is_some statement) aim s n next base step o uses ≡ refused s o uses) → (hs ts : List Handle) (o : Outcome) (us : List Use)
+      → At m Misses hs o us ts → HasTape t (at_number ts n) → RunsSo login t n there aim statement hs ts step o us
+  missed_line there aim statement m step named plain misses hs ts o us r has = by_same_number (same_or m n)
     where
       unmoved : ts ≡ hs
       unmoved = r.others ∙ ap (λ (h : Handle). put_at m h hs) r.does.same ∙ put_back m hs
 
-      by_same_number : (m ≡ n) ⊎ (((m == n) ≡ false) × (m ≢ n)) → RunsSo login t n there statement hs ts step o us
-      by_same_number (inr other) = named_line there statement m Misses step (plain other.0) named (λ z vs made e. e) hs ts o us (λ made h d e. absurd (other.1 e)) r has
+      by_same_number : (m ≡ n) ⊎ (((m == n) ≡ false) × (m ≢ n)) → RunsSo login t n there aim statement hs ts step o us
+      by_same_number (inr other) = named_line there aim statement m Misses step (plain other.0) named (λ z vs made e. e) hs ts o us (λ made h d e. absurd (other.1 e)) r has
       by_same_number (inl is) = record {
         back = subst (λ (xs : List Handle). HasTape t (at_number xs n)) unmoved has;
         forth = λ w placed. record {
           act = Skips w.spot.status;
           act_is =
-              misses is w.spot.status w.spot.next w.closed o (length us)
+              misses is w.spot.status w.spot.next (ground_at w) o (length us)
               ∙ ap (λ (z : Outcome). refused w.spot.status z (length us)) r.does.outcome
               ∙ ap (λ (vs : List Use). refused w.spot.status outcomes.NoSuchHandle (length vs)) r.does.uses;
           right = tt;
@@ -343,30 +347,30 @@ module _ (login : Login) (t : Tape) (all : AreCalls login (reading login t).call
       }
 
   -- of a stream or a transaction
-  not_found : (here prepared : Bool) (m : ℕ) (step : Step) → target step ≡ Some m → is_missing n false step ≡ (m == n) → (target step ≡ Some n → false ≡ here)
-      → m ≡ n → (s : Status) (next : ℕ) (closed : Bool) (o : Outcome) (uses : ℕ) → act_with here prepared s n next closed step o uses ≡ refused s o uses
-  not_found here prepared m step named second same is s next closed o uses =
+  not_found : (here prepared : Bool) (aim : Aim) (m : ℕ) (step : Step) → target step ≡ Some m → is_missing n false step ≡ (m == n) → (target step ≡ Some n → false ≡ here)
+      → m ≡ n → (s : Status) (next : ℕ) (base : Ground) (o : Outcome) (uses : ℕ) → act_with here prepared aim s n next base step o uses ≡ refused s o uses
+  not_found here prepared aim m step named second same is s next base o uses =
       let missing : is_missing n here step ≡ true = ap (λ b. is_missing n b step) (sym (same (named ∙ ap Some is))) ∙ second ∙ ap (λ z. z == n) is ∙ same_number n in
-      ap (λ b. acted b (is_missing n here step) (is_unprepared n prepared step) s n next closed step o uses) (names_one step m named)
-      ∙ ap (λ b. acted false b (is_unprepared n prepared step) s n next closed step o uses) missing
+      ap (λ b. acted aim b (is_missing n here step) (is_unprepared n prepared step) s n next base step o uses) (names_one step m named)
+      ∙ ap (λ b. acted aim false b (is_unprepared n prepared step) s n next base step o uses) missing
 
   -- of a statement
-  unprepared : (there : Bool) (m : ℕ) (step : Step) → target step ≡ Some m → ((b : Bool) → is_missing n b step ≡ false) → is_unprepared n false step ≡ (m == n)
-      → m ≡ n → (s : Status) (next : ℕ) (closed : Bool) (o : Outcome) (uses : ℕ) → act_with there false s n next closed step o uses ≡ refused s o uses
-  unprepared there m step named plain second is s next closed o uses =
+  unprepared : (there : Bool) (aim : Aim) (m : ℕ) (step : Step) → target step ≡ Some m → ((b : Bool) → is_missing n b step ≡ false) → is_unprepared n false step ≡ (m == n)
+      → m ≡ n → (s : Status) (next : ℕ) (base : Ground) (o : Outcome) (uses : ℕ) → act_with there false aim s n next base step o uses ≡ refused s o uses
+  unprepared there aim m step named plain second is s next base o uses =
       let here : is_unprepared n false step ≡ true = second ∙ ap (λ z. z == n) is ∙ same_number n in
-      ap (λ b. acted b (is_missing n there step) (is_unprepared n false step) s n next closed step o uses) (names_one step m named)
-      ∙ ap (λ b. acted false b (is_unprepared n false step) s n next closed step o uses) (plain there)
-      ∙ ap (λ b. acted false false b s n next closed step o uses) here
+      ap (λ b. acted aim b (is_missing n there step) (is_unprepared n false step) s n next base step o uses) (names_one step m named)
+      ∙ ap (λ b. acted aim false b (is_unprepared n false step) s n next base step o uses) (plain there)
+      ∙ ap (λ b. acted aim false false b s n next base step o uses) here
 
   -- a step that moves the world
-  moved_line : (there : Bool) (statement : Option StatementView) (hs ts : List Handle) (step : Step) (o : Outcome) (us : List Use) → moves_world step ≡ true → Moves hs o us ts → HasTape t (at_number ts n) → RunsSo login t n there statement hs ts step o us
-  moved_line there statement hs ts step o us moving r has = record {
+  moved_line : (there : Bool) (aim : Aim) (statement : Option StatementView) (hs ts : List Handle) (step : Step) (o : Outcome) (us : List Use) → moves_world step ≡ true → Moves hs o us ts → HasTape t (at_number ts n) → RunsSo login t n there aim statement hs ts step o us
+  moved_line there aim statement hs ts step o us moving r has = record {
     back = subst (λ (xs : List Handle). HasTape t (at_number xs n)) r.same has;
     forth = λ w placed. record {
       act = Skips w.spot.status;
       act_is =
-          ap (λ b. acted b (is_missing n there step) (is_unprepared n (is_some statement) step) w.spot.status n w.spot.next w.closed step o (length us)) moving
+          ap (λ b. acted aim b (is_missing n there step) (is_unprepared n (is_some statement) step) w.spot.status n w.spot.next (ground_at w) step o (length us)) moving
           ∙ ap (λ (z : Outcome). moved w.spot.status z (length us)) r.outcome
           ∙ ap (λ (vs : List Use). moved w.spot.status outcomes.Done (length vs)) r.uses;
       right = tt;
@@ -375,60 +379,65 @@ module _ (login : Login) (t : Tape) (all : AreCalls login (reading login t).call
   }
 
   -- a step that begins a call at its number
-  asked_line : (found : Bool) (statement : Option StatementView) (m : ℕ) (step : Step) (call : Call) → Asks m statement step call → Plain n found (is_some statement) step → (hs ts : List Handle) (o : Outcome) (us : List Use)
-      → At m (Calls login m call) hs o us ts → HasTape t (at_number ts n) → RunsSo login t n found statement hs ts step o us
-  asked_line found statement m step call w plain hs ts o us r has = named_line found statement m _ step plain w.named (λ z vs made e. e) hs ts o us
-      (λ made h d e. subst (λ z. StepSo login t z statement (at_number hs m) made step o us) e (calls_so login t all m statement step call w (at_number hs m) made o us h d)) r has
+  asked_line : (found : Bool) (aim : Aim) (statement : Option StatementView) (m : ℕ) (step : Step) (call : Call) → Asks m statement step call → Plain n found (is_some statement) step → (hs ts : List Handle) (o : Outcome) (us : List Use)
+      → At m (Calls login m call) hs o us ts → HasTape t (at_number ts n) → RunsSo login t n found aim statement hs ts step o us
+  asked_line found aim statement m step call w plain hs ts o us r has = named_line found aim statement m _ step plain w.named (λ z vs made e. e) hs ts o us
+      (λ made h d e. subst (λ z. StepSo login t z aim statement (at_number hs m) made step o us) e (calls_so login t all m aim statement step call w (at_number hs m) made o us h d)) r has
 
   -- one that needs its stream or its transaction
-  where_found : (here found : Bool) (statement : Option StatementView) (m : ℕ) (step : Step) (call : Call) → Asks m statement step call → is_missing n true step ≡ false → is_missing n false step ≡ (m == n) → ((b : Bool) → is_unprepared n b step ≡ false) → (target step ≡ Some n → found ≡ here)
-      → (hs ts : List Handle) (o : Outcome) (us : List Use) → At m (CallsWhere found login m call) hs o us ts → HasTape t (at_number ts n) → RunsSo login t n here statement hs ts step o us
-  where_found here true statement m step call w one other all same hs ts o us r has =
-      asked_line here statement m step call w (record { beside = found_there (λ b. is_missing n b step) m one other here (λ e. same (w.named ∙ e)); statements = all (is_some statement) }) hs ts o us r has
-  where_found here false statement m step call w one other all same hs ts o us r has = missed_line here statement m step w.named
+  found_line : (here found : Bool) (aim : Aim) (statement : Option StatementView) (m : ℕ) (R : Handle → Outcome → List Use → Handle → Type 0) (step : Step) → target step ≡ Some m → ((z : Outcome) (vs : List Use) (made : Handle) → R Absent z vs made → IsRefused Absent z vs made)
+      → is_missing n true step ≡ false → is_missing n false step ≡ (m == n) → ((b : Bool) → is_unprepared n b step ≡ false) → (target step ≡ Some n → found ≡ here)
+      → (hs ts : List Handle) (o : Outcome) (us : List Use) → ((made : Handle) → HasTape t made → R (at_number hs m) o us made → m ≡ n → StepSo login t n aim statement (at_number hs m) made step o us)
+      → At m (Where found R) hs o us ts → HasTape t (at_number ts n) → RunsSo login t n here aim statement hs ts step o us
+  found_line here true aim statement m R step named absent one other all same hs ts o us so r has = named_line here aim statement m R step (record { beside = found_there (λ b. is_missing n b step) m one other here (λ e. same (named ∙ e)); statements = all (is_some statement) }) named absent hs ts o us so r has
+  found_line here false aim statement m R step named absent one other all same hs ts o us so r has = missed_line here aim statement m step named
       (λ e. record { beside = either (λ b. is_missing n b step) one (other ∙ e) here; statements = all (is_some statement) })
-      (not_found here (is_some statement) m step w.named other same) hs ts o us r has
+      (not_found here (is_some statement) aim m step named other same) hs ts o us r has
+
+  where_found : (here found : Bool) (aim : Aim) (statement : Option StatementView) (m : ℕ) (step : Step) (call : Call) → Asks m statement step call → is_missing n true step ≡ false → is_missing n false step ≡ (m == n) → ((b : Bool) → is_unprepared n b step ≡ false) → (target step ≡ Some n → found ≡ here)
+      → (hs ts : List Handle) (o : Outcome) (us : List Use) → At m (Where found (Calls login m call)) hs o us ts → HasTape t (at_number ts n) → RunsSo login t n here aim statement hs ts step o us
+  where_found here found aim statement m step call w one other each same hs ts o us r has = found_line here found aim statement m (Calls login m call) step w.named (λ z vs made e. e) one other each same hs ts o us
+      (λ made h d e. subst (λ z. StepSo login t z aim statement (at_number hs m) made step o us) e (calls_so login t all m aim statement step call w (at_number hs m) made o us h d)) r has
 
   -- one that needs the statement that it names, which isn't there
-  unprepared_line : (found : Bool) (m : ℕ) (step : Step) → target step ≡ Some m → ((b : Bool) → is_missing n b step ≡ false) → is_unprepared n false step ≡ (m == n) → (hs ts : List Handle) (o : Outcome) (us : List Use)
-      → At m Misses hs o us ts → HasTape t (at_number ts n) → RunsSo login t n found None hs ts step o us
-  unprepared_line found m step named plain second hs ts o us r has = missed_line found None m step named (λ e. record { beside = plain found; statements = second ∙ e }) (unprepared found m step named plain second) hs ts o us r has
+  unprepared_line : (found : Bool) (aim : Aim) (m : ℕ) (step : Step) → target step ≡ Some m → ((b : Bool) → is_missing n b step ≡ false) → is_unprepared n false step ≡ (m == n) → (hs ts : List Handle) (o : Outcome) (us : List Use)
+      → At m Misses hs o us ts → HasTape t (at_number ts n) → RunsSo login t n found aim None hs ts step o us
+  unprepared_line found aim m step named plain second hs ts o us r has = missed_line found aim None m step named (λ e. record { beside = plain found; statements = second ∙ e }) (unprepared found aim m step named plain second) hs ts o us r has
 
   -- each step
-  pub line_so : (here found : Bool) (statement : Option StatementView) (plans : Plans) (hs ts : List Handle) (step : Step) (o : Outcome) (us : List Use) → (target step ≡ Some n → found ≡ here) → ((m : ℕ) → IsLive (at_number hs m)) → AreOnce hs → StepGrows login plans found statement hs step o us ts → HasTape t (at_number ts n)
-      → RunsSo login t n here statement hs ts step o us
-  line_so here found statement plans hs ts steps.Conn o us same live once r has = conn_line here statement plans hs ts o us r has
-  line_so here found statement plans hs ts (steps.Query m text) o us same live once r has = asked_line here statement m (steps.Query m text) (calls.Query text) (asks_query m statement text) (always n here (is_some statement) (steps.Query m text) refl refl refl refl) hs ts o us r has
-  line_so here found statement plans hs ts (steps.Prepare m text) o us same live once r has = asked_line here statement m (steps.Prepare m text) (calls.Prepare text) (asks_prepare m statement text) (always n here (is_some statement) (steps.Prepare m text) refl refl refl refl) hs ts o us r has
-  line_so here found (Some prepared) plans hs ts (steps.Execute m number params) o us same live once r has = asked_line here (Some prepared) m (steps.Execute m number params) (calls.Execute prepared params) (asks_execute m prepared number params) (record { beside = either (λ b. is_missing n b (steps.Execute m number params)) refl refl here; statements = refl }) hs ts o us r has
-  line_so here found None plans hs ts (steps.Execute m number params) o us same live once r has = unprepared_line here m (steps.Execute m number params) refl (either (λ b. is_missing n b (steps.Execute m number params)) refl refl) refl hs ts o us r has
-  line_so here found (Some prepared) plans hs ts (steps.CloseStatement m number) o us same live once r has = asked_line here (Some prepared) m (steps.CloseStatement m number) (calls.CloseStmt prepared.inner.id) (asks_close m prepared number) (record { beside = either (λ b. is_missing n b (steps.CloseStatement m number)) refl refl here; statements = refl }) hs ts o us r has
-  line_so here found None plans hs ts (steps.CloseStatement m number) o us same live once r has = unprepared_line here m (steps.CloseStatement m number) refl (either (λ b. is_missing n b (steps.CloseStatement m number)) refl refl) refl hs ts o us r has
-  line_so here found statement plans hs ts (steps.Next m) o us same live once r has = asked_line here statement m (steps.Next m) calls.NextRow (asks_next m statement) (always n here (is_some statement) (steps.Next m) refl refl refl refl) hs ts o us r has
-  line_so here found statement plans hs ts (steps.Collect m) o us same live once r has = named_line here statement m _ (steps.Collect m) (always n here (is_some statement) (steps.Collect m) refl refl refl refl) refl (λ z vs made e. e) hs ts o us
-      (λ made h d e. subst (λ z. StepSo login t z statement (at_number hs m) made (steps.Collect m) o us) e (collects_so login t all m statement (at_number hs m) made o us h d)) r has
-  line_so here found statement plans hs ts (steps.Drop m) o us same live once r has = asked_line here statement m (steps.Drop m) calls.DropResult (asks_drop m statement) (always n here (is_some statement) (steps.Drop m) refl refl refl refl) hs ts o us r has
-  line_so here found statement plans hs ts (steps.Ping m) o us same live once r has = asked_line here statement m (steps.Ping m) calls.Ping (asks_ping m statement) (always n here (is_some statement) (steps.Ping m) refl refl refl refl) hs ts o us r has
-  line_so here found statement plans hs ts (steps.Reset m) o us same live once r has = asked_line here statement m (steps.Reset m) calls.Reset (asks_reset m statement) (always n here (is_some statement) (steps.Reset m) refl refl refl refl) hs ts o us r has
-  line_so here found statement plans hs ts (steps.User m change) o us same live once r has = asked_line here statement m (steps.User m change) (calls.ChangeUser change) (asks_user m statement change) (always n here (is_some statement) (steps.User m change) refl refl refl refl) hs ts o us r has
-  line_so here found statement plans hs ts (steps.Begin m opts) o us same live once r has = asked_line here statement m (steps.Begin m opts) (calls.Begin opts) (asks_begin m statement opts) (always n here (is_some statement) (steps.Begin m opts) refl refl refl refl) hs ts o us r has
-  line_so here found statement plans hs ts (steps.Commit m) o us same live once r has = where_found here found statement m (steps.Commit m) calls.Commit (asks_commit m statement) refl refl (either (λ b. is_unprepared n b (steps.Commit m)) refl refl) same hs ts o us r has
-  line_so here found statement plans hs ts (steps.Rollback m) o us same live once r has = where_found here found statement m (steps.Rollback m) calls.Rollback (asks_rollback m statement) refl refl (either (λ b. is_unprepared n b (steps.Rollback m)) refl refl) same hs ts o us r has
-  line_so here found statement plans hs ts (steps.ForgetTransaction m) o us same live once r has = where_found here found statement m (steps.ForgetTransaction m) calls.ForgetTransaction (asks_forget m statement) refl refl (either (λ b. is_unprepared n b (steps.ForgetTransaction m)) refl refl) same hs ts o us r has
-  line_so here found statement plans hs ts (steps.Quit m) o us same live once r has = asked_line here statement m (steps.Quit m) calls.Quit (asks_quit m statement) (always n here (is_some statement) (steps.Quit m) refl refl refl refl) hs ts o us r has
-  line_so here found statement plans hs ts (steps.Stream m) o us same live once r has = named_line here statement m _ (steps.Stream m) (always n here (is_some statement) (steps.Stream m) refl refl refl refl) refl (λ z vs made e. e) hs ts o us
-      (λ made h d e. subst (λ z. StepSo login t z statement (at_number hs m) made (steps.Stream m) o us) e (streams_so login t all m statement (at_number hs m) made o us h d)) r has
-  line_so here found statement plans hs ts (steps.Item m) o us same live once r has = where_found here found statement m (steps.Item m) calls.NextRow (asks_item m statement) refl refl (either (λ b. is_unprepared n b (steps.Item m)) refl refl) same hs ts o us r has
-  line_so here true statement plans hs ts (steps.Unstream m) o us same live once r has = named_line here statement m _ (steps.Unstream m) (record { beside = found_there (λ b. is_missing n b (steps.Unstream m)) m refl refl here same; statements = either (λ b. is_unprepared n b (steps.Unstream m)) refl refl (is_some statement) }) refl (λ z vs made e. e) hs ts o us
-      (λ made h d e. subst (λ z. StepSo login t z statement (at_number hs m) made (steps.Unstream m) o us) e (lets_go_so login t all m statement (at_number hs m) made o us h d)) r has
-  line_so here false statement plans hs ts (steps.Unstream m) o us same live once r has = missed_line here statement m (steps.Unstream m) refl
-      (λ other. record { beside = either (λ b. is_missing n b (steps.Unstream m)) refl other here; statements = either (λ b. is_unprepared n b (steps.Unstream m)) refl refl (is_some statement) })
-      (not_found here (is_some statement) m (steps.Unstream m) refl refl same) hs ts o us r has
-  line_so here found statement plans hs ts (steps.Fields m) o us same live once r has = named_line here statement m _ (steps.Fields m) (always n here (is_some statement) (steps.Fields m) refl refl refl refl) refl (λ z vs made e. e) hs ts o us
-      (λ made h d e. subst (λ z. StepSo login t z statement (at_number hs m) made (steps.Fields m) o us) e (tells_so login t all m statement (at_number hs m) made o us h d)) r has
-  line_so here found statement plans hs ts (steps.Poll m) o us same live once r has = named_line here statement m _ (steps.Poll m) (always n here (is_some statement) (steps.Poll m) refl refl refl refl) refl (λ z vs made e. e) hs ts o us
-      (λ made h d e. subst (λ z. StepSo login t z statement (at_number hs m) made (steps.Poll m) o us) e (goes_on_so login t all m statement plans (at_number hs m) made o us (live m) (at_once login hs m once) h d)) r has
-  line_so here found statement plans hs ts (steps.Cancel m) o us same live once r has = named_line here statement m _ (steps.Cancel m) (always n here (is_some statement) (steps.Cancel m) refl refl refl refl) refl (λ z vs made e. e) hs ts o us
-      (λ made h d e. subst (λ z. StepSo login t z statement (at_number hs m) made (steps.Cancel m) o us) e (cancels_so login t all m statement (at_number hs m) made o us (at_once login hs m once) h d)) r has
-  line_so here found statement plans hs ts (steps.Advance by) o us same live once r has = moved_line here statement hs ts (steps.Advance by) o us refl r has
-  line_so here found statement plans hs ts (steps.Random word) o us same live once r has = moved_line here statement hs ts (steps.Random word) o us refl r has
+  pub line_so : (here found : Bool) (its aim : Aim) (statement : Option StatementView) (plans : Plans) (hs ts : List Handle) (step : Step) (o : Outcome) (us : List Use) → (target step ≡ Some n → found ≡ here) → (target step ≡ Some n → aim ≡ its) → ((m : ℕ) → IsLive (at_number hs m)) → AreOnce hs → StepGrows login plans found aim statement hs step o us ts → HasTape t (at_number ts n)
+      → RunsSo login t n here its statement hs ts step o us
+  line_so here found its aim statement plans hs ts steps.Conn o us same aimed live once r has = conn_line here its statement plans hs ts o us r has
+  line_so here found its aim statement plans hs ts (steps.Query m text) o us same aimed live once r has = asked_line here its statement m (steps.Query m text) (calls.Query text) (asks_query m statement text) (always n here (is_some statement) (steps.Query m text) refl refl refl refl) hs ts o us r has
+  line_so here found its aim statement plans hs ts (steps.Prepare m text) o us same aimed live once r has = asked_line here its statement m (steps.Prepare m text) (calls.Prepare text) (asks_prepare m statement text) (always n here (is_some statement) (steps.Prepare m text) refl refl refl refl) hs ts o us r has
+  line_so here found its aim (Some prepared) plans hs ts (steps.Execute m number params) o us same aimed live once r has = asked_line here its (Some prepared) m (steps.Execute m number params) (calls.Execute prepared params) (asks_execute m prepared number params) (record { beside = either (λ b. is_missing n b (steps.Execute m number params)) refl refl here; statements = refl }) hs ts o us r has
+  line_so here found its aim None plans hs ts (steps.Execute m number params) o us same aimed live once r has = unprepared_line here its m (steps.Execute m number params) refl (either (λ b. is_missing n b (steps.Execute m number params)) refl refl) refl hs ts o us r has
+  line_so here found its aim (Some prepared) plans hs ts (steps.CloseStatement m number) o us same aimed live once r has = asked_line here its (Some prepared) m (steps.CloseStatement m number) (calls.CloseStmt prepared.inner.id) (asks_close m prepared number) (record { beside = either (λ b. is_missing n b (steps.CloseStatement m number)) refl refl here; statements = refl }) hs ts o us r has
+  line_so here found its aim None plans hs ts (steps.CloseStatement m number) o us same aimed live once r has = unprepared_line here its m (steps.CloseStatement m number) refl (either (λ b. is_missing n b (steps.CloseStatement m number)) refl refl) refl hs ts o us r has
+  line_so here found its aim statement plans hs ts (steps.Next m) o us same aimed live once r has = named_line here its statement m _ (steps.Next m) (always n here (is_some statement) (steps.Next m) refl refl refl refl) refl (λ z vs made e. e) hs ts o us
+      (λ made h d e. subst (λ z. StepSo login t z its statement (at_number hs m) made (steps.Next m) o us) e (reads_so login t all m its statement aims.Row (at_number hs m) made o us h d)) r has
+  line_so here found its aim statement plans hs ts (steps.Collect m) o us same aimed live once r has = named_line here its statement m _ (steps.Collect m) (always n here (is_some statement) (steps.Collect m) refl refl refl refl) refl (λ z vs made e. e) hs ts o us
+      (λ made h d e. subst (λ z. StepSo login t z its statement (at_number hs m) made (steps.Collect m) o us) e (reads_so login t all m its statement aims.Rows (at_number hs m) made o us h d)) r has
+  line_so here found its aim statement plans hs ts (steps.Drop m) o us same aimed live once r has = asked_line here its statement m (steps.Drop m) calls.DropResult (asks_drop m statement) (always n here (is_some statement) (steps.Drop m) refl refl refl refl) hs ts o us r has
+  line_so here found its aim statement plans hs ts (steps.Ping m) o us same aimed live once r has = asked_line here its statement m (steps.Ping m) calls.Ping (asks_ping m statement) (always n here (is_some statement) (steps.Ping m) refl refl refl refl) hs ts o us r has
+  line_so here found its aim statement plans hs ts (steps.Reset m) o us same aimed live once r has = asked_line here its statement m (steps.Reset m) calls.Reset (asks_reset m statement) (always n here (is_some statement) (steps.Reset m) refl refl refl refl) hs ts o us r has
+  line_so here found its aim statement plans hs ts (steps.User m change) o us same aimed live once r has = asked_line here its statement m (steps.User m change) (calls.ChangeUser change) (asks_user m statement change) (always n here (is_some statement) (steps.User m change) refl refl refl refl) hs ts o us r has
+  line_so here found its aim statement plans hs ts (steps.Begin m opts) o us same aimed live once r has = asked_line here its statement m (steps.Begin m opts) (calls.Begin opts) (asks_begin m statement opts) (always n here (is_some statement) (steps.Begin m opts) refl refl refl refl) hs ts o us r has
+  line_so here found its aim statement plans hs ts (steps.Commit m) o us same aimed live once r has = where_found here found its statement m (steps.Commit m) calls.Commit (asks_commit m statement) refl refl (either (λ b. is_unprepared n b (steps.Commit m)) refl refl) same hs ts o us r has
+  line_so here found its aim statement plans hs ts (steps.Rollback m) o us same aimed live once r has = where_found here found its statement m (steps.Rollback m) calls.Rollback (asks_rollback m statement) refl refl (either (λ b. is_unprepared n b (steps.Rollback m)) refl refl) same hs ts o us r has
+  line_so here found its aim statement plans hs ts (steps.ForgetTransaction m) o us same aimed live once r has = where_found here found its statement m (steps.ForgetTransaction m) calls.ForgetTransaction (asks_forget m statement) refl refl (either (λ b. is_unprepared n b (steps.ForgetTransaction m)) refl refl) same hs ts o us r has
+  line_so here found its aim statement plans hs ts (steps.Quit m) o us same aimed live once r has = asked_line here its statement m (steps.Quit m) calls.Quit (asks_quit m statement) (always n here (is_some statement) (steps.Quit m) refl refl refl refl) hs ts o us r has
+  line_so here found its aim statement plans hs ts (steps.Stream m) o us same aimed live once r has = named_line here its statement m _ (steps.Stream m) (always n here (is_some statement) (steps.Stream m) refl refl refl refl) refl (λ z vs made e. e) hs ts o us
+      (λ made h d e. subst (λ z. StepSo login t z its statement (at_number hs m) made (steps.Stream m) o us) e (reads_so login t all m its statement aims.Take (at_number hs m) made o us h d)) r has
+  line_so here found its aim statement plans hs ts (steps.Item m) o us same aimed live once r has = found_line here found its statement m (ItemsAt login m) (steps.Item m) refl (λ z vs made e. e) refl refl (either (λ b. is_unprepared n b (steps.Item m)) refl refl) same hs ts o us
+      (λ made h d e. subst (λ z. StepSo login t z its statement (at_number hs m) made (steps.Item m) o us) e (items_so login t all m its statement (at_number hs m) made o us h d)) r has
+  line_so here found its aim statement plans hs ts (steps.Unstream m) o us same aimed live once r has = found_line here found its statement m LetsGo (steps.Unstream m) refl (λ z vs made e. e) refl refl (either (λ b. is_unprepared n b (steps.Unstream m)) refl refl) same hs ts o us
+      (λ made h d e. subst (λ z. StepSo login t z its statement (at_number hs m) made (steps.Unstream m) o us) e (lets_go_so login t all m its statement (at_number hs m) made o us h d)) r has
+  line_so here found its aim statement plans hs ts (steps.Fields m) o us same aimed live once r has = named_line here its statement m _ (steps.Fields m) (always n here (is_some statement) (steps.Fields m) refl refl refl refl) refl (λ z vs made e. e) hs ts o us
+      (λ made h d e. subst (λ z. StepSo login t z its statement (at_number hs m) made (steps.Fields m) o us) e (tells_so login t all m its statement (at_number hs m) made o us h d)) r has
+  line_so here found its aim statement plans hs ts (steps.Poll m) o us same aimed live once r has = named_line here its statement m _ (steps.Poll m) (always n here (is_some statement) (steps.Poll m) refl refl refl refl) refl (λ z vs made e. e) hs ts o us
+      (λ made h d e. subst (λ z. StepSo login t z its statement (at_number hs m) made (steps.Poll m) o us) e (subst (λ x. StepSo login t m x statement (at_number hs m) made (steps.Poll m) o us) (aimed (ap Some e)) (goes_on_so login t all m aim statement plans (at_number hs m) made o us (live m) (at_once login hs m once) h d))) r has
+  line_so here found its aim statement plans hs ts (steps.Cancel m) o us same aimed live once r has = named_line here its statement m _ (steps.Cancel m) (always n here (is_some statement) (steps.Cancel m) refl refl refl refl) refl (λ z vs made e. e) hs ts o us
+      (λ made h d e. subst (λ z. StepSo login t z its statement (at_number hs m) made (steps.Cancel m) o us) e (cancels_so login t all m its statement (at_number hs m) made o us (at_once login hs m once) h d)) r has
+  line_so here found its aim statement plans hs ts (steps.Advance by) o us same aimed live once r has = moved_line here its statement hs ts (steps.Advance by) o us refl r has
+  line_so here found its aim statement plans hs ts (steps.Random word) o us same aimed live once r has = moved_line here its statement hs ts (steps.Random word) o us refl r has

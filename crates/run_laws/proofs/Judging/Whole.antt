@@ -6,6 +6,7 @@ use Rattle.my_value.specs.RowParts.{RowParts}
 use Rattle.my_reading.specs.Endings.{AreCalls, IsCall}
 use Rattle.my_reading.specs.Reading.{reading}
 use Rattle.my_reading.specs.Tape.{Span, Tape, between}
+use Rattle.my_script.specs.declared.aim.Aim.{Aim}
 use Rattle.my_script.specs.declared.step.Step.{Step}
 use Rattle.my_script.specs.Beside.{finds}
 use Rattle.my_script.specs.Streams.{target}
@@ -19,11 +20,11 @@ use Rattle.my_client.specs.Reads.{calls_kept, tape_kept}
 use Rattle.my_judge.specs.Reads.{read_of}
 use Rattle.my_judge.specs.Settled.{settled}
 use Rattle.my_world.specs.World.{Plans}
-use Rattle.my_steps.specs.Grows.{AreGrown, Line, StepGrows, beside_of, handles_after, is_found, statements_of}
+use Rattle.my_steps.specs.Grows.{AreGrown, Line, StepGrows, aim_at, beside_of, handles_after, is_found, statements_of}
 use Rattle.my_steps.specs.Handle.{Handle, Absent, Dialing, Joined, at_number}
 use Rattle.my_run.specs.Headline.{AnswerView, EachExplained, answer_view, answers_of, steps_of}
 use Rattle.run_laws.proofs.Connecting.{grown_once}
-use Rattle.my_run_judge.specs.Lines.{ActRight, AreLines, EndsUnanswered, IsOver, after_act, is_unanswered}
+use Rattle.my_run_judge.specs.Lines.{ActRight, AreLines, EndsUnanswered, IsOver, after_act, ground_at, is_unanswered}
 use Rattle.my_run_judge.specs.declared.made.Made.{Made}
 use Rattle.my_run_judge.specs.Made.{made_by, nothing_made, statement_for}
 use Rattle.my_run_judge.specs.Seen.{TapeSeen}
@@ -37,7 +38,7 @@ use Rattle.run_laws.proofs.Judging.Running.{Placed, RunsLine, RunsSo, line_so}
 
 -- the lines, by what is shown of their answers
 abbrev act_shown : ℕ → Made → Walk → Step → AnswerView → Act
-act_shown n m w step v = act_with (finds m.beside step) (is_some (statement_for m step)) w.spot.status n w.spot.next w.closed step v.outcome (length v.uses)
+act_shown n m w step v = act_with (finds m.beside step) (is_some (statement_for m step)) m.beside.aim w.spot.status n w.spot.next (ground_at w) step v.outcome (length v.uses)
 
 abbrev LineShown : Login → ℕ → TapeSeen → ℕ → Made → Walk → Step → AnswerView → Type 0
 LineShown login n t k m w step v = (v.number ≡ k + 1) × ActRight login n t (statement_for m step) w step v.outcome v.uses (act_shown n m w step v)
@@ -80,13 +81,14 @@ module _ (login : Login) (plans : Plans) (t : Tape) (all : AreCalls login (readi
   }
   ran (l ∷ ls) grown said has =
       let found = finds (beside_of n ls) l.step in
+      let aim : Aim = (beside_of n ls).aim in
       let statement = statement_for (made_of n ls) l.step in
-      let grows : StepGrows login plans (is_found (target l.step) l.step ls) statement (handles_after ls) l.step l.outcome l.uses l.handles =
+      let grows : StepGrows login plans (is_found (target l.step) l.step ls) (aim_at (target l.step) ls) statement (handles_after ls) l.step l.outcome l.uses l.handles =
       grown.0.answer in
-      let s : RunsSo login t n found statement (handles_after ls) l.handles l.step l.outcome l.uses =
-      line_so login t all n found (is_found (target l.step) l.step ls) statement plans (handles_after ls) l.handles l.step l.outcome l.uses (ap (λ q. is_found q l.step ls)) (lines_live login ls said.1) (grown_once login plans ls grown.1) grows has in
+      let s : RunsSo login t n found aim statement (handles_after ls) l.handles l.step l.outcome l.uses =
+      line_so login t all n found (is_found (target l.step) l.step ls) aim (aim_at (target l.step) ls) statement plans (handles_after ls) l.handles l.step l.outcome l.uses (ap (λ q. is_found q l.step ls)) (ap (λ q. aim_at q ls)) (lines_live login ls said.1) (grown_once login plans ls grown.1) grows has in
       let before : RanSo ls = ran ls grown.1 said.1 s.back in
-      let line : RunsLine login t n found statement l.handles l.step l.outcome l.uses before.walk = s.forth before.walk before.placed in
+      let line : RunsLine login t n found aim statement l.handles l.step l.outcome l.uses before.walk = s.forth before.walk before.placed in
       let view : AnswerView = record { number = l.number; outcome = l.outcome; uses = l.uses } in
       let count : length (l ∷ ls) ≡ length ls + 1 = omega arith in
       record {

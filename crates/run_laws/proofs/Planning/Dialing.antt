@@ -5,13 +5,13 @@ use Rattle.std.proofs.lemmas.List.{append_assoc, append-nil}
 use Rattle.my_params.specs.declared.params.Params.{Params}
 use Rattle.my_statements.specs.Prepared.{StatementView}
 use Rattle.my_grammar.specs.declared.login.Login.{Login}
-use Rattle.my_reading.specs.declared.call.Call.{Call}
 use Rattle.my_reading.specs.declared.call.Call.TheVariants as calls
 use Rattle.my_link.specs.Link.{Told}
 use Rattle.my_link.specs.declared.dialer.DialItem.{DialItem}
 use Rattle.my_link.specs.declared.dialer.DialItem.TheVariants as items
 use Rattle.my_link.specs.declared.link.ReadItem.{ReadItem}
 use Rattle.my_link.specs.declared.link.WriteItem.{WriteItem}
+use Rattle.my_script.specs.declared.aim.Aim.{Aim}
 use Rattle.my_script.specs.declared.step.Step.{Step}
 use Rattle.my_script.specs.declared.step.Step.TheVariants as steps
 use Rattle.my_script.specs.declared.transcript.Outcome.{Outcome}
@@ -20,7 +20,7 @@ use Rattle.my_script.specs.declared.transcript.Use.{Use}
 use Rattle.my_world.specs.declared.line.WorldLine.{WorldLine}
 use Rattle.my_world.specs.Plan.{all_given, dials_of}
 use Rattle.my_world.specs.World.{Plans, HeldBy, FailedBy, GivenBy}
-use Rattle.my_steps.specs.Grows.{At, AreGrown, CallsWhere, Dials, Holds, Fails, Links, ClosesAt, ExecutesAt, GoesOn, Line, StepGrows, UnstreamsAt, handles_after}
+use Rattle.my_steps.specs.Grows.{At, AreGrown, Calls, Dials, Holds, Fails, Links, ClosesAt, ExecutesAt, GoesOn, Line, StepGrows, ItemsAt, LetsGo, Where, handles_after}
 use Rattle.my_steps.specs.Handle.{Handle, Dialing, at_number}
 use Rattle.my_run.specs.Headline.{AnswerView, answer_view, answers_of, steps_of}
 use Rattle.my_run_judge.specs.Transcripts.{dialed_by}
@@ -92,8 +92,8 @@ module _ (login : Login) (plans : Plans) (lines : List WorldLine) (told : ArePla
       by_spot Over l = tt
 
   -- another number is dialed, or this one
-  conn_ahead : (there : Bool) (statement : Option StatementView) (k : ℕ) (left : List DialItem) (hs ts : List Handle) (o : Outcome) (us : List Use) → StandsAt hs (Ahead k) left → StepGrows login plans there statement hs steps.Conn o us ts → LineSo (Ahead k) left steps.Conn us ts
-  conn_ahead there statement k left hs ts o us s r = by_test (k == 0) refl
+  conn_ahead : (there : Bool) (aim : Aim) (statement : Option StatementView) (k : ℕ) (left : List DialItem) (hs ts : List Handle) (o : Outcome) (us : List Use) → StandsAt hs (Ahead k) left → StepGrows login plans there aim statement hs steps.Conn o us ts → LineSo (Ahead k) left steps.Conn us ts
+  conn_ahead there aim statement k left hs ts o us s r = by_test (k == 0) refl
     where
       grown : length ts ≡ length hs + 1
       grown = ap length r.others ∙ length-append hs (r.made ∷ [])
@@ -110,14 +110,14 @@ module _ (login : Login) (plans : Plans) (lines : List WorldLine) (told : ArePla
           let sum : length hs + k ≡ n = s.0 in
           (tt, (omega (arith, grown, some, sum), s.1))
 
-  ahead_so : (there : Bool) (statement : Option StatementView) (k : ℕ) (left : List DialItem) (hs ts : List Handle) (step : Step) (o : Outcome) (us : List Use) → StandsAt hs (Ahead k) left → StepGrows login plans there statement hs step o us ts → LineSo (Ahead k) left step us ts
-  ahead_so there statement k left hs ts step o us s r = by_step step r (step_dials login plans there statement hs ts step o us r)
+  ahead_so : (there : Bool) (aim : Aim) (statement : Option StatementView) (k : ℕ) (left : List DialItem) (hs ts : List Handle) (step : Step) (o : Outcome) (us : List Use) → StandsAt hs (Ahead k) left → StepGrows login plans there aim statement hs step o us ts → LineSo (Ahead k) left step us ts
+  ahead_so there aim statement k left hs ts step o us s r = by_step step r (step_dials login plans there aim statement hs ts step o us r)
     where
       stays : length ts ≡ length hs + 0 → StandsAt ts (Ahead k) left
       stays e = let sum : length hs + k ≡ n = s.0 in (omega (arith, e, sum), s.1)
 
-      by_step : (x : Step) → StepGrows login plans there statement hs x o us ts → length ts ≡ length hs + dialed_by x → LineSo (Ahead k) left x us ts
-      by_step steps.Conn g e = conn_ahead there statement k left hs ts o us s g
+      by_step : (x : Step) → StepGrows login plans there aim statement hs x o us ts → length ts ≡ length hs + dialed_by x → LineSo (Ahead k) left x us ts
+      by_step steps.Conn g e = conn_ahead there aim statement k left hs ts o us s g
       by_step (steps.Query m text) g e = (tt, stays e)
       by_step (steps.Prepare m text) g e = (tt, stays e)
       by_step (steps.Execute m number params) g e = (tt, stays e)
@@ -157,8 +157,8 @@ module _ (login : Login) (plans : Plans) (lines : List WorldLine) (told : ArePla
             (low, ap (at_number ts) (sym e) ∙ ap (λ (xs : List Handle). at_number xs m) r.others ∙ put_here m r.made hs under ∙ same r.made (subst (λ (h : Handle). R h o us r.made) was r.does))
         by_number (inr e) = (low, ap (λ (xs : List Handle). at_number xs n) r.others ∙ put_there m n r.made hs e.1 ∙ s.1)
 
-    polled : (m : ℕ) → At m (GoesOn login plans m) hs o us ts → LineSo Held left (steps.Poll m) us ts
-    polled m r = by_test (m == n) refl
+    polled : (aim : Aim) (m : ℕ) → At m (GoesOn login plans aim m) hs o us ts → LineSo Held left (steps.Poll m) us ts
+    polled aim m r = by_test (m == n) refl
       where
         low : n < length ts
         low = let e = ap length r.others ∙ put_length m r.made hs in let under = s.0 in omega (arith, e, under)
@@ -168,7 +168,7 @@ module _ (login : Login) (plans : Plans) (lines : List WorldLine) (told : ArePla
             let is : m ≡ n = grind (arith, nat_tests) in
             let under : m < length hs = subst (λ z. z < length hs) (sym is) s.0 in
             let was : at_number hs m ≡ Dialing (Some left) = ap (at_number hs) is ∙ s.1 in
-            let d : DialSo left us r.made = dial_so m login (plans.reads m) (plans.writes m) (Some left) left o us r.made refl (subst (λ (h : Handle). GoesOn login plans m h o us r.made) was r.does) in
+            let d : DialSo left us r.made = dial_so m login (plans.reads m) (plans.writes m) (Some left) left o us r.made refl (subst (λ (h : Handle). GoesOn login plans aim m h o us r.made) was r.does) in
             dialed left us r.made ts d low (ap (at_number ts) (sym is) ∙ ap (λ (xs : List Handle). at_number xs m) r.others ∙ put_here m r.made hs under)
         by_test false e =
             let other : m ≢ n = λ z. grind (arith, nat_tests) in
@@ -185,13 +185,9 @@ module _ (login : Login) (plans : Plans) (lines : List WorldLine) (told : ArePla
             let under = s.0 in
             (omega (arith, count, under), ap (λ (xs : List Handle). at_number xs n) r.others ∙ put_there m n r.made hs other ∙ s.1)
 
-    calls_held : (there : Bool) (m : ℕ) (call : Call) (made : Handle) → CallsWhere there login m call (Dialing (Some left)) o us made → made ≡ Dialing (Some left)
-    calls_held true m call made r = r.same
-    calls_held false m call made r = r.same
-
-    unstreams_held : (there : Bool) (made : Handle) → UnstreamsAt there (Dialing (Some left)) o us made → made ≡ Dialing (Some left)
-    unstreams_held true made r = r.same
-    unstreams_held false made r = r.same
+    where_held : (there : Bool) (R : Handle → Outcome → List Use → Handle → Type 0) → ((made : Handle) → R (Dialing (Some left)) o us made → made ≡ Dialing (Some left)) → (made : Handle) → Where there R (Dialing (Some left)) o us made → made ≡ Dialing (Some left)
+    where_held true R does made r = does made r
+    where_held false R does made r = r.same
 
     executes_held : (q : Option StatementView) (params : Params) (m : ℕ) (made : Handle) → ExecutesAt q login m params (Dialing (Some left)) o us made → made ≡ Dialing (Some left)
     executes_held (Some prepared) params m made r = r.same
@@ -204,39 +200,39 @@ module _ (login : Login) (plans : Plans) (lines : List WorldLine) (told : ArePla
     unmoved : ts ≡ hs → StandsAt ts Held left
     unmoved e = subst (λ (xs : List Handle). StandsAt xs Held left) (sym e) s
 
-    held_so : (there : Bool) (statement : Option StatementView) (step : Step) → StepGrows login plans there statement hs step o us ts → LineSo Held left step us ts
-    held_so there statement steps.Conn r =
+    held_so : (there : Bool) (aim : Aim) (statement : Option StatementView) (step : Step) → StepGrows login plans there aim statement hs step o us ts → LineSo Held left step us ts
+    held_so there aim statement steps.Conn r =
         let grown = ap length r.others ∙ length-append hs (r.made ∷ []) in
         let under = s.0 in
         (tt, (omega (arith, grown, under), ap (λ (xs : List Handle). at_number xs n) r.others ∙ push_before hs r.made n s.0 ∙ s.1))
-    held_so there statement (steps.Query m text) r = (tt, refused m _ (λ made d. d.same) r)
-    held_so there statement (steps.Prepare m text) r = (tt, refused m _ (λ made d. d.same) r)
-    held_so there statement (steps.Execute m number params) r = (tt, refused m _ (executes_held statement params m) r)
-    held_so there statement (steps.CloseStatement m number) r = (tt, refused m _ (closes_held statement m) r)
-    held_so there statement (steps.Next m) r = (tt, refused m _ (λ made d. d.same) r)
-    held_so there statement (steps.Collect m) r = (tt, refused m _ (λ made d. d.same) r)
-    held_so there statement (steps.Drop m) r = (tt, refused m _ (λ made d. d.same) r)
-    held_so there statement (steps.Ping m) r = (tt, refused m _ (λ made d. d.same) r)
-    held_so there statement (steps.Reset m) r = (tt, refused m _ (λ made d. d.same) r)
-    held_so there statement (steps.User m change) r = (tt, refused m _ (λ made d. d.same) r)
-    held_so there statement (steps.Begin m opts) r = (tt, refused m _ (λ made d. d.same) r)
-    held_so there statement (steps.Commit m) r = (tt, refused m _ (calls_held there m calls.Commit) r)
-    held_so there statement (steps.Rollback m) r = (tt, refused m _ (calls_held there m calls.Rollback) r)
-    held_so there statement (steps.ForgetTransaction m) r = (tt, refused m _ (calls_held there m calls.ForgetTransaction) r)
-    held_so there statement (steps.Quit m) r = (tt, refused m _ (λ made d. d.same) r)
-    held_so there statement (steps.Stream m) r = (tt, refused m _ (λ made d. d.same) r)
-    held_so there statement (steps.Item m) r = (tt, refused m _ (calls_held there m calls.NextRow) r)
-    held_so there statement (steps.Unstream m) r = (tt, refused m _ (unstreams_held there) r)
-    held_so there statement (steps.Fields m) r = (tt, refused m _ (λ made d. d.same) r)
-    held_so there statement (steps.Poll m) r = polled m r
-    held_so there statement (steps.Cancel m) r = (tt, cancelled m _ r)
-    held_so there statement (steps.Advance by) r = (tt, unmoved r.same)
-    held_so there statement (steps.Random word) r = (tt, unmoved r.same)
+    held_so there aim statement (steps.Query m text) r = (tt, refused m _ (λ made d. d.same) r)
+    held_so there aim statement (steps.Prepare m text) r = (tt, refused m _ (λ made d. d.same) r)
+    held_so there aim statement (steps.Execute m number params) r = (tt, refused m _ (executes_held statement params m) r)
+    held_so there aim statement (steps.CloseStatement m number) r = (tt, refused m _ (closes_held statement m) r)
+    held_so there aim statement (steps.Next m) r = (tt, refused m _ (λ made d. d.same) r)
+    held_so there aim statement (steps.Collect m) r = (tt, refused m _ (λ made d. d.same) r)
+    held_so there aim statement (steps.Drop m) r = (tt, refused m _ (λ made d. d.same) r)
+    held_so there aim statement (steps.Ping m) r = (tt, refused m _ (λ made d. d.same) r)
+    held_so there aim statement (steps.Reset m) r = (tt, refused m _ (λ made d. d.same) r)
+    held_so there aim statement (steps.User m change) r = (tt, refused m _ (λ made d. d.same) r)
+    held_so there aim statement (steps.Begin m opts) r = (tt, refused m _ (λ made d. d.same) r)
+    held_so there aim statement (steps.Commit m) r = (tt, refused m _ (where_held there (Calls login m calls.Commit) (λ made q. q.same)) r)
+    held_so there aim statement (steps.Rollback m) r = (tt, refused m _ (where_held there (Calls login m calls.Rollback) (λ made q. q.same)) r)
+    held_so there aim statement (steps.ForgetTransaction m) r = (tt, refused m _ (where_held there (Calls login m calls.ForgetTransaction) (λ made q. q.same)) r)
+    held_so there aim statement (steps.Quit m) r = (tt, refused m _ (λ made d. d.same) r)
+    held_so there aim statement (steps.Stream m) r = (tt, refused m _ (λ made d. d.same) r)
+    held_so there aim statement (steps.Item m) r = (tt, refused m _ (where_held there (ItemsAt login m) (λ made q. q.same)) r)
+    held_so there aim statement (steps.Unstream m) r = (tt, refused m _ (where_held there LetsGo (λ made q. q.same)) r)
+    held_so there aim statement (steps.Fields m) r = (tt, refused m _ (λ made d. d.same) r)
+    held_so there aim statement (steps.Poll m) r = polled aim m r
+    held_so there aim statement (steps.Cancel m) r = (tt, cancelled m _ r)
+    held_so there aim statement (steps.Advance by) r = (tt, unmoved r.same)
+    held_so there aim statement (steps.Random word) r = (tt, unmoved r.same)
 
-  line_so : (there : Bool) (statement : Option StatementView) (spot : DialSpot) (left : List DialItem) (hs ts : List Handle) (step : Step) (o : Outcome) (us : List Use) → StandsAt hs spot left → StepGrows login plans there statement hs step o us ts → LineSo spot left step us ts
-  line_so there statement (Ahead k) left hs ts step o us s r = ahead_so there statement k left hs ts step o us s r
-  line_so there statement Held left hs ts step o us s r = held_so left hs ts o us s there statement step r
-  line_so there statement Over left hs ts step o us s r = (tt, tt)
+  line_so : (there : Bool) (aim : Aim) (statement : Option StatementView) (spot : DialSpot) (left : List DialItem) (hs ts : List Handle) (step : Step) (o : Outcome) (us : List Use) → StandsAt hs spot left → StepGrows login plans there aim statement hs step o us ts → LineSo spot left step us ts
+  line_so there aim statement (Ahead k) left hs ts step o us s r = ahead_so there aim statement k left hs ts step o us s r
+  line_so there aim statement Held left hs ts step o us s r = held_so left hs ts o us s there aim statement step r
+  line_so there aim statement Over left hs ts step o us s r = (tt, tt)
 
   -- after these lines
   record RanSo (ls : List Line) : Type 0 where
@@ -249,7 +245,7 @@ module _ (login : Login) (plans : Plans) (lines : List WorldLine) (told : ArePla
   ran [] grown = record { spot = Ahead n; left = first; stands = (omega arith, refl); reaches = λ ss vs r. r }
   ran (l ∷ ls) grown =
       let before : RanSo ls = ran ls grown.1 in
-      let line : LineSo before.spot before.left l.step l.uses l.handles = line_so _ _ before.spot before.left (handles_after ls) l.handles l.step l.outcome l.uses before.stands grown.0.answer in
+      let line : LineSo before.spot before.left l.step l.uses l.handles = line_so _ _ _ before.spot before.left (handles_after ls) l.handles l.step l.outcome l.uses before.stands grown.0.answer in
       let view : AnswerView = record { number = l.number; outcome = l.outcome; uses = l.uses } in
       record {
         spot = after_step n before.spot before.left l.step;

@@ -11,16 +11,18 @@ use Rattle.my_link.specs.declared.link.WriteItem.{WriteItem}
 use Rattle.my_link.specs.Looks.{Looks}
 use Rattle.my_reading.specs.declared.answer.Answer.TheVariants as answers
 use Rattle.my_reading.specs.declared.call.Call.{Call}
-use Rattle.my_reading.specs.declared.call.Call.TheVariants.{Execute, CloseStmt, TakeSet, SkipTaken}
+use Rattle.my_reading.specs.declared.call.Call.TheVariants.{Execute, CloseStmt, NextRow, TakeSet, SkipTaken}
 use Rattle.my_reading.specs.Calls.{kind_of}
 use Rattle.my_client.specs.declared.poll.After.{After}
 use Rattle.my_client.specs.declared.poll.After.TheVariants as after
+use Rattle.my_script.specs.declared.aim.Aim.{Aim}
+use Rattle.my_script.specs.declared.aim.Aim.TheVariants as aims
 use Rattle.my_script.specs.declared.transcript.Outcome.{Outcome}
 use Rattle.my_script.specs.declared.transcript.Use.{Use}
 use Rattle.my_script.specs.Streams.{is_skip}
 use Rattle.my_world.specs.World.{Plans}
 use Rattle.my_client.specs.Kept.{Asked, Kept, asking, asked_by, first_asked, first_kept}
-use Rattle.my_steps.specs.Grows.{IsRefused, OnConnection, PolledOnce, IsClosed, Begins, BeginsOn, Calls, ConnectShows, Connects, HasPlan, Gathers, GathersOn, Collects, CollectsOn, CollectsAt, PollsOn, PollsCall, ThenTakes, Skips, Takes, TakesOn, StreamsAt, CallsWhere, LetsGoWith, UnstreamsAt, ExecutesAt, ClosesAt, GoesOnWith, GoesOn, CancelsWith, Cancels, TellsWith, TellsFields, is_done, skips_first}
+use Rattle.my_steps.specs.Grows.{IsRefused, OnConnection, PolledOnce, IsClosed, Begins, BeginsOn, Calls, ConnectShows, Connects, HasPlan, Gathers, GathersOn, Collects, CollectsOn, CollectsAt, PollsOn, PollsCall, Then, Skips, Follows, Reads, ReadsOn, ReadsAt, Where, Items, ItemsOn, ItemsAt, LetsGoWith, LetsGo, ExecutesAt, ClosesAt, GoesOnWith, GoesOn, CancelsWith, Cancels, TellsWith, TellsFields, is_done, has_taken}
 use Rattle.my_steps.specs.Grows as grows
 use Rattle.my_steps.specs.Handle.{Handle, Absent, Dialing, Joined}
 use Rattle.my_steps.specs.Sums.{failed_use, held_use, quiet}
@@ -145,35 +147,53 @@ module _ (n : ℕ) (is : List ReadItem) (ws : List WriteItem) where
   connects : (login : Login) (a : Asked) (k : Kept) (x : Looks) (o : Outcome) (u : Use) (t : Handle) → Connects login n a k x o u t → WalksTo n (u ∷ []) x k.taken t
   connects login a k x o u t r = shown login r.after r.end x r.link k.taken u o t (walks_one n u x k.taken r.link r.end.taken r.number (polled_once login a k x u.met r.after r.end r.link r.polled)) r.shows
 
-  -- a stream takes a set, after the rest of an earlier one
-  then_goes : (b : Bool) (login : Login) (first : Outcome) (k : Kept) (x : Looks) (used : List Use) (mid : Handle) (o : Outcome) (later : List Use) (t : Handle) → WalksTo n used x k.taken mid → ThenTakes b login n first mid o later t → WalksTo n (used ++ later) x k.taken t
-  then_goes true login first k x used mid o later t w r =
-      let more : WalksTo n later w.link w.kept.taken t = joined w.there w.kept w.link (subst (λ (h : Handle). Calls login n TakeSet h o later t) w.is r) in
+  -- a connection reads on, after the rest of a set that a stream took
+  follows_go : (aim : Aim) (login : Login) (o : Outcome) (us : List Use) (h t : Handle) → Follows aim login n h o us t → Goes n is ws h us t
+  follows_go aims.Take login o us h t r = calls_go login TakeSet o us h t r
+  follows_go aims.Row login o us h t r = calls_go login NextRow o us h t r
+  follows_go aims.Rows login o us h t r = collects_go login o us h t r
+
+  then_goes : (b : Bool) (aim : Aim) (login : Login) (first : Outcome) (k : Kept) (x : Looks) (used : List Use) (mid : Handle) (o : Outcome) (later : List Use) (t : Handle) → WalksTo n used x k.taken mid → Then b (Follows aim login n) first mid o later t → WalksTo n (used ++ later) x k.taken t
+  then_goes true aim login first k x used mid o later t w r =
+      let more : WalksTo n later w.link w.kept.taken t = joined w.there w.kept w.link (subst (λ (h : Handle). Follows aim login n h o later t) w.is r) in
       record { there = more.there; kept = more.kept; link = more.link; is = more.is; walks = walks_both n used later x k.taken w.link w.kept.taken more.link more.kept.taken w.walks more.walks }
     where
-      joined : (there : Bool) (l : Kept) (y : Looks) → Calls login n TakeSet (Joined there l y) o later t → WalksTo n later y l.taken t
-      joined there l y c = calls_go login TakeSet o later (Joined there l y) t c
-  then_goes false login first k x used mid o later t w r =
+      joined : (there : Bool) (l : Kept) (y : Looks) → Follows aim login n (Joined there l y) o later t → WalksTo n later y l.taken t
+      joined there l y c = follows_go aim login o later (Joined there l y) t c
+  then_goes false aim login first k x used mid o later t w r =
       subst (λ (vs : List Use). WalksTo n vs x k.taken t) (sym (ap (λ (vs : List Use). used ++ vs) r.1 ∙ append-nil used)) (subst (λ (h : Handle). WalksTo n used x k.taken h) (sym r.2) w)
 
-  skips_go : (R : Outcome → List Use → Handle → Type 0) (login : Login) (k : Kept) (x : Looks) (o : Outcome) (us : List Use) (t : Handle) → ((first : Outcome) (used : List Use) (mid : Handle) → R first used mid → WalksTo n used x k.taken mid)
-      → Skips R login n o us t → WalksTo n us x k.taken t
-  skips_go R login k x o us t f r = subst (λ (vs : List Use). WalksTo n vs x k.taken t) (sym r.uses) (then_goes (is_done r.first) login r.first k x r.used r.mid o r.later t (f r.first r.used r.mid r.skips) r.takes)
+  skips_go : (R : Outcome → List Use → Handle → Type 0) (aim : Aim) (login : Login) (k : Kept) (x : Looks) (o : Outcome) (us : List Use) (t : Handle) → ((first : Outcome) (used : List Use) (mid : Handle) → R first used mid → WalksTo n used x k.taken mid)
+      → Skips R (Follows aim login n) o us t → WalksTo n us x k.taken t
+  skips_go R aim login k x o us t f r = subst (λ (vs : List Use). WalksTo n vs x k.taken t) (sym r.uses) (then_goes (is_done r.first) aim login r.first k x r.used r.mid o r.later t (f r.first r.used r.mid r.skips) r.follows)
 
-  takes_go : (b : Bool) (login : Login) (k : Kept) (x : Looks) (o : Outcome) (us : List Use) (t : Handle) → Takes b login n (Joined true k x) o us t → WalksTo n us x k.taken t
-  takes_go true login k x o us t r = skips_go (Calls login n SkipTaken (Joined true k x)) login k x o us t (λ first used mid s. calls_go login SkipTaken first used (Joined true k x) mid s) r
-  takes_go false login k x o us t r = calls_go login TakeSet o us (Joined true k x) t r
+  reads_by : (b : Bool) (aim : Aim) (login : Login) (k : Kept) (x : Looks) (o : Outcome) (us : List Use) (t : Handle) → Reads b aim login n (Joined true k x) o us t → WalksTo n us x k.taken t
+  reads_by true aim login k x o us t r = skips_go (Calls login n SkipTaken (Joined true k x)) aim login k x o us t (λ first used mid s. calls_go login SkipTaken first used (Joined true k x) mid s) r
+  reads_by false aim login k x o us t r = follows_go aim login o us (Joined true k x) t r
 
-  takes_on : (q : Option Asked) (login : Login) (k : Kept) (x : Looks) (o : Outcome) (us : List Use) (t : Handle) → TakesOn q login n k x o us t → WalksTo n us x k.taken t
-  takes_on None login k x o us t r = takes_go (skips_first login k) login k x o us t r
-  takes_on (Some a) login k x o us t r = refused (Joined true k x) o us t r
+  reads_on : (q : Option Asked) (aim : Aim) (login : Login) (k : Kept) (x : Looks) (o : Outcome) (us : List Use) (t : Handle) → ReadsOn q aim login n k x o us t → WalksTo n us x k.taken t
+  reads_on None aim login k x o us t r = reads_by (has_taken login k) aim login k x o us t r
+  reads_on (Some a) aim login k x o us t r = refused (Joined true k x) o us t r
 
-  pub streams_go : (login : Login) (o : Outcome) (us : List Use) (h t : Handle) → StreamsAt login n h o us t → Goes n is ws h us t
-  streams_go login o us h t = on (λ k. TakesOn k.pending login n k) o us h t (λ k x. takes_on k.pending login k x o us t)
+  pub reads_go : (aim : Aim) (login : Login) (o : Outcome) (us : List Use) (h t : Handle) → ReadsAt aim login n h o us t → Goes n is ws h us t
+  reads_go aim login o us h t = on (λ k. ReadsOn k.pending aim login n k) o us h t (λ k x. reads_on k.pending aim login k x o us t)
 
-  pub calls_where_go : (b : Bool) (login : Login) (call : Call) (o : Outcome) (us : List Use) (h t : Handle) → CallsWhere b login n call h o us t → Goes n is ws h us t
-  calls_where_go true login call o us h t r = calls_go login call o us h t r
-  calls_where_go false login call o us h t r = refused h o us t r
+  -- what a step does where it finds what it needs
+  pub where_go : (b : Bool) (R : Handle → Outcome → List Use → Handle → Type 0) (o : Outcome) (us : List Use) → ((h t : Handle) → R h o us t → Goes n is ws h us t) → (h t : Handle) → Where b R h o us t → Goes n is ws h us t
+  where_go true R o us does h t r = does h t r
+  where_go false R o us does h t r = refused h o us t r
+
+  -- an item
+  items_by : (b : Bool) (login : Login) (k : Kept) (x : Looks) (o : Outcome) (us : List Use) (t : Handle) → Items b login n k x o us t → WalksTo n us x k.taken t
+  items_by true login k x o us t r = calls_go login NextRow o us (Joined true k x) t r
+  items_by false login k x o us t r = rests true k k x us t r.uses refl r.left
+
+  items_on : (q : Option Asked) (login : Login) (k : Kept) (x : Looks) (o : Outcome) (us : List Use) (t : Handle) → ItemsOn q login n k x o us t → WalksTo n us x k.taken t
+  items_on None login k x o us t r = items_by (has_taken login k) login k x o us t r
+  items_on (Some a) login k x o us t r = refused (Joined true k x) o us t r
+
+  pub items_go : (login : Login) (o : Outcome) (us : List Use) (h t : Handle) → ItemsAt login n h o us t → Goes n is ws h us t
+  items_go login o us h t = on (λ k. ItemsOn k.pending login n k) o us h t (λ k x. items_on k.pending login k x o us t)
 
   pub executes_go : (q : Option StatementView) (login : Login) (params : Params) (o : Outcome) (us : List Use) (h t : Handle) → ExecutesAt q login n params h o us t → Goes n is ws h us t
   executes_go (Some prepared) login params o us h t r = calls_go login (Execute prepared params) o us h t r
@@ -187,22 +207,21 @@ module _ (n : ℕ) (is : List ReadItem) (ws : List WriteItem) where
   lets_go_with None k x o us t r = rests true k k x us t r.uses refl r.left
   lets_go_with (Some a) k x o us t r = refused (Joined true k x) o us t r
 
-  pub unstreams_go : (b : Bool) (o : Outcome) (us : List Use) (h t : Handle) → UnstreamsAt b h o us t → Goes n is ws h us t
-  unstreams_go true o us h t r = on (λ k. LetsGoWith k.pending k) o us h t (λ k x. lets_go_with k.pending k x o us t) r
-  unstreams_go false o us h t r = refused h o us t r
+  pub lets_go : (o : Outcome) (us : List Use) (h t : Handle) → LetsGo h o us t → Goes n is ws h us t
+  lets_go o us h t r = on (λ k. LetsGoWith k.pending k) o us h t (λ k x. lets_go_with k.pending k x o us t) r
 
-  polls_call : (b : Bool) (login : Login) (a : Asked) (k : Kept) (x : Looks) (o : Outcome) (us : List Use) (t : Handle) → PollsCall b login n a k x o us t → WalksTo n us x k.taken t
-  polls_call true login a k x o us t r = skips_go (PolledOnce login n a k x) login k x o us t (λ first used mid s. once login a k x first used mid s) r
-  polls_call false login a k x o us t r = once login a k x o us t r
+  polls_call : (b : Bool) (aim : Aim) (login : Login) (a : Asked) (k : Kept) (x : Looks) (o : Outcome) (us : List Use) (t : Handle) → PollsCall b aim login n a k x o us t → WalksTo n us x k.taken t
+  polls_call true aim login a k x o us t r = skips_go (PolledOnce login n a k x) aim login k x o us t (λ first used mid s. once login a k x first used mid s) r
+  polls_call false aim login a k x o us t r = once login a k x o us t r
 
-  polls_on : (b : Bool) (rows : Option (List RowParts)) (login : Login) (a : Asked) (k : Kept) (x : Looks) (o : Outcome) (us : List Use) (t : Handle) → PollsOn b rows login n a k x o us t → WalksTo n us x k.taken t
-  polls_on true rows login a k x o us t r = subst (λ (vs : List Use). WalksTo n vs x k.taken t) (sym r.1) (connects login a k x o r.0 t r.2)
-  polls_on false None login a k x o us t r = polls_call (is_skip (kind_of a.call)) login a k x o us t r
-  polls_on false (Some rows) login a k x o us t r = gathers login us a k x o t r
+  polls_on : (b : Bool) (rows : Option (List RowParts)) (aim : Aim) (login : Login) (a : Asked) (k : Kept) (x : Looks) (o : Outcome) (us : List Use) (t : Handle) → PollsOn b rows aim login n a k x o us t → WalksTo n us x k.taken t
+  polls_on true rows aim login a k x o us t r = subst (λ (vs : List Use). WalksTo n vs x k.taken t) (sym r.1) (connects login a k x o r.0 t r.2)
+  polls_on false None aim login a k x o us t r = polls_call (is_skip (kind_of a.call)) aim login a k x o us t r
+  polls_on false (Some rows) aim login a k x o us t r = gathers login us a k x o t r
 
-  goes_on_with : (q : Option Asked) (login : Login) (k : Kept) (x : Looks) (o : Outcome) (us : List Use) (t : Handle) → GoesOnWith q login n k x o us t → WalksTo n us x k.taken t
-  goes_on_with None login k x o us t r = refused (Joined true k x) o us t r
-  goes_on_with (Some a) login k x o us t r = polls_on _ a.rows login a k x o us t r
+  goes_on_with : (q : Option Asked) (aim : Aim) (login : Login) (k : Kept) (x : Looks) (o : Outcome) (us : List Use) (t : Handle) → GoesOnWith q aim login n k x o us t → WalksTo n us x k.taken t
+  goes_on_with None aim login k x o us t r = refused (Joined true k x) o us t r
+  goes_on_with (Some a) aim login k x o us t r = polls_on _ a.rows aim login a k x o us t r
 
   pub dials_go : (login : Login) (plan : Option (List ReadItem)) (rules : Option (List WriteItem)) (items : Option (List DialItem)) (o : Outcome) (us : List Use) (t : Handle) → plan ≡ Some is → rules ≡ Some ws
       → grows.Dials login plan rules items n o us t → DialsTo n is ws us t
@@ -218,11 +237,11 @@ module _ (n : ℕ) (is : List ReadItem) (ws : List WriteItem) where
         walks = connects login first_asked first_kept x o used t r;
       })
 
-  pub goes_on_go : (login : Login) (plans : Plans) → plans.reads n ≡ Some is → plans.writes n ≡ Some ws → (o : Outcome) (us : List Use) (h t : Handle) → GoesOn login plans n h o us t → Goes n is ws h us t
-  goes_on_go login plans e f o us Absent t r = refused Absent o us t r
-  goes_on_go login plans e f o us (Dialing left) t r = Dials (dials_go login (plans.reads n) (plans.writes n) left o us t e f r)
-  goes_on_go login plans e f o us (Joined false k x) t r = refused (Joined false k x) o us t r
-  goes_on_go login plans e f o us (Joined true k x) t r = goes_on_with k.pending login k x o us t r
+  pub goes_on_go : (login : Login) (plans : Plans) (aim : Aim) → plans.reads n ≡ Some is → plans.writes n ≡ Some ws → (o : Outcome) (us : List Use) (h t : Handle) → GoesOn login plans aim n h o us t → Goes n is ws h us t
+  goes_on_go login plans aim e f o us Absent t r = refused Absent o us t r
+  goes_on_go login plans aim e f o us (Dialing left) t r = Dials (dials_go login (plans.reads n) (plans.writes n) left o us t e f r)
+  goes_on_go login plans aim e f o us (Joined false k x) t r = refused (Joined false k x) o us t r
+  goes_on_go login plans aim e f o us (Joined true k x) t r = goes_on_with k.pending aim login k x o us t r
 
   cancels_with : (q : Option Asked) (login : Login) (k : Kept) (x : Looks) (o : Outcome) (us : List Use) (t : Handle) → CancelsWith q login k x o us t → WalksTo n us x k.taken t
   cancels_with None login k x o us t r = refused (Joined true k x) o us t r

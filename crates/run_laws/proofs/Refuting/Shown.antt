@@ -1,17 +1,20 @@
 -- What a transcript shows of one connection is what the connection kept.
-use Rattle.std.proofs.Common.{◌≡◌, ℕ, ◌+◌, List, [], ◌∷◌, ◌++◌, length, map, Bool, true, false, ◌&&◌, ◌||◌, Option, Some, None, refl, sym, ap, ◌∙◌, subst, arith}
+use Rattle.std.proofs.Common.{◌≡◌, ℕ, ◌+◌, List, [], ◌∷◌, ◌++◌, length, map, Bool, true, false, not, ◌&&◌, ◌||◌, Option, Some, None, refl, sym, ap, ◌∙◌, subst, arith}
 use Rattle.std.proofs.lemmas.List.{length-append, length-map, map-append, append_assoc, append-nil}
 use Rattle.my_statements.specs.Prepared.{StatementView}
 use Rattle.my_grammar.specs.declared.login.Login.{Login}
+use Rattle.my_grammar.specs.Talk.{context_of}
 use Rattle.my_reading.specs.declared.answer.Answer.{Answer}
 use Rattle.my_reading.specs.declared.answer.Answer.TheVariants as answers
 use Rattle.my_reading.specs.declared.call.Call.{Call}
 use Rattle.my_reading.specs.declared.call.Call.TheVariants as calls
 use Rattle.my_reading.specs.Calls.{kind_of}
+use Rattle.my_reading.specs.declared.call.CallKind.{CallKind}
+use Rattle.my_reading.specs.declared.call.CallKind.TheVariants as kinds
 use Rattle.my_reading.specs.declared.call.CallKind.TheVariants.{Connect}
 use Rattle.my_reading.specs.declared.error.IoKind.TheVariants.{Dial}
 use Rattle.my_reading.specs.Endings.{IsTape}
-use Rattle.my_reading.specs.Place.{facts_at}
+use Rattle.my_reading.specs.Place.{Place, facts_at, is_rows, is_taken}
 use Rattle.my_reply.specs.declared.ok.OkPacket.{OkPacket}
 use Rattle.my_reading.specs.Errors.{connection_closed, io_error}
 use Rattle.my_reading.specs.Reading.{reading}
@@ -25,6 +28,8 @@ use Rattle.my_link.specs.declared.dialer.DialItem.{DialItem}
 use Rattle.my_link.specs.declared.link.ReadItem.{ReadItem}
 use Rattle.my_link.specs.declared.link.WriteItem.{WriteItem}
 use Rattle.my_link.specs.Looks.{Looks}
+use Rattle.my_script.specs.declared.aim.Aim.{Aim}
+use Rattle.my_script.specs.declared.aim.Aim.TheVariants as aims
 use Rattle.my_script.specs.declared.step.Step.{Step}
 use Rattle.my_script.specs.declared.step.Step.TheVariants as steps
 use Rattle.my_script.specs.declared.transcript.Outcome.{Outcome}
@@ -38,10 +43,10 @@ use Rattle.my_client.specs.declared.tape.DoneCall.{DoneCall}
 use Rattle.my_client.specs.declared.tape.Said.{Said}
 use Rattle.my_client.specs.declared.tape.Said.TheVariants as says
 use Rattle.my_client.specs.Kept.{Asked, Kept, nothing_kept, told_by, made_of, asking, asked_by, ended_by, first_asked, first_kept}
-use Rattle.my_client.specs.Reads.{calls_kept, facts_kept, tape_kept}
+use Rattle.my_client.specs.Reads.{calls_kept, facts_kept, place_kept, tape_kept}
 use Rattle.my_world.specs.World.{Plans}
 use Rattle.my_steps.specs.Dialing.{Course}
-use Rattle.my_steps.specs.Grows.{Begins, BeginsOn, Calls, CallsWhere, Connects, ConnectShows, Dials, Holds, Fails, Links, PolledOnce, StepGrows, TellsFields, TellsWith, answer_shown, shown, handles_after}
+use Rattle.my_steps.specs.Grows.{Begins, BeginsOn, Calls, Where, Connects, ConnectShows, Dials, Holds, Fails, Links, PolledOnce, Reads, ReadsAt, ReadsOn, StepGrows, TellsFields, TellsWith, answer_shown, shown, handles_after}
 use Rattle.my_steps.specs.Handle.{Handle, Joined, at_number, put_at}
 use Rattle.my_run.specs.Headline.{AnswerView, answer_view, answers_of, Headline}
 use Rattle.my_steps.specs.Sums.{quiet}
@@ -51,6 +56,7 @@ use Rattle.run_laws.specs.Shown.{step_of, is_stepped, outcome_of, taken_in, Show
 use Rattle.run_laws.specs.Tapes.{HasTape}
 use Rattle.run_laws.proofs.Connecting.{left_of, right_of}
 use Rattle.run_laws.proofs.Polls.{Polled, polled_of}
+use Rattle.run_laws.proofs.Untaken.{is_take, take_no_more, take_no_set, untaken}
 use Rattle.run_laws.proofs.Tapes.{each_tape_is_read, last_has}
 use Rattle.run_laws.proofs.Refuting.Chain.{Chain, chain_split, grown_chain}
 
@@ -196,6 +202,22 @@ on_went : (q : Option Asked) (login : Login) (k : Kept) (call : Call) (x : Looks
 on_went None login k call x o us t e w = begins_went (is_refused (has_closed (made_of k.calls)) (kind_of call)) login k call x o us t w
 on_went (Some a) login k call x o us t e w = cc
 
+-- none of its calls took a set for a stream
+abbrev Free : Kept → Type 0
+Free k = take_no_set (map (λ c. c.call) (calls_kept k.calls k.pending)) ≡ true
+
+stepped_takes_none : (kind : CallKind) → is_stepped kind ≡ true → is_take kind ≡ false
+stepped_takes_none kinds.TakeSet e = cc
+stepped_takes_none kind e = refl
+
+kept_free : (k : Kept) (call : Call) (o : Outcome) (n : ℕ) (t : Handle) (w : Went k call o n t) → k.pending ≡ None → is_take (kind_of call) ≡ false → Free k → Free w.kept
+kept_free k call o n t w rest kind free =
+    let c : TapeCall = call_at call (length k.sent) (length k.taken) w.ending in
+    let more : map (λ (c : TapeCall). c.call) (calls_kept w.kept.calls w.kept.pending) ≡ map (λ (c : TapeCall). c.call) (calls_kept k.calls None) ++ call ∷ [] =
+    ap (map (λ (c : TapeCall). c.call)) w.calls ∙ map-append (λ (c : TapeCall). c.call) (calls_kept k.calls None) (c ∷ []) in
+    let before : take_no_set (map (λ (c : TapeCall). c.call) (calls_kept k.calls None)) ≡ true = subst (λ p. take_no_set (map (λ (c : TapeCall). c.call) (calls_kept k.calls p)) ≡ true) rest free in
+    ap take_no_set more ∙ take_no_more (map (λ (c : TapeCall). c.call) (calls_kept k.calls None)) call before kind
+
 -- the calls of these spans, but for where their sent bytes begin
 abbrev AreOf : ℕ → List Span → List TapeCall → Type 0
 AreOf m [] [] = Unit {0}
@@ -258,53 +280,68 @@ module _ (login : Login) (plans : Plans) where
   )
 
   -- where a step finds what it needs
-  found_went : (found : Bool) (call : Call) (k : Kept) (x : Looks) (hs : List Handle) (o : Outcome) (us : List Use) (ms : List Handle) → hs ≡ Joined true k x ∷ [] → k.pending ≡ None → (made : Handle) → CallsWhere found login 0 call (at_number hs 0) o us made → ms ≡ put_at 0 made hs → (o ≡ NoSuchHandle → ⊥)
+  found_went : (found : Bool) (call : Call) (k : Kept) (x : Looks) (hs : List Handle) (o : Outcome) (us : List Use) (ms : List Handle) → hs ≡ Joined true k x ∷ [] → k.pending ≡ None → (made : Handle) → Where found (Calls login 0 call) (at_number hs 0) o us made → ms ≡ put_at 0 made hs → (o ≡ NoSuchHandle → ⊥)
       → (h : Handle) × (ms ≡ h ∷ []) × Went k call o (taken_in us) h
   found_went true call k x hs o us ms is rest made does others seen = at_went call k x hs o us ms is rest made does others
   found_went false call k x hs o us ms is rest made does others seen = absurd (seen does.outcome)
 
-  -- one step at connection 0
-  step_went : (call : Call) → is_stepped (kind_of call) ≡ true → (k : Kept) (x : Looks) (hs : List Handle) (o : Outcome) (us : List Use) (ms : List Handle) → hs ≡ Joined true k x ∷ [] → k.pending ≡ None → (found : Bool) (statement : Option StatementView) → (o ≡ NoSuchHandle → ⊥) → StepGrows login plans found statement hs (step_of call) o us ms
-      → (h : Handle) × (ms ≡ h ∷ []) × Went k call o (taken_in us) h
-  step_went calls.Connect plain k x hs o us ms is rest found statement seen g = cc
-  step_went (calls.Query text) plain k x hs o us ms is rest found statement seen g = at_went (calls.Query text) k x hs o us ms is rest g.made g.does g.others
-  step_went (calls.Prepare text) plain k x hs o us ms is rest found statement seen g = at_went (calls.Prepare text) k x hs o us ms is rest g.made g.does g.others
-  step_went (calls.Execute prepared params) plain k x hs o us ms is rest found statement seen g = cc
-  step_went (calls.Batch prepared lists) plain k x hs o us ms is rest found statement seen g = cc
-  step_went (calls.CloseStmt id) plain k x hs o us ms is rest found statement seen g = cc
-  step_went calls.CleanForPool plain k x hs o us ms is rest found statement seen g = cc
-  step_went calls.ResetForPool plain k x hs o us ms is rest found statement seen g = cc
-  step_went calls.NextRow plain k x hs o us ms is rest found statement seen g = at_went calls.NextRow k x hs o us ms is rest g.made g.does g.others
-  step_went calls.DropResult plain k x hs o us ms is rest found statement seen g = at_went calls.DropResult k x hs o us ms is rest g.made g.does g.others
-  step_went calls.TakeSet plain k x hs o us ms is rest found statement seen g = cc
-  step_went calls.SkipTaken plain k x hs o us ms is rest found statement seen g = cc
-  step_went calls.Ping plain k x hs o us ms is rest found statement seen g = at_went calls.Ping k x hs o us ms is rest g.made g.does g.others
-  step_went calls.Reset plain k x hs o us ms is rest found statement seen g = at_went calls.Reset k x hs o us ms is rest g.made g.does g.others
-  step_went (calls.ChangeUser change) plain k x hs o us ms is rest found statement seen g = at_went (calls.ChangeUser change) k x hs o us ms is rest g.made g.does g.others
-  step_went (calls.Begin opts) plain k x hs o us ms is rest found statement seen g = at_went (calls.Begin opts) k x hs o us ms is rest g.made g.does g.others
-  step_went calls.Commit plain k x hs o us ms is rest found statement seen g = found_went found calls.Commit k x hs o us ms is rest g.made g.does g.others seen
-  step_went calls.Rollback plain k x hs o us ms is rest found statement seen g = found_went found calls.Rollback k x hs o us ms is rest g.made g.does g.others seen
-  step_went calls.ForgetTransaction plain k x hs o us ms is rest found statement seen g = found_went found calls.ForgetTransaction k x hs o us ms is rest g.made g.does g.others seen
-  step_went calls.Quit plain k x hs o us ms is rest found statement seen g = at_went calls.Quit k x hs o us ms is rest g.made g.does g.others
+  -- no stream took the set that is read
+  not_taken : (closed : Bool) (p : Place) → p.taken ≡ false → not closed && is_taken p ≡ false
+  not_taken true p e = refl
+  not_taken false p e = ap (λ b. b && (p.end_left || is_rows (context_of p.talk).spot)) e
 
-  through : (ss : List Span) → are_plain ss ≡ true → (k : Kept) (x : Looks) (hs : List Handle) → hs ≡ Joined true k x ∷ [] → (is_last ss ≡ false → k.pending ≡ None) → (vs : List AnswerView) → map (λ b. b.outcome) vs ≡ map (λ s. outcome_of s.ending) ss → map (λ b. taken_in b.uses) vs ≡ map (λ s. length s.taken) ss
+  on_read : (q : Option Asked) (k : Kept) (x : Looks) (o : Outcome) (us : List Use) (made : Handle) → q ≡ None → Free k → ReadsOn q aims.Row login 0 k x o us made → Calls login 0 calls.NextRow (Joined true k x) o us made
+  on_read None k x o us made e free r = subst (λ b. Reads b aims.Row login 0 (Joined true k x) o us made) (not_taken (has_closed (made_of k.calls)) (place_kept login k) (untaken login (tape_kept k) free)) r
+  on_read (Some a) k x o us made e free r = cc
+
+  next_went : (k : Kept) (x : Looks) (hs : List Handle) (o : Outcome) (us : List Use) (ms : List Handle) → hs ≡ Joined true k x ∷ [] → k.pending ≡ None → Free k → (made : Handle) → ReadsAt aims.Row login 0 (at_number hs 0) o us made → ms ≡ put_at 0 made hs
+      → (h : Handle) × (ms ≡ h ∷ []) × Went k calls.NextRow o (taken_in us) h
+  next_went k x hs o us ms is rest free made does others =
+      let read : ReadsAt aims.Row login 0 (Joined true k x) o us made = subst (λ (xs : List Handle). ReadsAt aims.Row login 0 (at_number xs 0) o us made) is does in
+      at_went calls.NextRow k x hs o us ms is rest made (subst (λ (xs : List Handle). Calls login 0 calls.NextRow (at_number xs 0) o us made) (sym is) (on_read k.pending k x o us made rest free read)) others
+
+  -- one step at connection 0
+  step_went : (call : Call) → is_stepped (kind_of call) ≡ true → (k : Kept) (x : Looks) (hs : List Handle) (o : Outcome) (us : List Use) (ms : List Handle) → hs ≡ Joined true k x ∷ [] → k.pending ≡ None → Free k → (found : Bool) (aim : Aim) (statement : Option StatementView) → (o ≡ NoSuchHandle → ⊥) → StepGrows login plans found aim statement hs (step_of call) o us ms
+      → (h : Handle) × (ms ≡ h ∷ []) × Went k call o (taken_in us) h
+  step_went calls.Connect plain k x hs o us ms is rest free found aim statement seen g = cc
+  step_went (calls.Query text) plain k x hs o us ms is rest free found aim statement seen g = at_went (calls.Query text) k x hs o us ms is rest g.made g.does g.others
+  step_went (calls.Prepare text) plain k x hs o us ms is rest free found aim statement seen g = at_went (calls.Prepare text) k x hs o us ms is rest g.made g.does g.others
+  step_went (calls.Execute prepared params) plain k x hs o us ms is rest free found aim statement seen g = cc
+  step_went (calls.Batch prepared lists) plain k x hs o us ms is rest free found aim statement seen g = cc
+  step_went (calls.CloseStmt id) plain k x hs o us ms is rest free found aim statement seen g = cc
+  step_went calls.CleanForPool plain k x hs o us ms is rest free found aim statement seen g = cc
+  step_went calls.ResetForPool plain k x hs o us ms is rest free found aim statement seen g = cc
+  step_went calls.NextRow plain k x hs o us ms is rest free found aim statement seen g = next_went k x hs o us ms is rest free g.made g.does g.others
+  step_went calls.DropResult plain k x hs o us ms is rest free found aim statement seen g = at_went calls.DropResult k x hs o us ms is rest g.made g.does g.others
+  step_went calls.TakeSet plain k x hs o us ms is rest free found aim statement seen g = cc
+  step_went calls.SkipTaken plain k x hs o us ms is rest free found aim statement seen g = cc
+  step_went calls.Ping plain k x hs o us ms is rest free found aim statement seen g = at_went calls.Ping k x hs o us ms is rest g.made g.does g.others
+  step_went calls.Reset plain k x hs o us ms is rest free found aim statement seen g = at_went calls.Reset k x hs o us ms is rest g.made g.does g.others
+  step_went (calls.ChangeUser change) plain k x hs o us ms is rest free found aim statement seen g = at_went (calls.ChangeUser change) k x hs o us ms is rest g.made g.does g.others
+  step_went (calls.Begin opts) plain k x hs o us ms is rest free found aim statement seen g = at_went (calls.Begin opts) k x hs o us ms is rest g.made g.does g.others
+  step_went calls.Commit plain k x hs o us ms is rest free found aim statement seen g = found_went found calls.Commit k x hs o us ms is rest g.made g.does g.others seen
+  step_went calls.Rollback plain k x hs o us ms is rest free found aim statement seen g = found_went found calls.Rollback k x hs o us ms is rest g.made g.does g.others seen
+  step_went calls.ForgetTransaction plain k x hs o us ms is rest free found aim statement seen g = found_went found calls.ForgetTransaction k x hs o us ms is rest g.made g.does g.others seen
+  step_went calls.Quit plain k x hs o us ms is rest free found aim statement seen g = at_went calls.Quit k x hs o us ms is rest g.made g.does g.others
+
+  through : (ss : List Span) → are_plain ss ≡ true → (k : Kept) (x : Looks) (hs : List Handle) → hs ≡ Joined true k x ∷ [] → (is_last ss ≡ false → k.pending ≡ None) → Free k → (vs : List AnswerView) → map (λ b. b.outcome) vs ≡ map (λ s. outcome_of s.ending) ss → map (λ b. taken_in b.uses) vs ≡ map (λ s. length s.taken) ss
       → (ts : List Handle) → Chain login plans hs (map (λ s. step_of s.call) ss) vs ts → Led k ss ts
-  through [] plain k x hs is rest [] outs taken ts c = record { kept = k; link = x; left = c ∙ is; more = []; calls = sym (append-nil (calls_kept k.calls k.pending)); are = tt }
-  through [] plain k x hs is rest (a ∷ vs) outs taken ts c = absurd c
-  through (s ∷ ss) plain k x hs is rest [] outs taken ts c = absurd c
-  through (s ∷ ss) plain k x hs is rest (a ∷ vs) outs taken ts c =
+  through [] plain k x hs is rest free [] outs taken ts c = record { kept = k; link = x; left = c ∙ is; more = []; calls = sym (append-nil (calls_kept k.calls k.pending)); are = tt }
+  through [] plain k x hs is rest free (a ∷ vs) outs taken ts c = absurd c
+  through (s ∷ ss) plain k x hs is rest free [] outs taken ts c = absurd c
+  through (s ∷ ss) plain k x hs is rest free (a ∷ vs) outs taken ts c =
       let begins = left_of (is_stepped (kind_of s.call)) _ plain in
       let others = right_of (is_stepped (kind_of s.call)) _ plain in
       let shows = left_of (is_shown s.ending) _ others in
       let later = right_of (is_shown s.ending) _ others in
       let ends = left_of (is_last ss || is_told s.ending) _ later in
       let plain_on = right_of (is_last ss || is_told s.ending) _ later in
-      let g = step_went s.call begins k x hs a.outcome a.uses c.0 is (rest refl) c.1.0 c.1.1 (λ same. not_refused s.ending shows (sym (head_same a.outcome (outcome_of s.ending) _ _ outs) ∙ same)) c.1.2 in
+      let g = step_went s.call begins k x hs a.outcome a.uses c.0 is (rest refl) free c.1.0 c.1.1 c.1.2 (λ same. not_refused s.ending shows (sym (head_same a.outcome (outcome_of s.ending) _ _ outs) ∙ same)) c.1.3 in
       let w = g.2 in
       let ending : w.ending ≡ s.ending = w.ending_is ∙ ap ending_by (head_same a.outcome (outcome_of s.ending) _ _ outs) ∙ ending_back s.ending shows in
       let told : is_last ss ≡ false → is_told w.ending ≡ true = λ more. ap is_told ending ∙ or_right (is_last ss) (is_told s.ending) more ends in
       joined k s ss ts a.outcome (taken_in a.uses) g.0 w (rest refl) ending (head_same (taken_in a.uses) (length s.taken) _ _ taken)
-      (through ss plain_on w.kept w.link c.0 (g.1 ∙ ap (λ (h : Handle). h ∷ []) w.left) (λ more. w.rests (told more)) vs (tail_same a.outcome (outcome_of s.ending) _ _ outs) (tail_same (taken_in a.uses) (length s.taken) _ _ taken) ts c.2)
+      (through ss plain_on w.kept w.link c.0 (g.1 ∙ ap (λ (h : Handle). h ∷ []) w.left) (λ more. w.rests (told more)) (kept_free k s.call a.outcome (taken_in a.uses) g.0 w (rest refl) (stepped_takes_none (kind_of s.call) begins) free) vs (tail_same a.outcome (outcome_of s.ending) _ _ outs) (tail_same (taken_in a.uses) (length s.taken) _ _ taken) ts c.2)
 
 -- the connection is made
 ready_answer : (answer : Answer) → may_be Connect (told answer) ≡ true → told answer ≡ ToldReady
@@ -375,12 +412,12 @@ connected_ending id version = refl
 led_all : (login : Login) (plans : Plans) (a : StepAnswer) (vs : List StepAnswer) (t : Tape) (s : Span) (ss : List Span) (ts : List Handle) → s.call ≡ calls.Connect → s.ending ≡ Some ToldReady → are_plain ss ≡ true → Shows a vs t s ss
     → Chain login plans [] (steps.Conn ∷ map (λ c. step_of c.call) ss) (map answer_view (a ∷ vs)) ts → Led nothing_kept (s ∷ ss) ts
 led_all login plans a vs t s ss ts connects ready plain w chain =
-    let made = dials_went login (plans.reads 0) (plans.writes 0) (plans.dials 0) a.outcome a.uses.items chain.1.2.made w.id w.version w.made chain.1.2.dials in
-    let made_so : Went nothing_kept s.call a.outcome (taken_in a.uses.items) chain.1.2.made = subst (λ (c : Call). Went nothing_kept c a.outcome (taken_in a.uses.items) chain.1.2.made) (sym connects) made in
+    let made = dials_went login (plans.reads 0) (plans.writes 0) (plans.dials 0) a.outcome a.uses.items chain.1.3.made w.id w.version w.made chain.1.3.dials in
+    let made_so : Went nothing_kept s.call a.outcome (taken_in a.uses.items) chain.1.3.made = subst (λ (c : Call). Went nothing_kept c a.outcome (taken_in a.uses.items) chain.1.3.made) (sym connects) made in
     let ending : made_so.ending ≡ s.ending = made_so.ending_is ∙ ap ending_by w.made ∙ connected_ending w.id w.version ∙ sym ready in
     let told : is_told made_so.ending ≡ true = ap is_told (ending ∙ ready) in
-    let rest = through login plans ss plain made_so.kept made_so.link chain.0 (chain.1.2.others ∙ ap (λ (x : Handle). x ∷ []) made_so.left) (λ more. made_so.rests told) (map answer_view vs) (views_outcomes vs ∙ w.outcomes) (views_taken vs ∙ w.taken) ts chain.2 in
-    joined nothing_kept s ss ts a.outcome (taken_in a.uses.items) chain.1.2.made made_so refl ending w.made_taken rest
+    let rest = through login plans ss plain made_so.kept made_so.link chain.0 (chain.1.3.others ∙ ap (λ (x : Handle). x ∷ []) made_so.left) (λ more. made_so.rests told) (kept_free nothing_kept s.call a.outcome (taken_in a.uses.items) chain.1.3.made made_so refl (ap (λ (c : Call). is_take (kind_of c)) connects) refl) (map answer_view vs) (views_outcomes vs ∙ w.outcomes) (views_taken vs ∙ w.taken) ts chain.2 in
+    joined nothing_kept s ss ts a.outcome (taken_in a.uses.items) chain.1.3.made made_so refl ending w.made_taken rest
 
 -- what the connection kept is what its printed tape shows
 kept_shown : (a : StepAnswer) (vs : List StepAnswer) (t : Tape) (s : Span) (ss : List Span) (ts : List Handle) → Shows a vs t s ss → (all : Led nothing_kept (s ∷ ss) ts) → map tape_view (t ∷ []) ≡ tapes_in 0 ts → tape_kept all.kept ≡ tape_of (s ∷ ss)
@@ -436,7 +473,7 @@ shown_fields login plans before later a b vs t s ss fields connects ready plain 
     omega (arith, x, y, z, u, v) in
     let split = chain_split login plans [] (steps.Conn ∷ map (λ c. step_of c.call) ss) (map answer_view (a ∷ vs)) (steps.Fields 0) (answer_view b) ts count chain in
     let all = led_all login plans a vs t s ss split.0 connects ready plain w split.1 in
-    let told = tells all.kept.pending login all.kept all.link b.outcome b.uses.items split.4.made fields (subst (λ (hs : List Handle). TellsFields login (at_number hs 0) b.outcome b.uses.items split.4.made) all.left split.4.does) is in
-    let left : ts ≡ Joined true all.kept all.link ∷ [] = split.4.others ∙ ap (put_at 0 split.4.made) all.left ∙ ap (λ (x : Handle). x ∷ []) told.0 in
+    let told = tells all.kept.pending login all.kept all.link b.outcome b.uses.items split.5.made fields (subst (λ (hs : List Handle). TellsFields login (at_number hs 0) b.outcome b.uses.items split.5.made) all.left split.5.does) is in
+    let left : ts ≡ Joined true all.kept all.link ∷ [] = split.5.others ∙ ap (put_at 0 split.5.made) all.left ∙ ap (λ (x : Handle). x ∷ []) told.0 in
     let on : Led nothing_kept (s ∷ ss) ts = record { kept = all.kept; link = all.link; left = left; more = all.more; calls = all.calls; are = all.are } in
     told.1 ∙ ap (λ (r : ReadTape). (facts_at login (reading login r).place).ok) (kept_shown a vs t s ss ts w on h.tapes_are)

@@ -10,8 +10,6 @@ use Rattle.my_handshake.specs.Greeting.{settings_at}
 use Rattle.my_handshake.specs.Version.{dotted_at}
 use Rattle.my_grammar.specs.declared.login.Login.{Login}
 use Rattle.my_grammar.specs.Response.{response}
-use Rattle.my_reading.specs.declared.call.Call.{Call}
-use Rattle.my_reading.specs.declared.call.Call.TheVariants as calls
 use Rattle.my_reading.specs.Course.{step, run}
 use Rattle.my_reading.specs.Told.{Told, ToldRow}
 use Rattle.my_script.specs.declared.step.Step.{Step}
@@ -26,7 +24,7 @@ use Rattle.my_run_judge.specs.Walks.{Walk, start}
 use Rattle.run_laws.proofs.Judging.Accepted.{each_run_is_right}
 use Rattle.run_laws.proofs.Judging.Whole.{AreShown}
 use Rattle.reading_laws.specs.Bytes.{root}
-use Rattle.run_laws.specs.WrongStreams.{AreNoStreams, NoRun, kept_answers, kept_steps, kept_tape, other_answers, other_steps, other_tape}
+use Rattle.run_laws.specs.WrongStreams.{AreNoStreams, NoRun, kept_answers, kept_steps, kept_tape, other_answers, other_steps, other_tape, over_answers, over_steps, over_tape, read_answers, read_steps, read_tape}
 
 -- the lines as they are shown
 lines_shown : (login : Login) (n : ℕ) (t : TapeSeen) (k : ℕ) (m : Made) (w : Walk) (ss : List Step) (bs : List StepAnswer) → AreLines login n t k m w ss bs → AreShown login n t k m w ss (map answer_view bs)
@@ -59,10 +57,22 @@ item_ends r = false≢true (sym (ap is_row r.1.1.1.0.1.1.2.1.call.ends))
 -- the second stream's call passes over the set's rest
 stream_skips : AreShown root 0 (seen_view kept_tape) 0 nothing_made (start root 0) kept_steps kept_answers → ⊥
 unfolding le_bytes len_bytes text_bytes text0_bytes short_bytes front_within front_from parts_of chunks number_after_payload names_at form_at fields_at settings_at dotted_at response step run
-stream_skips r = absurd (let no : (let c : Call = calls.TakeSet in c) ≡ calls.SkipTaken = r.1.1.1.1.0.1.0 in cc)
+stream_skips r = r.1.1.1.1.0.1
+
+-- the read passes over it, too
+next_skips : AreShown root 0 (seen_view read_tape) 0 nothing_made (start root 0) read_steps read_answers → ⊥
+unfolding le_bytes len_bytes text_bytes text0_bytes short_bytes front_within front_from parts_of chunks number_after_payload names_at form_at fields_at settings_at dotted_at response step run
+next_skips r = r.1.1.1.1.0.1
+
+-- the stream is there, and its set was read
+item_there : AreShown root 0 (seen_view over_tape) 0 nothing_made (start root 0) over_steps over_answers → ⊥
+unfolding le_bytes len_bytes text_bytes text0_bytes short_bytes front_within front_from parts_of chunks number_after_payload names_at form_at fields_at settings_at dotted_at response step run
+item_there r = r.1.1.1.1.0.1
 
 pub are_no_streams : AreNoStreams
 are_no_streams = record {
   other_set = none_runs other_steps other_answers other_tape refl item_ends;
   nothing_passed = none_runs kept_steps kept_answers kept_tape refl stream_skips;
+  stream_read = none_runs read_steps read_answers read_tape refl next_skips;
+  item_refused = none_runs over_steps over_answers over_tape refl item_there;
 }

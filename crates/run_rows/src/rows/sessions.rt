@@ -74,9 +74,9 @@ judge 69 0 204 6 0 12
 >@ turn
 > conn|query 0 SELECT 1|stream 0|reset 0|item 0|next 0|fields 0
 <@ connected
-< 2 ok|3 ok|4 flag 1|5 refused NoSuchHandle|6 none|7 ok affected=0 insert=- warnings=1 status=2 info=b:
+< 2 ok|3 ok|4 flag 1|5 none|6 none|7 ok affected=0 insert=- warnings=1 status=2 info=b:
 <@ sent select_1 reset taken
-judge 121 0 405 21 0 54
+judge 120 0 400 21 0 54
 
 # resets: a set is left at a server without the command
 >@ greeting_5_7_2 set

@@ -204,10 +204,10 @@ judge 99 0 304 21 0 63
 >@ greeting first last
 > conn|query 0 X|stream 0|item 0|item 0|item 0|item 0|unstream 0|stream 0|item 0|item 0|stream 0|item 0
 <@ connected
-< 2 ok|3 ok|4 row b:31|5 row b:32|6 end|7 refused NoSuchHandle|8 refused NoSuchHandle|9 ok|10 row b:33|11 end|12 none
+< 2 ok|3 ok|4 row b:31|5 row b:32|6 end|7 none|8 ok|9 ok|10 row b:33|11 end|12 none
 < 13 refused NoSuchHandle
 <. sent 0
-judge 261 0 1583 33 0 180
+judge 260 0 1585 33 0 180
 
 # streams: what is left is passed over
 >@ greeting first last
@@ -258,10 +258,74 @@ judge 160 0 763 30 3 147
 > ping 0|item 0|stream 0
 <@ connected
 < 2 ok|3 refused NoSuchHandle|4 refused NoSuchHandle|5 refused NoSuchHandle|6 refused NoSuchHandle
-< 7 refused NoSuchHandle|8 ok|9 ok affected=0 insert=- warnings=0 status=2 info=b:|10 row b:31|11 row b:32
-< 12 refused NoSuchHandle|13 ok|14 row b:33|15 ok|16 refused NoSuchHandle|17 none
+< 7 refused NoSuchHandle|8 ok|9 ok affected=0 insert=- warnings=0 status=2 info=b:|10 row b:31|11 row b:33
+< 12 none|13 ok|14 end|15 ok|16 none|17 none
 <. sent 0
-judge 314 0 2672 36 0 330
+judge 319 0 2641 36 0 300
+
+# streams: one that is over, and let go
+>@ greeting first last ok
+> conn|query 0 X|stream 0|item 0|ping 0|item 0|item 0|unstream 0|item 0
+<@ connected
+< 2 ok|3 ok|4 row b:31|5 ok|6 none|7 none|8 ok|9 refused NoSuchHandle
+<. sent 0
+judge 138 0 518 36 0 135
+
+# streams: other reads pass over the set
+>@ greeting set
+> conn|query 0 X|stream 0|next 0|collect 0
+<@ connected
+< 2 ok|3 ok|4 none|5 rows 0
+<. sent 0
+judge 100 0 290 18 0 42
+
+# streams: the rows of the next set are gathered
+>@ greeting first last
+> conn|query 0 X|stream 0|item 0|unstream 0|collect 0|next 0
+<@ connected
+< 2 ok|3 ok|4 row b:31|5 ok|6 rows 1 [b:33]|7 none
+<. sent 0
+judge 140 0 545 33 0 138
+
+# streams: the rows of the next set are gathered, once what is left was held
+>@ greeting held_first last
+> conn|query 0 X|stream 0|collect 0|poll 0|poll 0|item 0
+<@ connected
+< 2 ok|3 ok|4 pending|5 pending|6 rows 1 [b:33]|7 none
+<. sent 0
+judge 128 0 463 33 0 132
+
+# streams: a row of the next set is read, once what is left was held
+>@ greeting held_first last
+> conn|query 0 X|stream 0|next 0|poll 0|poll 0|item 0
+<@ connected
+< 2 ok|3 ok|4 pending|5 pending|6 row b:33|7 none
+<. sent 0
+judge 124 0 439 30 3 114
+
+# streams: a gathering that passes over the set is cancelled
+>@ greeting held_first last
+> conn|query 0 X|stream 0|collect 0|cancel 0|next 0|poll 0
+<@ connected
+< 2 ok|3 ok|4 pending|5 ok|6 pending|7 row b:33
+<. sent 0
+judge 127 0 488 30 3 129
+
+# streams: the link fails in what is passed over
+>@ greeting head
+> packet 0 3 0131|fail 0|conn|query 0 X|stream 0|collect 0|item 0|unstream 0
+<@ connected
+< 2 ok|3 ok|4 error Io Link|5 none|6 ok
+<. sent 0
+judge 94 0 264 17 0 38
+
+# streams: reads on a closed connection
+>@ greeting set
+> conn|query 0 X|stream 0|quit 0|next 0|collect 0|item 0|unstream 0
+<@ connected
+< 2 ok|3 ok|4 ok|5 error Driver ConnectionClosed|6 error Driver ConnectionClosed|7 none|8 ok
+<. sent 0
+judge 124 1 436 18 0 42
 
 # streams: one without rows
 >@ greeting ok
@@ -361,18 +425,18 @@ judge 104 0 302 21 0 51
 > conn|item 0|query 0 X|stream 0|item 0|unstream 0|stream 0|fields 0|item 0|item 0|item 0|stream 0
 <@ connected
 < 2 refused NoSuchHandle|3 ok|4 ok|5 row b:31 b:32|6 ok|7 ok|8 ok affected=0 insert=- warnings=0 status=10 info=b:
-< 9 row b:35 b:36|10 end|11 refused NoSuchHandle|12 none
+< 9 row b:35 b:36|10 end|11 none|12 none
 <@ sent x taken
 lost 7 5
-judge 225 0 1322 39 0 210
+judge 225 0 1313 39 0 210
 
 # streams: passing over that is held, and polled
 >@ greeting held_first last_without_turn
 > conn|query 0 X|stream 0|stream 0|poll 0|poll 0|item 0|next 0|unstream 0
 <@ connected
-< 2 ok|3 ok|4 pending|5 pending|6 ok|7 row b:33|8 end|9 refused NoSuchHandle
+< 2 ok|3 ok|4 pending|5 pending|6 ok|7 row b:33|8 none|9 ok
 <@ sent x taken
-judge 169 0 763 33 0 141
+judge 171 0 792 33 0 141
 
 # streams: a head that is cancelled closes
 >@ greeting held_first last_without_turn

@@ -212,7 +212,7 @@ judge 93 0 260 24 0 66
 >@ greeting began set ok
 > conn|begin 0|query 0 SELECT 1|stream 0|rollback 0|item 0
 <@ connected
-< 2 ok|3 ok|4 ok|5 ok|6 refused NoSuchHandle
+< 2 ok|3 ok|4 ok|5 ok|6 none
 <@ sent begin select_1 rollback taken
 judge 100 0 302 24 0 75
 

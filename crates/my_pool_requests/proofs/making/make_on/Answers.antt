@@ -1,10 +1,7 @@
-use Rattle.std.proofs.Common.{ap, refl, subst}
+use Rattle.std.proofs.Common.{refl, subst}
 use Rattle.my_conn.specs.Connected.{ConnectIs}
-use Rattle.my_conn.specs.Conn.{ConnSeen}
-use Rattle.my_conn.specs.declared.connecting.Connected.{Connected}
 use Rattle.my_conn.specs.declared.connecting.Connected.TheVariants as connecteds
-use Rattle.my_pool_requests.specs.declared.making.Made.TheVariants as makings
-use Rattle.my_pool_requests.proofs.Seeking.{judged-fits}
+use Rattle.my_pool_requests.proofs.Being.{made-fit, stays-being}
 use Rattle.my_pool_requests.proofs.making.make_on.Goals as goal
 
 pub returns-in-Pending-clause-makes : goal.returns-in-Pending-clause-makes
@@ -20,7 +17,7 @@ returns-in-Made-clause-makes g c = record {
   connected = connecteds.Made c.in-Made.conn;
   met = c.poll-connected.result.1;
   connects = subst (λ x. ConnectIs g.L.Link.looks (g.A.AfterConnect.texts c.args.aid.now) c.args.now c.args.making c.poll-connected.result.1 x) c.in-Made.is c.poll-connected.ensures.connects;
-  comes = c.judged.ensures.judged;
+  comes = refl;
 }
 
 pub returns-in-Failed-clause-makes : goal.returns-in-Failed-clause-makes
@@ -28,8 +25,15 @@ returns-in-Failed-clause-makes g c = record {
   connected = connecteds.Failed c.in-Failed.left;
   met = c.poll-connected.result.1;
   connects = subst (λ x. ConnectIs g.L.Link.looks (g.A.AfterConnect.texts c.args.aid.now) c.args.now c.args.making c.poll-connected.result.1 x) c.in-Failed.is c.poll-connected.ensures.connects;
-  comes = ap makings.Failed c.into_error.ensures;
+  comes = refl;
 }
 
+pub returns-in-Pending-clause-fits : goal.returns-in-Pending-clause-fits
+returns-in-Pending-clause-fits g c =
+    stays-being g.L.Link.looks (g.A.AfterConnect.texts c.args.aid.now) c.args.now c.args.making c.in-Pending.making c.poll-connected.result.1 c.requires
+    (subst (λ x. ConnectIs g.L.Link.looks (g.A.AfterConnect.texts c.args.aid.now) c.args.now c.args.making c.poll-connected.result.1 x) c.in-Pending.is c.poll-connected.ensures.connects)
+
 pub returns-in-Made-clause-fits : goal.returns-in-Made-clause-fits
-returns-in-Made-clause-fits g c = judged-fits c.in-Made.conn c.judged.result c.judged.ensures.judged
+returns-in-Made-clause-fits g c =
+    made-fit g.L.Link.looks (g.A.AfterConnect.texts c.args.aid.now) c.args.now c.args.making c.in-Made.conn c.poll-connected.result.1 c.requires
+    (subst (λ x. ConnectIs g.L.Link.looks (g.A.AfterConnect.texts c.args.aid.now) c.args.now c.args.making c.poll-connected.result.1 x) c.in-Made.is c.poll-connected.ensures.connects)

@@ -10,7 +10,7 @@ use Rattle.my_script.specs.Numbered.{named_statement, statement_named, statement
 use Rattle.my_script.specs.Beside.{beside_by}
 use Rattle.my_script.specs.Streams.{target}
 use Rattle.my_run.specs.Headline.{SoFar}
-use Rattle.my_run.proofs.MadeBeside.{found_same}
+use Rattle.my_run.proofs.MadeBeside.{aim_same, found_same}
 use Rattle.my_run.proofs.Runs.{none_yet, step_on, stands_at, count_up}
 use Rattle.my_run.proofs.Stopping.{err_at, stopped_at}
 use Rattle.my_run.proofs.run.run_each.Goals as goal
@@ -27,8 +27,9 @@ loop-i-preserved g c =
       so_far = λ plans same.
           let u = so.so_far plans same in
           let found = c.is_found-found.ensures ∙ found_same c.loop-i.beside u.0.lines (target c.index-steps-i.result) c.index-steps-i.result u.1 in
+          let aimed = c.aim-aim.ensures ∙ aim_same c.loop-i.beside u.0.lines (target c.index-steps-i.result) u.1 in
           let named = c.statement_for-named.ensures ∙ ap (statement_named (named_statement c.index-steps-i.result)) u.2 in
-          let r = step_on g.N.L.Link.looks (login_of c.args.opts.now) plans (course_of (g.N.Dialer.seen c.args.world.now)) (g.N.Dialer.seen c.loop-i.world) (g.N.Dialer.seen c.run_step.new.world) (take c.loop-i.i c.args.steps.now) _ c.loop-i.slots.items c.run_step.new.slots.items c.loop-i.answers.items c.push.new.self.items c.index-steps-i.result a c.is_found-found.result (option_copied c.statement_for-named.result) u.0 found named (did.steps plans u.0.awaited u.0.stood) did.counts did.chance did.back (count_up c.loop-i.i c.args.steps.now c.loop-i-test.true) grown next in
+          let r = step_on g.N.L.Link.looks (login_of c.args.opts.now) plans (course_of (g.N.Dialer.seen c.args.world.now)) (g.N.Dialer.seen c.loop-i.world) (g.N.Dialer.seen c.run_step.new.world) (take c.loop-i.i c.args.steps.now) _ c.loop-i.slots.items c.run_step.new.slots.items c.loop-i.answers.items c.push.new.self.items c.index-steps-i.result a c.is_found-found.result c.aim-aim.result (option_copied c.statement_for-named.result) u.0 found aimed named (did.steps plans u.0.awaited u.0.stood) did.counts did.chance did.back (count_up c.loop-i.i c.args.steps.now c.loop-i-test.true) grown next in
           (r.0, λ n. c.in_ok-note.ensures n ∙ ap (λ s. beside_by n s c.index-steps-i.result c.in_ok-did.did.outcome) (u.1 n) ∙ sym (r.1 n), c.in_ok-note-2.ensures.ok ∙ ap (λ s. statements_by s c.index-steps-i.result c.in_ok-did.did.outcome) u.2 ∙ sym r.2);
       takes = c.run_step.ensures.takes ∙ so.takes;
     }

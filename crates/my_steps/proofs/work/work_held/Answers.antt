@@ -11,7 +11,7 @@ use Rattle.my_steps.proofs.Working.{work_at_is, held_did, dropped_did}
 use Rattle.my_steps.proofs.work.work_held.Goals as goal
 
 pub returns-in-Poll-clause-did : goal.returns-in-Poll-clause-did
-returns-in-Poll-clause-did g c = IfOk-weaker c.dial_at.result.1 _ _ (λ d f plans awaited w. work_at_is g.N.L.Link.looks (login_of c.args.opts.now) plans (g.N.Dialer.seen c.args.world.now).plans (g.N.Dialer.seen c.dial_at.new.world).plans c.args.number c.args.work.now works.Poll d.outcome d.uses.items Held c.dial_at.result.0 c.in-Poll.is (dial_resumed g.N.L.Link.looks (login_of c.args.opts.now) c.args.number plans (g.N.Dialer.seen c.args.world.now).plans (g.N.Dialer.seen c.dial_at.new.world).plans c.dial_at.result.0 d.outcome d.uses.items awaited f)) c.dial_at.ensures.dialed
+returns-in-Poll-clause-did g c = IfOk-weaker c.dial_at.result.1 _ _ (λ d f plans awaited w. work_at_is g.N.L.Link.looks (login_of c.args.opts.now) plans (g.N.Dialer.seen c.args.world.now).plans (g.N.Dialer.seen c.dial_at.new.world).plans c.args.number c.args.work.now (works.Poll c.in-Poll.field-0) d.outcome d.uses.items Held c.dial_at.result.0 c.in-Poll.is (dial_resumed g.N.L.Link.looks (login_of c.args.opts.now) c.in-Poll.field-0 c.args.number plans (g.N.Dialer.seen c.args.world.now).plans (g.N.Dialer.seen c.dial_at.new.world).plans c.dial_at.result.0 d.outcome d.uses.items awaited f)) c.dial_at.ensures.dialed
 
 pub returns-in-Cancel-clause-did : goal.returns-in-Cancel-clause-did
 returns-in-Cancel-clause-did g c = λ plans awaited w. work_at_is g.N.L.Link.looks (login_of c.args.opts.now) plans (g.N.Dialer.seen c.args.world.now).plans (g.N.Dialer.seen c.args.world.now).plans c.args.number c.args.work.now works.Cancel c.unused.result.outcome c.unused.result.uses.items Held Gone c.in-Cancel.is (dropped_did g.N.L.Link.looks (login_of c.args.opts.now) plans (g.N.Dialer.seen c.args.world.now).plans c.args.number c.unused.result.outcome c.unused.result.uses.items c.unused.ensures.outcome c.unused.ensures.uses)

@@ -13,7 +13,7 @@ invariant_of-self g c =
     let i = c.self.inside in
     let w = c.self.invariant in
     let at = c.check_ttl-moved.ensures.state in
-    whole-step _ i.core c.check_ttl-moved.new.self (events.CheckTtl c.args.now) i.shelf i.shelf i.wakers i.wakers _ _ w
+    whole-step _ i.core c.check_ttl-moved.new.self (events.CheckTtl c.args.now) i.shelf i.shelf i.wakers i.wakers _ _ _ w
     refl at (λ e. cc)
     (rw at (aged-stored (is_aged c.args.now i.core.limits.inactive) true i.core (check_ttl c.args.now i.core) i.shelf.kept w.stored (places-move i.core (events.CheckTtl c.args.now) w.sound refl)))
     (omega arith)

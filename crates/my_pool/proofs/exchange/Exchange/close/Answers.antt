@@ -10,7 +10,7 @@ pub invariant_of-self : goal.invariant_of-self
 invariant_of-self g c =
     let i = c.self.inside in
     let w = c.self.invariant in
-    whole-step _ i.core c.close.new.self events.Close i.shelf i.shelf i.wakers c.call_closed.new.self _ _ w
+    whole-step _ i.core c.close.new.self events.Close i.shelf i.shelf i.wakers c.call_closed.new.self _ _ _ w
     refl c.close.ensures (λ e. cc)
     (rw c.close.ensures (stored-still i.core (close i.core) i.shelf.kept w.stored (places-move i.core events.Close w.sound refl)))
     (omega arith)

@@ -18,7 +18,7 @@ invariant_of-self g c =
     let n = c.args.number in
     let leased : is_lease n i.core ≡ true = ap (λ p. is_lease n p.state) c.self.view_is ∙ c.requires in
     let may = may-give-back i.core n leased in
-    whole-step _ i.core c.detach.new.self (events.Detach n) i.shelf i.shelf i.wakers c.call_at.new.self _ _ w
+    whole-step _ i.core c.detach.new.self (events.Detach n) i.shelf i.shelf i.wakers c.call_at.new.self _ _ _ w
     may c.detach.ensures (λ e. cc)
     (rw c.detach.ensures (holding-stored is_leased_place n None i.core (detach n i.core) i.shelf.kept w.stored (places-move i.core (events.Detach n) w.sound may) (λ k o. o) (leased-absent n i.core i.shelf.kept w.stored leased)))
     (omega arith)

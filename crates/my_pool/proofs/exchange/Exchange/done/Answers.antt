@@ -1,3 +1,4 @@
+use Rattle.std.specs.Prelude.{is_some}
 use Rattle.std.proofs.Common.{◌≡◌, Some, true, None, sym, ap, ◌∙◌, refl, subst}
 use Rattle.my_pool_parts.specs.Lists.{found_is}
 use Rattle.my_pool_parts.specs.declared.connection.Place.TheVariants.{Resetting}
@@ -7,16 +8,19 @@ use Rattle.my_pool_core.specs.Events.{done}
 use Rattle.my_pool_core.specs.Owners.{place_at}
 use Rattle.my_pool_core.specs.Wakes.{frees}
 use Rattle.my_pool_core.proofs.Placed.Allowing.{may-done}
-use Rattle.my_pool_store.specs.Shelves.{Entry, kept_at}
+use Rattle.my_pool_store.specs.Shelves.{Entry, kept_at, numbered, with_left}
 use Rattle.my_pool_store.specs.Woken.{called_at}
+use Rattle.my_pool_store.proofs.Leaving.{done-leaves, leaving-stays}
 use Rattle.my_pool.specs.Fit.{IsFit, IsStill}
+use Rattle.my_pool.specs.Pools.{tape_of}
+use Rattle.my_pool.proofs.Burying.{verdict-fits, verdict-room}
 use Rattle.my_pool.proofs.Deciding.{done-stored}
 use Rattle.my_pool.proofs.Waiting.{oldest-ages, at-most-oldest}
-use Rattle.my_pool.proofs.Wholes.{in-hand-room, whole-step}
+use Rattle.my_pool.proofs.Wholes.{in-hand-room, whole-went}
 use Rattle.my_pool.proofs.exchange.Exchange.done.Goals as goal
 
-pub put_by-requires : goal.put_by-requires
-put_by-requires g c =
+pub put_by-rest-requires : goal.put_by-rest-requires
+put_by-rest-requires g c =
     let i = c.self.inside in
     let w = c.self.invariant in
     let n = c.out.inside.number in
@@ -24,6 +28,21 @@ put_by-requires g c =
     let at : found_is (is_ending_place ok) (place_at n i.core) ≡ true = ap (λ p. found_is (is_ending_place ok) (place_at n p.state)) c.self.view_is ∙ ap (λ e. found_is (is_ending_place ok) (place_at e.number c.args.self.now.state)) c.out.view_is ∙ c.requires.done.place in
     let out : kept_at n i.shelf.kept ≡ None = ap (λ p. kept_at n p.kept) c.self.view_is ∙ ap (λ e. kept_at e.number c.args.self.now.kept) c.out.view_is ∙ c.requires.done.out in
     in-hand-room (is_ending_place ok) n c.out.inside.conn i.core i.shelf w.shelf_room w.stored at out
+
+pub bury-requires : goal.bury-requires
+bury-requires g c = λ some.
+    let i = c.self.inside in
+    let w = c.self.invariant in
+    let n = c.out.inside.number in
+    let ok = c.args.ok in
+    let at : found_is (is_ending_place ok) (place_at n i.core) ≡ true = ap (λ p. found_is (is_ending_place ok) (place_at n p.state)) c.self.view_is ∙ ap (λ e. found_is (is_ending_place ok) (place_at e.number c.args.self.now.state)) c.out.view_is ∙ c.requires.done.place in
+    let may = may-done i.core n ok at in
+    let facts = c.facts_at-facts.result in
+    let t = c.done-verdict.new.self in
+    let is = c.done-verdict.ensures.state in
+    verdict-room c.done-verdict.result c.out.inside.conn i.core t i.gone w.gone_room
+    (λ e. rw is (done-leaves n ok facts c.args.now i.core may (sym c.done-verdict.ensures.answer ∙ e)))
+    (ap is_some (sym c.put_by-rest.ensures.rest) ∙ some)
 
 pub invariant_of-self : goal.invariant_of-self
 invariant_of-self g c =
@@ -42,12 +61,17 @@ invariant_of-self g c =
     let t = c.done-verdict.new.self in
     let is = c.done-verdict.ensures.state in
     let may = may-done i.core n ok at in
-    whole-step _ i.core t (events.Done n ok facts c.args.now) i.shelf c.put_by.new.self i.wakers c.call_at.new.self _ _ w
+    whole-went _ i.core t (events.Done n ok facts c.args.now) i.shelf c.put_by-rest.new.self i.wakers c.call_at.new.self _ _ i.gone c.bury.new.gone w
     may is (λ e. cc)
-    (rw (c.put_by.ensures.kept, is, c.done-verdict.ensures.answer, c.facts_at-facts.ensures) (done-stored n ok v c.args.now i.core i.shelf.kept w.sound w.stored at out still fit))
-    c.put_by.ensures.room
+    (rw (c.put_by-rest.ensures.kept, is, c.done-verdict.ensures.answer, c.facts_at-facts.ensures) (done-stored n ok v c.args.now i.core i.shelf.kept w.sound w.stored at out still fit))
+    c.put_by-rest.ensures.room
     (c.call_at.ensures.ages ∙ ap (λ o. called_at o t i.wakers.ages) c.oldest_waiting-oldest.ensures ∙ oldest-ages i.core t (events.Done n ok facts c.args.now) i.wakers.ages w.sound may is (at-most-oldest i.core (frees (done n ok facts c.args.now i.core).answer)) (λ a. refl) w.called_once w.called)
     c.call_at.ensures.room c.note.ensures
+    (verdict-fits c.done-verdict.result n v i.core t i.gone c.bury.new.gone w.gone_room
+    (λ e. rw is (done-leaves n ok facts c.args.now i.core may (sym c.done-verdict.ensures.answer ∙ e)))
+    (rw is (leaving-stays i.core (events.Done n ok facts c.args.now) w.sound may (λ e. cc)))
+    (c.bury.ensures.kept ∙ ap (λ r. with_left (numbered n (tape_of r)) i.gone.kept) c.put_by-rest.ensures.rest)
+    c.bury.ensures.room)
 
 pub returns-clause-called : goal.returns-clause-called
 returns-clause-called g c =

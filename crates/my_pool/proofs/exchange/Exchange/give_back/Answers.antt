@@ -23,7 +23,7 @@ invariant_of-self g c =
     let leased : is_lease n i.core ≡ true = ap (λ p. is_lease n p.state) c.self.view_is ∙ c.requires.leased in
     let may = may-give-back i.core n leased in
     let at = give-back-stored n c.args.conn i.core i.shelf.kept w.sound w.stored leased c.requires.still in
-    whole-step _ i.core c.give_back.new.self (events.GiveBack n) i.shelf c.put.new.self i.wakers i.wakers _ _ w
+    whole-step _ i.core c.give_back.new.self (events.GiveBack n) i.shelf c.put.new.self i.wakers i.wakers _ _ _ w
     may c.give_back.ensures (λ e. cc)
     (rw (c.give_back.ensures, c.put.ensures.kept) at) c.put.ensures.room
     (quiet-ages i.core c.give_back.new.self (events.GiveBack n) i.wakers.ages w.sound may c.give_back.ensures (λ a. refl) (λ a. refl) w.called)

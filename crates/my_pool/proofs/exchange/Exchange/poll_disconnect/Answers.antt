@@ -8,7 +8,7 @@ pub invariant_of-self : goal.invariant_of-self
 invariant_of-self g c =
     let i = c.self.inside in
     let w = c.self.invariant in
-    whole-step _ i.core i.core events.PollDisconnect i.shelf i.shelf i.wakers i.wakers _ _ w
+    whole-step _ i.core i.core events.PollDisconnect i.shelf i.shelf i.wakers i.wakers _ _ _ w
     refl refl (λ e. cc) w.stored (omega arith)
     (quiet-ages i.core i.core events.PollDisconnect i.wakers.ages w.sound refl refl (λ a. refl) (λ a. refl) w.called)
     refl c.note.ensures

@@ -20,7 +20,7 @@ use Rattle.my_pool_store.specs.Woken.{kept_for}
 use Rattle.my_pool_store.proofs.Calling.{waker-room, kept-waits, kept-once, left-of}
 use Rattle.my_pool.proofs.Requesting.{poll-gives, poll-stored, polled-own, polled-waits}
 use Rattle.my_pool.proofs.Waiting.{own-ages}
-use Rattle.my_pool.proofs.Wholes.{whole-event}
+use Rattle.my_pool.proofs.Wholes.{whole-event, still-fits}
 use Rattle.my_pool.proofs.exchange.Exchange.poll_request.Goals as goal
 
 wait-is : (a : PollAnswer) → is_wait a ≡ true → a ≡ Wait
@@ -80,13 +80,14 @@ invariant_of-self g c =
     let e = first-true c.is_wait.result (is_some c.args.waker) k in
     ap (waits age) c.poll_request-answer.ensures.state ∙ polled-waits age c.args.now i.core w.sound free (sym c.poll_request-answer.ensures.answer ∙ wait-is answer (sym c.is_wait.ensures ∙ e))
     in
-    whole-event _ i.core t (events.PollRequest age c.args.now) i.shelf c.take_by-conn.new.self i.wakers c.keep_where-rest.new.self _ _ w
+    whole-event _ i.core t (events.PollRequest age c.args.now) i.shelf c.take_by-conn.new.self i.wakers c.keep_where-rest.new.self _ _ _ i.gone w
     may c.poll_request-answer.ensures.state (λ e. cc)
     (rw c.take_by-conn.ensures.kept (poll-stored answer c.args.now i.core t i.shelf.kept w.stored told))
     (omega (arith, c.take_by-conn.ensures.room))
     (rw kept (kept-waits age keeps t i.wakers.ages here))
     (λ b. rw kept (kept-once age b keeps t i.wakers.ages w.called_once))
     (omega (arith, c.keep_where-rest.ensures.room, c.forget.ensures.room)) c.note.ensures
+    (still-fits _ i.core t (events.PollRequest age c.args.now) i.shelf i.wakers _ i.gone w may c.poll_request-answer.ensures.state (λ e. cc))
 
 pub returns-clause-fit : goal.returns-clause-fit
 returns-clause-fit g c =

@@ -28,4 +28,4 @@ invariant_of-self g c =
     let there : place_at n i.core ≡ Some r.place = ap (λ p. place_at n p.state) c.self.view_is ∙ ap (λ e. place_at e.number c.args.self.now.state) c.out.view_is ∙ r.there in
     let out : kept_at n i.shelf.kept ≡ None = ap (λ p. kept_at n p.kept) c.self.view_is ∙ ap (λ e. kept_at e.number c.args.self.now.kept) c.out.view_is ∙ r.out in
     let may : MayWork r.place v = subst (λ (e : Entry _). MayWork r.place e.conn) (sym c.out.view_is) r.works in
-    whole-same _ i.core i.shelf c.put.new.self i.wakers _ w (rw c.put.ensures.kept (back-stored n v i.core i.shelf.kept r.place w.stored there r.working out may)) c.put.ensures.room
+    whole-same _ i.core i.shelf c.put.new.self i.wakers _ _ w (rw c.put.ensures.kept (back-stored n v i.core i.shelf.kept r.place w.stored there r.working out may)) c.put.ensures.room

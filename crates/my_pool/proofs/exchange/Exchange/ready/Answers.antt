@@ -22,7 +22,7 @@ invariant_of-self g c =
     let held : token age i.core ≡ Some r.has = ap (λ p. token age p.state) c.self.view_is ∙ r.held in
     let may = may-settle i.core age n r.has held r.number in
     let absent = held-absent age n r.has i.core i.shelf.kept w.sound w.stored held r.number in
-    whole-step _ i.core c.ready.new.self (events.Ready age n) i.shelf i.shelf i.wakers i.wakers _ _ w
+    whole-step _ i.core c.ready.new.self (events.Ready age n) i.shelf i.shelf i.wakers i.wakers _ _ _ w
     may c.ready.ensures (λ e. cc)
     (rw c.ready.ensures (holding-stored is_held_place n (Some Leased) i.core (ready age n i.core) i.shelf.kept w.stored (places-move i.core (events.Ready age n) w.sound may) (λ k o. o) absent))
     (omega arith)

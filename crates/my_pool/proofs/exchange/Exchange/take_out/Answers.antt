@@ -10,14 +10,14 @@ invariant_of-self g c =
     let i = c.self.inside in
     let w = c.self.invariant in
     let at : is_working c.args.number i.core ≡ true = ap (λ p. is_working c.args.number p.state) c.self.view_is ∙ c.requires in
-    whole-same _ i.core i.shelf c.take.new.self i.wakers _ w (rw c.take.ensures.kept (out-stored c.args.number i.core i.shelf.kept w.stored at)) (omega (arith, c.take.ensures.room))
+    whole-same _ i.core i.shelf c.take.new.self i.wakers _ _ w (rw c.take.ensures.kept (out-stored c.args.number i.core i.shelf.kept w.stored at)) (omega (arith, c.take.ensures.room))
 
 pub invariant_of-self-2 : goal.invariant_of-self-2
 invariant_of-self-2 g c =
     let i = c.self.inside in
     let w = c.self.invariant in
     let at : is_working c.args.number i.core ≡ true = ap (λ p. is_working c.args.number p.state) c.self.view_is ∙ c.requires in
-    whole-same _ i.core i.shelf c.take.new.self i.wakers _ w (rw c.take.ensures.kept (out-stored c.args.number i.core i.shelf.kept w.stored at)) (omega (arith, c.take.ensures.room))
+    whole-same _ i.core i.shelf c.take.new.self i.wakers _ _ w (rw c.take.ensures.kept (out-stored c.args.number i.core i.shelf.kept w.stored at)) (omega (arith, c.take.ensures.room))
 
 pub returns-in_default-clause-kept : goal.returns-in_default-clause-kept
 returns-in_default-clause-kept g c =

@@ -25,7 +25,7 @@ invariant_of-self g c =
     let w = c.self.invariant in
     let o = takes-one c.in-Some.number i.core w.sound _ c.take_returned-next.ensures.answer c.in-Some.is in
     let at = c.take_returned-next.ensures.state in
-    whole-step _ i.core c.take_returned-next.new.self events.TakeReturned i.shelf c.take.new.self i.wakers i.wakers _ _ w
+    whole-step _ i.core c.take_returned-next.new.self events.TakeReturned i.shelf c.take.new.self i.wakers i.wakers _ _ _ w
     refl at (λ e. cc)
     (rw (c.take.ensures.kept, at) (taken-stored c.in-Some.number i.core i.shelf.kept w.stored o))
     (omega (arith, c.take.ensures.room))
@@ -37,7 +37,7 @@ invariant_of-self-in-None g c =
     let i = c.self.inside in
     let w = c.self.invariant in
     let at = c.take_returned-next.ensures.state in
-    whole-step _ i.core c.take_returned-next.new.self events.TakeReturned i.shelf i.shelf i.wakers i.wakers _ _ w
+    whole-step _ i.core c.take_returned-next.new.self events.TakeReturned i.shelf i.shelf i.wakers i.wakers _ _ _ w
     refl at (λ e. cc)
     (rw at (takes-none i.core i.shelf.kept w.sound w.stored _ c.take_returned-next.ensures.answer c.in-None.is))
     (omega arith)

@@ -1,22 +1,6 @@
-use Rattle.std.proofs.Common.{Ok, Err, refl}
 use Rattle.my_query.proofs.queryable.Queryable.exec_map.Goals as goal
 
-pub returns-in-Ok-clause-maps : goal.returns-in-Ok-clause-maps
-returns-in-Ok-clause-maps g c = (
-  record { items = c.new.result; f = c.args.f },
-  c.new.ensures.items,
-  refl,
-  Ok c.in-Ok.mapped,
-  refl,
-  (c.execute-begun.result, g.Self.Calls.conn_of c.execute-begun.new.conn, c.execute-begun.ensures.executes, c.in-Ok.ensures.reads),
-)
-
-pub returns-in-Err-clause-maps : goal.returns-in-Err-clause-maps
-returns-in-Err-clause-maps g c = (
-  record { items = c.new.result; f = c.args.f },
-  c.new.ensures.items,
-  refl,
-  Err c.in-Err.error,
-  refl,
-  (c.execute-begun.result, g.Self.Calls.conn_of c.execute-begun.new.conn, c.execute-begun.ensures.executes, c.in-Err.ensures.reads),
-)
+pub returns-clause-maps : goal.returns-clause-maps
+returns-clause-maps g c =
+    let w = c.map_answer.ensures.maps in
+    (w.0, w.1, w.2, w.3, w.4, (c.execute-begun.result, g.Self.Calls.conn_of c.execute-begun.new.conn, c.execute-begun.ensures.executes, w.5))

@@ -1,20 +1,6 @@
-use Rattle.std.proofs.Common.{Ok, Err, refl}
 use Rattle.my_query.proofs.queryable.Queryable.query.Goals as goal
 
-pub returns-in-Ok-clause-collects : goal.returns-in-Ok-clause-collects
-returns-in-Ok-clause-collects g c = (
-  record { items = c.new.result },
-  c.new.ensures.items,
-  Ok c.in-Ok.collected,
-  refl,
-  (c.send_text-begun.result, g.Self.Calls.conn_of c.send_text-begun.new.conn, c.send_text-begun.ensures.query, c.in-Ok.ensures.reads),
-)
-
-pub returns-in-Err-clause-collects : goal.returns-in-Err-clause-collects
-returns-in-Err-clause-collects g c = (
-  record { items = c.new.result },
-  c.new.ensures.items,
-  Err c.in-Err.error,
-  refl,
-  (c.send_text-begun.result, g.Self.Calls.conn_of c.send_text-begun.new.conn, c.send_text-begun.ensures.query, c.in-Err.ensures.reads),
-)
+pub returns-clause-collects : goal.returns-clause-collects
+returns-clause-collects g c =
+    let w = c.collect_answer.ensures.collects in
+    (w.0, w.1, w.2, w.3, (c.send_text-begun.result, g.Self.Calls.conn_of c.send_text-begun.new.conn, c.send_text-begun.ensures.query, w.4))

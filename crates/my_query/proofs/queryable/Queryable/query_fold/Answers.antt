@@ -1,16 +1,6 @@
-use Rattle.std.proofs.Common.{Ok, Err, refl}
 use Rattle.my_query.proofs.queryable.Queryable.query_fold.Goals as goal
 
-pub returns-in-Ok-clause-folds : goal.returns-in-Ok-clause-folds
-returns-in-Ok-clause-folds g c = (
-  Ok c.in-Ok.folded,
-  refl,
-  (c.send_text-begun.result, g.Self.Calls.conn_of c.send_text-begun.new.conn, c.send_text-begun.ensures.query, c.in-Ok.ensures.reads),
-)
-
-pub returns-in-Err-clause-folds : goal.returns-in-Err-clause-folds
-returns-in-Err-clause-folds g c = (
-  Err c.in-Err.error,
-  refl,
-  (c.send_text-begun.result, g.Self.Calls.conn_of c.send_text-begun.new.conn, c.send_text-begun.ensures.query, c.in-Err.ensures.reads),
-)
+pub returns-clause-folds : goal.returns-clause-folds
+returns-clause-folds g c =
+    let w = c.fold_answer.ensures.folds in
+    (w.0, w.1, (c.send_text-begun.result, g.Self.Calls.conn_of c.send_text-begun.new.conn, c.send_text-begun.ensures.query, w.2))

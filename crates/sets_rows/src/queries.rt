@@ -1,17 +1,14 @@
 //! Texts, and statements with their parameters, that are run at a client.
 
-use crate::answers::{failed, shown};
-use crate::link::Near;
 use my_sets::{BatchQuery, Params, Query, QueryError, Value, WithParams, positional};
+use near_rows::{Near, Numbered, failed, shown};
 use std::alloc::{AllocError, Global};
-
-type Numbered = (u64, String);
 
 const TEXT: &str = "SELECT n, t FROM people";
 
 const STATEMENT: &str = "SELECT ?";
 
-fn folded(sum: u64, row: (u64, String)) -> u64 {
+fn folded(sum: u64, row: Numbered) -> u64 {
     sum.wrapping_mul(10).wrapping_add(row.0)
 }
 

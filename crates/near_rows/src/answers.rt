@@ -1,6 +1,6 @@
 //! What reads return, as texts.
 
-use my_sets::{Error, FromRowError, QueryError};
+use my_connect::{Error, QueryError};
 use std::alloc::{AllocError, Global};
 use std::fmt::Debug;
 
@@ -18,6 +18,9 @@ pub fn failed(error: Error) -> &'static str {
     drop(error);
     word
 }
+
+/// A person: a number, and a name.
+pub type Numbered = (u64, String);
 
 /// What an error of a call that converts rows is.
 pub fn refused(error: &QueryError) -> &'static str {
@@ -50,27 +53,13 @@ pub fn add(text: &mut String, word: &str) -> Result<(), AllocError> {
     Ok(())
 }
 
-/// What each row became.
-pub fn kinds<T: Drop>(
-    alloc: Global,
-    tried: Result<Vec<Result<T, FromRowError>>, QueryError>,
-) -> Result<String, AllocError> {
-    let mut text = String::new(alloc);
-    let mut well = Ok(());
-    match &tried {
-        Ok(items) => {
-            for item in items {
-                let word = match item {
-                    Ok(_) => "Ok",
-                    Err(FromRowError::Row(_)) => "row",
-                    Err(FromRowError::NoMemory) => "memory",
-                };
-                well = add(&mut text, word);
-            }
-        }
-        Err(error) => well = add(&mut text, refused(error)),
+/// Which person was read.
+pub fn number_word(read: &Result<Option<Numbered>, QueryError>) -> &'static str {
+    match read {
+        Ok(Some((7, _))) => "7",
+        Ok(Some((9, _))) => "9",
+        Ok(Some(_)) => "a number",
+        Ok(None) => "end",
+        Err(error) => refused(error),
     }
-    drop(tried);
-    well?;
-    Ok(text)
 }

@@ -1,63 +1,22 @@
-//! What is left of a result, and streams that own it.
+//! Streams that own their result.
 
-use crate::answers::{add, failed, refused, shown};
-use crate::link::Near;
-use crate::reads::Answer;
 use my_sets::{
     BinaryProtocol, IntoStream, Lent, Params, QueryError, Results, SetStream, Streams,
-    TextProtocol, Unread, Value, positional,
+    TextProtocol, Value, positional, take_first,
 };
+use near_rows::{Near, Numbered, add, failed, number_word, shown};
 use std::alloc::{AllocError, Global};
-
-type Numbered = (u64, String);
 
 type Own<'a> = SetStream<Lent<'a, Near>, Numbered, TextProtocol>;
 
 type OwnNumbers<'a> = SetStream<Lent<'a, Near>, u64, BinaryProtocol>;
-
-// What is left of a result: the number of columns of its next set, or whether a further set follows.
-fn left_word(answer: &Answer<'_>) -> &'static str {
-    let shared = match answer.columns() {
-        Ok(Some(columns)) => columns.len(),
-        Ok(None) | Err(_) => 0,
-    };
-    match (answer.is_empty(), answer.columns_ref().len()) {
-        (true, 0) => "none",
-        (false, 0) => "further",
-        (false, 1) if shared == 1 => "1",
-        (false, 2) if shared == 2 => "2",
-        _ => "wrong",
-    }
-}
-
-/// What is left before each of five reads.
-pub fn unread(alloc: Global, answer: &mut Answer<'_>) -> Result<String, AllocError> {
-    let mut text = String::new(alloc);
-    for _ in 0..5u8 {
-        let word = left_word(answer);
-        let read = answer.next(alloc);
-        drop(read);
-        add(&mut text, word)?;
-    }
-    Ok(text)
-}
-
-fn item_word(read: &Result<Option<Numbered>, QueryError>) -> &'static str {
-    match read {
-        Ok(Some((7, _))) => "7",
-        Ok(Some((9, _))) => "9",
-        Ok(Some(_)) => "a number",
-        Ok(None) => "end",
-        Err(error) => refused(error),
-    }
-}
 
 // Four reads of a stream, and whether it ended after each.
 fn four(alloc: Global, stream: &mut Own<'_>) -> Result<String, AllocError> {
     let mut text = String::new(alloc);
     for _ in 0..4u8 {
         let read = stream.next(alloc);
-        let word = item_word(&read);
+        let word = number_word(&read);
         drop(read);
         add(&mut text, word)?;
         add(&mut text, if stream.is_terminated() { "." } else { "," })?;
@@ -82,6 +41,14 @@ fn facts(alloc: Global, stream: &Own<'_>) -> Result<String, AllocError> {
     format!(in alloc; "{columns} {shared} {is_ok} {rows} {id:?} {warnings} {noted}")
 }
 
+// What is collected, and then what is collected after that.
+fn again(alloc: Global, stream: &mut Own<'_>) -> Result<String, AllocError> {
+    let mut text = shown(alloc, stream.collect(alloc))?;
+    let rest = shown(alloc, stream.collect(alloc))?;
+    add(&mut text, rest.as_str())?;
+    Ok(text)
+}
+
 fn read(alloc: Global, stream: Own<'_>, how: &str) -> Result<String, AllocError> {
     let mut stream = stream;
     match how {
@@ -90,6 +57,7 @@ fn read(alloc: Global, stream: Own<'_>, how: &str) -> Result<String, AllocError>
             let collected = stream.collect(alloc);
             shown(alloc, collected)
         }
+        "again" => again(alloc, &mut stream),
         _ => four(alloc, &mut stream),
     }
 }
@@ -112,6 +80,17 @@ pub fn owned(alloc: Global, client: &mut Near, how: &str) -> Result<String, Allo
 pub fn queried(alloc: Global, client: &mut Near, how: &str) -> Result<String, AllocError> {
     match client.query_stream::<Numbered, _>(alloc, &"SELECT n, t FROM people") {
         Ok(stream) => read(alloc, stream, how),
+        Err(error) => String::from_str(alloc, failed(error)),
+    }
+}
+
+/// What a stream returns of a set that is taken first.
+pub fn taken(alloc: Global, client: &mut Near) -> Result<String, AllocError> {
+    match take_first(client, alloc, "SELECT n, t FROM people") {
+        Ok(set) => {
+            let mut stream = Own::of(client, set);
+            shown(alloc, stream.collect(alloc))
+        }
         Err(error) => String::from_str(alloc, failed(error)),
     }
 }

@@ -1,11 +1,11 @@
 //! A client of a server in memory, which plays packets.
 
-use crate::rows::PARTS;
+use crate::parts::PARTS;
+use my_connect::{Client, Conn, Error};
 use my_frame::{Blob, NoMemory};
 use my_link::{DialStep, Dialer, MemLink, ReadyLink};
 use my_opts::Opts;
 use my_opts_parts::limits::LONGEST_URL;
-use my_sets::{Client, Conn, Error};
 use my_world::{MemWorld, World, WorldLine};
 use std::alloc::Global;
 
