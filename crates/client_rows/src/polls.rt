@@ -3,41 +3,17 @@
 ghost use Rattle.std.specs.Prelude.{◌≡◌, None};
 ghost use Rattle.my_line.specs.Calls.{MayPoll};
 
-use crate::aid::Script;
-use crate::answers::{Word, word_of};
 use crate::facts::fact;
-use crate::given::{begin_of, change_of, copy_of, lists_of, params_of};
-use crate::words::blob_of;
 use my_calls::{
     CallState, ChangeUserCall, CloseCall, DropCall, ExecCall, NextCall, PingCall, Poll, PoolCall,
     PrepCall, QueryCall, QuitCall, ResetCall, Returns, StreamCall, TxCall,
 };
-use my_conn::{Conn, Connected, Connecting};
-use my_link::{Link, Met, NoAid};
+use my_conn::Conn;
+use my_link::{Link, NoAid};
 use my_reading::Call;
 use my_statements::Statement;
+use near_talks::{Word, begin_of, blob_of, change_of, copy_of, lists_of, params_of, word_of};
 use std::alloc::Global;
-
-/// Polls the making of a connection while it is pending, at most `polls` times, at the moment 5. With it comes what the last poll met.
-pub fn made<L: Link + Drop>(
-    alloc: Global,
-    connecting: Connecting<L>,
-    polls: u64,
-    texts: &str,
-) -> (Connected<L>, Met) {
-    let mut aid = Script { texts };
-    let mut connecting = connecting;
-    let mut last = Met::nothing();
-    'polls: for _ in 0..polls {
-        let (connected, met) = connecting.poll(alloc, &mut aid, 5);
-        match connected {
-            Connected::Pending(next) => connecting = next,
-            done => return (done, met),
-        }
-        last = met;
-    }
-    (Connected::Pending(connecting), last)
-}
 
 // A call was cancelled.
 fn cancelled<L>(conn: &Conn<L>) -> &'static str {

@@ -1,21 +1,15 @@
 //! Talks are played.
 
-use crate::answers::{failed, failure};
 use crate::facts::is_none;
-use crate::link::{link_of, opts_of};
 use crate::polled::{HELD, POLLED};
-use crate::polls::{made, polled};
-use crate::queries::asked;
+use crate::polls::polled;
 use crate::tapes::{add_taken, is_taped};
-use crate::waiting::{ASKED, WAITING};
+use crate::waiting::WAITING;
 use crate::waits::{ended, waited};
-use crate::words::{answer_of, field, first_line};
-use my_conn::{Conn, Connected, Connecting};
+use my_conn::{Conn, Connected};
 use my_frame::NoMemory;
-use my_link::{MemLink, Met, ReadyLink};
-use my_opts::Opts;
-use my_opts_parts::limits::LONGEST_URL;
-use my_reading::Error;
+use my_link::{MemLink, Met};
+use near_talks::{Waiting, answer_of, begun, failed, failure, field, first_line, made, new_by};
 use std::alloc::Global;
 use std::test::Fail;
 
@@ -81,27 +75,6 @@ fn is_met(met: Met, answer: &str) -> bool {
         && met.refused == u64::from(answer == "error rejected")
 }
 
-/// A connection that is being made, with options.
-pub fn begun(alloc: Global, talk: &str, hold: usize) -> Result<Connecting<MemLink>, NoMemory> {
-    let opts = opts_of(alloc)?;
-    match link_of(alloc, &opts, talk, hold) {
-        Ok(link) => {
-            let keep = field(talk, 0) != "connect_untaped";
-            match Connecting::new(alloc, opts, link, 3, 0, keep) {
-                Ok(connecting) => Ok(connecting),
-                Err(link) => {
-                    drop(link);
-                    Err(NoMemory)
-                }
-            }
-        }
-        Err(NoMemory) => {
-            drop(opts);
-            Err(NoMemory)
-        }
-    }
-}
-
 // Whether a talk is polled so, where the link isn't ready once before the byte of the number `hold`.
 fn is_polled(alloc: Global, talk: &str, hold: usize) -> bool {
     let (polls, call) = polls_of(talk);
@@ -115,45 +88,6 @@ fn is_polled(alloc: Global, talk: &str, hold: usize) -> bool {
             right && is_met(met, answer_of(first_line(talk)))
         }
         Err(NoMemory) => false,
-    }
-}
-
-/// A connection whose calls wait.
-pub type Waiting = Conn<ReadyLink<MemLink>>;
-
-fn new_by_url(alloc: Global, url: &str, link: ReadyLink<MemLink>) -> Result<Waiting, Error> {
-    if url.len() > LONGEST_URL {
-        drop(link);
-        return Err(Error::NoMemory);
-    }
-    match Conn::from_url(alloc, url, link, 5, 0) {
-        Ok(conn) => Ok(conn),
-        Err(left) => Err(left.into_error()),
-    }
-}
-
-fn new_by_opts(alloc: Global, opts: Opts, link: ReadyLink<MemLink>) -> Result<Waiting, Error> {
-    match Conn::new(alloc, opts, link, 5, 0) {
-        Ok(conn) => Ok(conn),
-        Err(left) => Err(left.into_error()),
-    }
-}
-
-/// Connects with options, or by the URL of the row.
-pub fn new_by(alloc: Global, talk: &str) -> Result<Waiting, Error> {
-    let opts = opts_of(alloc)?;
-    match link_of(alloc, &opts, talk, usize::MAX) {
-        Ok(link) => match field(talk, 0).strip_prefix("connect ") {
-            Some(url) => {
-                drop(opts);
-                new_by_url(alloc, url, ReadyLink::new(link))
-            }
-            None => new_by_opts(alloc, opts, ReadyLink::new(link)),
-        },
-        Err(NoMemory) => {
-            drop(opts);
-            Err(Error::NoMemory)
-        }
     }
 }
 
@@ -183,35 +117,6 @@ pub fn is_waited(alloc: Global, talk: &str) -> bool {
     match new_by(alloc, talk) {
         Ok(conn) => ends_right(alloc, conn, talk),
         Err(error) => answer_of(first_line(talk)) == failed(error) && is_short(talk),
-    }
-}
-
-fn asks_on(alloc: Global, conn: &mut Waiting, talk: &str) -> bool {
-    let mut held = None;
-    let mut well = true;
-    for line in talk.lines().skip(1) {
-        match asked(alloc, conn, &mut held, field(line, 0)) {
-            Ok(text) => well = well && text.as_str() == field(line, 2),
-            Err(_) => well = false,
-        }
-    }
-    drop(held);
-    well
-}
-
-// Whether the calls of a talk return at once what it says.
-fn is_asked(alloc: Global, talk: &str) -> bool {
-    match new_by(alloc, talk) {
-        Ok(conn) => {
-            let mut conn = conn;
-            let right = asks_on(alloc, &mut conn, talk);
-            drop(conn);
-            right
-        }
-        Err(error) => {
-            drop(error);
-            false
-        }
     }
 }
 
@@ -250,16 +155,5 @@ fn talks_wait(rt: HostRuntime) -> Result<(), Fail> {
         }
     }
     assert!(rt; ran == 43);
-    Ok(())
-}
-
-#[test]
-fn ample_query(rt: HostRuntime) -> Result<(), Fail> {
-    let mut ran = 0u64;
-    for talk in ASKED.split("\n\n") {
-        assert!(rt; is_asked(rt.alloc(), talk), "{talk}");
-        ran = ran.wrapping_add(1);
-    }
-    assert!(rt; ran == 17);
     Ok(())
 }

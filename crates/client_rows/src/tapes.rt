@@ -1,7 +1,7 @@
 //! Tapes as text, and what the lines of a talk say of its tape.
 
-use crate::words::{add_digits, digits_of, field};
 use my_client::{Said, Tape};
+use near_talks::{add_digits, digits_of, field};
 use std::alloc::{AllocError, Global};
 
 // How a call ended.

@@ -2,14 +2,12 @@
 
 ghost use Rattle.std.specs.Prelude.{◌≡◌, None};
 
-use crate::answers::{failed, word_of};
 use crate::facts::fact;
-use crate::given::change_of;
 use crate::library::count_rows;
-use crate::sends::sent;
 use my_conn::Conn;
 use my_link::BlockingLink;
 use my_statements::Statement;
+use near_talks::{change_of, failed, sent, word_of};
 use std::alloc::Global;
 
 // The number of rows of a query, which is one.

@@ -6,8 +6,7 @@ use crate::rows::ROWS;
 use crate::transcripts::{answers_of, is_finding, script_of, tape_of};
 use my_frame::NoMemory;
 use my_grammar::Login;
-use my_plan_judge::judge_run;
-use my_run_judge::{Found, judge_connection};
+use my_run_judge::{Found, judge_connection, judge_run};
 use my_script::{Script, StepAnswer, Tape};
 use std::alloc::Global;
 use std::slice;
@@ -90,6 +89,6 @@ fn transcripts_are_judged(rt: HostRuntime) -> Result<(), Fail> {
             }
         }
     }
-    assert!(rt; ran == 45);
+    assert!(rt; ran == 49);
     Ok(())
 }

@@ -1,6 +1,6 @@
 //! What the judges find, as rows of text: of tapes that `my_judge` accepts, and of changes of each; and of transcripts
-//! that `my_run_judge` and `my_plan_judge` find right, and others that they refute. The bytes are those of the public
-//! pages of the protocol. This crate has tests alone.
+//! that `my_run_judge` finds right, and others that it refutes. The bytes are those of the public pages of the protocol.
+//! This crate has tests alone.
 #![tactic(auto)]
 
 #[cfg(test)]

@@ -106,6 +106,21 @@ user 0 bob secret shop | ok | 11 | user 0 bob secret shop | @to_bob | @ok
 user 0 = = = | ok | 11 | user 0 = = = | @to_root | @ok
 = wrong 2
 
+# a closed connection refuses a call at once, which isn't polled
+
+conn | conn 0 id=7 version=8.0.36 | 0 89 | connect | @response | @greeting
+quit 0 | ok | 0 | quit | @quit
+ping 0 | error Driver ConnectionClosed || ping
+= right
+ping 0 | error Driver ConnectionClosed | 0 | ping
+= wrong 3
+
+conn | conn 0 id=7 version=8.0.36 | 0 89 | connect | @response | @greeting
+quit 0 | ok | 0 | quit | @quit
+= right
+ping 0 | pending | hold | ping
+= wrong 2
+
 # dials over plans: a link comes once no wait is left, and each hold is a wait
 
 conn | pending | hold

@@ -4,7 +4,7 @@ use crate::lines::{add_bytes, field};
 use my_frame::NoMemory;
 use my_handshake::ServerVersion;
 use my_link::Met;
-use my_reading::{Answer, Call, Error, IoError, IoFault, IoKind};
+use my_reading::{Answer, Call, DriverError, Error, IoError, IoFault, IoKind};
 use my_script::{Outcome, Read, Script, Step, StepAnswer, Tape, TapeCall, Use, read_script};
 use std::alloc::{AllocError, Global};
 
@@ -59,6 +59,9 @@ fn outcome_of(word: &str) -> Outcome {
             kind: IoKind::Dial,
             place: 0,
         }))),
+        "error Driver ConnectionClosed" => {
+            Outcome::Failed(Error::Driver(DriverError::ConnectionClosed))
+        }
         "conn 0 id=7 version=8.0.36" => {
             let version = ServerVersion {
                 mariadb: false,
@@ -108,11 +111,8 @@ pub fn answers_of(alloc: Global, row: &str, lines: usize) -> Result<Vec<StepAnsw
     Ok(answers)
 }
 
-// The call that makes the connection, or a change of user by the words of a step.
-fn call_of(alloc: Global, text: &str) -> Result<Call, NoMemory> {
-    if text == "connect" {
-        return Ok(Call::Connect);
-    }
+// A change of user by the words of a step.
+fn change_of(alloc: Global, text: &str) -> Result<Call, NoMemory> {
     let mut script = script_in(alloc, text)?;
     let step = script.steps.pop();
     drop(script);
@@ -122,6 +122,24 @@ fn call_of(alloc: Global, text: &str) -> Result<Call, NoMemory> {
             drop(other);
             Err(NoMemory)
         }
+    }
+}
+
+fn call_of(alloc: Global, text: &str) -> Result<Call, NoMemory> {
+    match text {
+        "connect" => Ok(Call::Connect),
+        "ping" => Ok(Call::Ping),
+        "quit" => Ok(Call::Quit),
+        _ => change_of(alloc, text),
+    }
+}
+
+// What the call of a line with this outcome returned.
+fn returned(outcome: &str) -> Option<Result<Answer, Error>> {
+    match outcome {
+        "pending" => None,
+        "error Driver ConnectionClosed" => Some(Err(Error::Driver(DriverError::ConnectionClosed))),
+        _ => Some(Ok(Answer::Ready)),
     }
 }
 
@@ -144,7 +162,7 @@ fn add_call(
 fn add_line(alloc: Global, tape: &mut Tape, line: &str) -> Result<(), NoMemory> {
     let call = field(line, 3);
     if !call.is_empty() {
-        add_call(alloc, tape, call, Some(Ok(Answer::Ready)))?;
+        add_call(alloc, tape, call, returned(field(line, 1)))?;
         add_bytes(alloc, &mut tape.sent, field(line, 4))?;
         add_bytes(alloc, &mut tape.taken, field(line, 5))?;
     }

@@ -189,7 +189,8 @@ impl CallState<Transact, ()> {
         CallState::first(Call::Begin(opts))
     }
 
-    /// The transaction is committed. Where the server answers with an error, it is rolled back before that error is returned.
+    /// The transaction is committed. Where the server answers with an error, it is rolled back before that error is
+    /// returned.
     pub fn commit() -> TxCall
         ensures { result ≡ first_state calls.Commit }
     {

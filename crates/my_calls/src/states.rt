@@ -131,8 +131,8 @@ impl<K, R: Returns> CallState<K, R> {
         }
     }
 
-    /// Polls it once, at the moment `now`, in milliseconds. The first poll begins the call; after it returned it isn't polled
-    /// again. The aid is asked for nothing.
+    /// Polls it once, at the moment `now`, in milliseconds. The first poll begins the call; after it returned it
+    /// isn't polled again. The aid is asked for nothing.
     pub fn poll<L: Link, A: Aid>(
         &mut self,
         alloc: Global,

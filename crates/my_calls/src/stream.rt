@@ -87,8 +87,8 @@ impl StreamCall {
         }
     }
 
-    /// Polls it once, at the moment `now`, in milliseconds: whether a set was there, of which the stream reads the rows, or
-    /// nothing is left. After it returned it isn't polled again. The aid is asked for nothing.
+    /// Polls it once, at the moment `now`, in milliseconds: whether a set was there, of which the stream reads the
+    /// rows, or nothing is left. After it returned it isn't polled again. The aid is asked for nothing.
     pub fn poll<L: Link, A: Aid>(
         &mut self,
         alloc: Global,

@@ -39,26 +39,9 @@ made_lives : (now n : ℕ) (a b : View) → Lives now n a b → made_in b ≡ ma
 made_lives now n a b w = ap (λ (l : Lifetime). first_lifetime l.opts l.is_socket l.deadline) w.lifetime
 
 no_pending : (c : CallKind) → Pending ≡ lost_answer c → ⊥
-no_pending Connect e = cc
-no_pending Query e = cc
-no_pending Prepare e = cc
-no_pending Execute e = cc
-no_pending Batch e = cc
-no_pending CloseStmt e = cc
-no_pending NextRow e = cc
-no_pending DropResult e = cc
-no_pending TakeSet e = cc
-no_pending SkipTaken e = cc
-no_pending Ping e = cc
-no_pending Reset e = cc
-no_pending ChangeUser e = cc
-no_pending Begin e = cc
-no_pending Commit e = cc
-no_pending Rollback e = cc
 no_pending ForgetTransaction e = cc
-no_pending CleanForPool e = cc
-no_pending ResetForPool e = cc
 no_pending Quit e = cc
+no_pending _ e = cc
 
 pending_fails : (e : Error) → Pending ≡ Failed e → ⊥
 pending_fails e w = cc
@@ -161,26 +144,9 @@ module _ {L : Type 0} (look : L → Looks) (kind : CallKind) (call : Call) (old 
   result_lost r e f = by_kind kind (subst (λ (p : After). Results p r) e f)
     where
       by_kind : (c : CallKind) → Results (lost_answer c) r → r ≡ lost_result c
-      by_kind Connect f = f
-      by_kind Query f = f
-      by_kind Prepare f = f
-      by_kind Execute f = f
-      by_kind Batch f = f
-      by_kind CloseStmt f = f
-      by_kind NextRow f = f
-      by_kind DropResult f = f
-      by_kind TakeSet f = f
-      by_kind SkipTaken f = f
-      by_kind Ping f = f
-      by_kind Reset f = f
-      by_kind ChangeUser f = f
-      by_kind Begin f = f
-      by_kind Commit f = f
-      by_kind Rollback f = f
       by_kind ForgetTransaction f = f
-      by_kind CleanForPool f = f
-      by_kind ResetForPool f = f
       by_kind Quit f = f
+      by_kind _ f = f
 
   none_after : (r : Result Answer Error) → Results after r → pending_after kind after ≡ None
   none_after r e = by_after after e

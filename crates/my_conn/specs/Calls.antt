@@ -25,8 +25,8 @@ lost_answer ForgetTransaction = Answered answers.Ready
 lost_answer Quit = Answered answers.Ready
 lost_answer _ = Failed connection_closed
 
--- One poll of a call, at this moment. For all that the connection may have done before there is what it did then: the same, and this
--- poll. A connection that runs out of memory is lost, and keeps no tape.
+-- One poll of a call, at this moment. For all that the connection may have done before there is what it did then: the
+-- same, and this poll. A connection that runs out of memory is lost, and keeps no tape.
 pub record CallIs {L : Type 0} (look : L → Looks) (now : ℕ) (c : CallKind) (call : Option Call) (old new : ConnSeen L) (m : Met)
     (after : After) : Type 0 where
   pub each : old.lost ≡ false → new.lost ≡ false → (login : Login) (k : Kept)

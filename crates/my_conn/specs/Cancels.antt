@@ -1,8 +1,10 @@
--- What the cancelling of a call does.
-use Rattle.std.specs.Prelude.{◌≡◌, Some, None, false, is_some}
+-- What the cancelling of a call, and of the making of a connection, does.
+use Rattle.std.specs.Prelude.{◌≡◌, Option, Some, None, false, is_some}
 use Rattle.my_grammar.specs.declared.login.Login.{Login}
 use Rattle.my_client.specs.Kept.{Asked, Kept}
-use Rattle.my_line.specs.Cancels.{cancelled_by}
+use Rattle.my_client.specs.declared.tape.Tape.{Tape}
+use Rattle.my_session.specs.Sessions.{Seen}
+use Rattle.my_line.specs.Cancels.{EachCancel, cancelled_by}
 use Rattle.my_line.specs.Stands.{StandsFor}
 use Rattle.my_conn.specs.Conn.{ConnSeen}
 
@@ -17,3 +19,8 @@ pub record CancelIs {L : Type 0} (old new : ConnSeen L) : Type 0 where
   pub lifetime : new.lifetime ≡ old.lifetime
   pub lost : new.lost ≡ old.lost
   pub fixed : new.fixed ≡ old.fixed
+
+-- The open call of a connection that is being made is cancelled: its tape has how it ended, for all that it may have
+-- done before where that call waited for the link.
+abbrev pub MakingCancels : Seen → Option Tape → Option Tape → Type 0
+MakingCancels s p q = (t : Seen) × EachCancel s t p q

@@ -10,8 +10,8 @@ use Rattle.my_client.specs.Kept.{Kept}
 use Rattle.my_line.specs.Stands.{StandsFor}
 use Rattle.my_conn.specs.declared.conn.Fixed.{Fixed}
 
--- its session, and what that was made with; its link; its tape, where one is kept; the kind of the open call; whether it is lost; and
--- what no call changes
+-- its session, and what that was made with; its link; its tape, where one is kept; the kind of the open call; whether
+-- it is lost; and what no call changes
 pub record ConnSeen (L : Type 0) : Type 0 where
   pub seen : Seen
   pub lifetime : Lifetime

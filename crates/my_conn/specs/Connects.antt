@@ -14,7 +14,8 @@ use Rattle.my_line.specs.declared.texts.Making.{Making}
 use Rattle.my_conn.specs.declared.conn.Fixed.{Fixed}
 use Rattle.my_conn.specs.declared.unmade.Unmade.{Unmade}
 
--- its session, and what that was made with; its link; its tape, where one is kept; which call of it is open; and what no call changes
+-- its session, and what that was made with; its link; its tape, where one is kept; which call of it is open; and what
+-- no call changes
 pub record ConnectSeen (L : Type 0) : Type 0 where
   pub seen : Seen
   pub lifetime : Lifetime

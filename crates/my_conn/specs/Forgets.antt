@@ -6,8 +6,9 @@ use Rattle.my_line.specs.Forgets.{forgotten}
 use Rattle.my_line.specs.Stands.{StandsFor}
 use Rattle.my_conn.specs.Conn.{ConnSeen}
 
--- For all that the connection may have done before there is what it did then: the same, and a call that gave the transaction up, which was
--- answered before a byte was sent or taken; the link wasn't used. Out of memory, the connection is lost, and keeps no tape.
+-- For all that the connection may have done before there is what it did then: the same, and a call that gave the
+-- transaction up, which was answered before a byte was sent or taken; the link wasn't used. Out of memory, the
+-- connection is lost, and keeps no tape.
 pub record ForgetIs {L : Type 0} (old new : ConnSeen L) : Type 0 where
   pub each : old.lost ≡ false → new.lost ≡ false → (login : Login) (k : Kept) → StandsFor login old.seen old.tape None k
       → StandsFor login new.seen new.tape None (forgotten k)

@@ -16,11 +16,13 @@ use Rattle.my_conn.specs.Conn.{ConnSeen, session_of}
 use Rattle.my_conn.specs.declared.conn.Fixed.{Fixed}
 use Rattle.my_conn.specs.declared.unmade.Unmade.{Unmade}
 
--- what a connection is before its first call: no pool handed it out, and whether it is to be reset is as the options say
+-- what a connection is before its first call: no pool handed it out, and whether it is to be reset is as the options
+-- say
 abbrev pub first_fixed : OptsView → ℕ → Fixed
 first_fixed opts now = record { now = now; pooled = false; reset = opts.pool_opts.reset_connection }
 
--- what is handed in for a connection: how its link looks, whether that is a local socket, the moment, and a random number
+-- what is handed in for a connection: how its link looks, whether that is a local socket, the moment, and a random
+-- number
 pub record Given : Type 0 where
   pub looks : Looks
   pub is_socket : Bool
@@ -57,8 +59,8 @@ NewIs look opts g (Err u) = IsUnmade look opts g u
 abbrev pub untaped : {L : Type 0} → Error → L → Unmade L
 untaped error link = record { error = error; link = link; tape = None }
 
--- Connecting by a text that reads as these options is connecting with them. A text that gives none is refused with its cause, unless
--- memory ran out, and the link is handed back as it came.
+-- Connecting by a text that reads as these options is connecting with them. A text that gives none is refused with
+-- its cause, unless memory ran out, and the link is handed back as it came.
 abbrev pub FromUrlIs : {L : Type 0} → (L → Looks) → Result OptsView UrlError → Given → L → Result (ConnSeen L) (Unmade L) → Type 0
 FromUrlIs look (Ok opts) g link result = NewIs look opts g result
 FromUrlIs look (Err e) g link result = (result ≡ Err (untaped (errors.Url e) link)) ⊎ (result ≡ Err (untaped errors.NoMemory link))

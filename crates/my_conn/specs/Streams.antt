@@ -1,4 +1,5 @@
--- What the taking of a set by a stream does, by calls that wait: the rest of a set that an earlier stream took is passed over first.
+-- What the taking of a set by a stream does, by calls that wait: the rest of a set that an earlier stream took is
+-- passed over first.
 use Rattle.std.specs.Prelude.{◌≡◌, Bool, true, false}
 use Rattle.std.specs.declared.result.Result.{Result}
 use Rattle.std.specs.declared.result.Result.TheVariants.{Ok, Err}

@@ -14,24 +14,7 @@ pub(crate) fn lost_answer(kind: CallKind) -> After
 {
     match kind {
         CallKind::ForgetTransaction | CallKind::Quit => After::Answered(Answer::Ready),
-        CallKind::Connect
-        | CallKind::Query
-        | CallKind::Prepare
-        | CallKind::Execute
-        | CallKind::Batch
-        | CallKind::CloseStmt
-        | CallKind::NextRow
-        | CallKind::DropResult
-        | CallKind::TakeSet
-        | CallKind::SkipTaken
-        | CallKind::Ping
-        | CallKind::Reset
-        | CallKind::ChangeUser
-        | CallKind::Begin
-        | CallKind::Commit
-        | CallKind::Rollback
-        | CallKind::CleanForPool
-        | CallKind::ResetForPool => After::Failed(Error::Driver(DriverError::ConnectionClosed)),
+        _ => After::Failed(Error::Driver(DriverError::ConnectionClosed)),
     }
 }
 

@@ -142,9 +142,9 @@ impl<L> Conn<L> {
         self.session.wait_timeout()
     }
 
-    /// Whether the rest of a response is unread (rows, a further set, or the end of a lone OK), or the server has a transaction, which
-    /// is open or given up. Where it isn't, and no call is open, a connection that isn't disconnected is clean: it may go to its
-    /// next user.
+    /// Whether the rest of a response is unread (rows, a further set, or the end of a lone OK), or the server has a
+    /// transaction, which is open or given up. Where it isn't, and no call is open, a connection that isn't
+    /// disconnected is clean: it may go to its next user.
     pub fn is_dirty(&self) -> bool
         ensures value { result ≡ is_dirty self.now.seen }
         ensures clean { EachClean self.now result }
@@ -259,8 +259,8 @@ impl<L: Link> Conn<L> {
     ghost use Rattle.my_conn.specs.Cancels.{CancelIs};
     ghost use Rattle.my_conn.specs.Checks.{CheckedIs};
 
-    /// Polls a call of this kind once, at the moment `now`, in milliseconds: `call` begins, or where there is none, the open one
-    /// continues.
+    /// Polls a call of this kind once, at the moment `now`, in milliseconds: `call` begins, or where there is none,
+    /// the open one continues.
     pub fn poll_call(
         &mut self,
         alloc: Global,
@@ -309,8 +309,8 @@ impl<L: Link> Conn<L> {
         self.pending = None;
     }
 
-    /// Whether its link is alive, while nothing is expected from it, and what was met. It is dead where bytes were received that no
-    /// call read.
+    /// Whether its link is alive, while nothing is expected from it, and what was met. It is dead where bytes were
+    /// received that no call read.
     pub fn check(&mut self) -> (CheckStep, Met)
         ensures { CheckedIs L.looks self.old self.new result.1 result.0 }
     {
@@ -325,8 +325,8 @@ impl<L: Link> Conn<L> {
 impl<L> Conn<L> {
     ghost use Rattle.my_conn.specs.Forgets.{ForgetIs};
 
-    /// Gives the transaction up, where the server has one: it is rolled back before the next command. Nothing is sent, and nothing is
-    /// waited for.
+    /// Gives the transaction up, where the server has one: it is rolled back before the next command. Nothing is
+    /// sent, and nothing is waited for.
     pub fn forget_transaction(&mut self)
         requires { self.old.pending ≡ None }
         ensures { ForgetIs self.old self.new }

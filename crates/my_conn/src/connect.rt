@@ -17,11 +17,11 @@ use my_reading::Error;
 use std::alloc::Global;
 
 impl<L: BlockingLink> Conn<L> {
-    /// Connects over this link, and waits until the connection is made. It keeps no tape, and no text follows the login. Where it
-    /// fails, the link is handed back with the cause.
+    /// Connects over this link, and waits until the connection is made. It keeps no tape, and no text follows the
+    /// login. Where it fails, the link is handed back with the cause.
     ///
-    /// `now` is the moment, in milliseconds. Where the options say that a connection ends, `random` picks among the moments of
-    /// its end.
+    /// `now` is the moment, in milliseconds. Where the options say that a connection ends, `random` picks among the
+    /// moments of its end.
     pub fn new(
         alloc: Global,
         opts: Opts,

@@ -6,6 +6,7 @@ ghost use Rattle.my_session.specs.View.{first_lifetime};
 ghost use Rattle.my_client.specs.Kept.{first_asked, first_kept};
 ghost use Rattle.my_line.specs.Makes.{ConnectsFor};
 ghost use Rattle.my_line.specs.declared.texts.Making.TheVariants.{Shakes};
+ghost use Rattle.my_conn.specs.Cancels.{MakingCancels};
 ghost use Rattle.my_conn.specs.Connected.{ConnectIs};
 ghost use Rattle.my_conn.specs.Connects.{kept_by};
 ghost use Rattle.my_conn.specs.News.{first_fixed};
@@ -14,7 +15,7 @@ use crate::conn::{Conn, Fixed};
 use crate::unmade::Unmade;
 use my_client::{Tape, TapedConn, begin_over};
 use my_frame::NoMemory;
-use my_line::{MakeStep, Making, make};
+use my_line::{MakeStep, Making, cancel_open, make};
 use my_link::{Aid, Link, Met};
 use my_opts::Opts;
 use my_reading::Error;
@@ -96,13 +97,33 @@ impl<L> Connecting<L> {
         drop(tape);
         link
     }
+
+    /// Cancels the open call, which gives the making up. Returns the tape, where one is kept, and the link. Nothing
+    /// is sent, and it takes no memory.
+    pub fn cancel(self) -> (Option<Tape>, L)
+        ensures cancels { MakingCancels self.seen self.tape result.0 }
+        ensures keeps { is_some result.0 ≡ is_some self.tape }
+        ensures link { result.1 ≡ self.link }
+    {
+        let Connecting {
+            mut session,
+            link,
+            mut tape,
+            at: _,
+            fixed: _,
+        } = self;
+        cancel_open(&mut session, &mut tape);
+        drop(session);
+        (tape, link)
+    }
 }
 
 impl<L: Link> Connecting<L> {
-    /// The handshake begins. Where `keep_tape` is set, the connection keeps all bytes and calls. Out of memory the link is returned.
+    /// The handshake begins. Where `keep_tape` is set, the connection keeps all bytes and calls. Out of memory the
+    /// link is returned.
     ///
-    /// `now` is the moment, in milliseconds. Where the options say that a connection ends, `random` picks among the moments of
-    /// its end.
+    /// `now` is the moment, in milliseconds. Where the options say that a connection ends, `random` picks among the
+    /// moments of its end.
     pub fn new(
         alloc: Global,
         opts: Opts,
@@ -136,9 +157,9 @@ impl<L: Link> Connecting<L> {
         })
     }
 
-    /// Continues the making of the connection: the handshake, and then each text that the aid tells, with its result read
-    /// whole before the next. Where it isn't made yet, the connection that is being made is returned; where it failed, what is left
-    /// of it. With it comes what was met.
+    /// Continues the making of the connection: the handshake, and then each text that the aid tells, with its result
+    /// read whole before the next. Where it isn't made yet, the connection that is being made is returned; where it
+    /// failed, what is left of it. With it comes what was met.
     ///
     /// `now` is the moment, in milliseconds. The aid is asked what follows, and for nothing else.
     pub fn poll<A: Aid>(self, alloc: Global, aid: &mut A, now: u64) -> (Connected<L>, Met)

@@ -129,8 +129,8 @@ impl<L: BlockingLink> Conn<L> {
         self.wait(alloc, CallKind::Query, Call::Query(text))
     }
 
-    /// Prepares a statement of this text, which may have named parameters, and waits for it. One that is cached is returned
-    /// at once.
+    /// Prepares a statement of this text, which may have named parameters, and waits for it. One that is cached is
+    /// returned at once.
     pub fn send_prepare(&mut self, alloc: Global, text: Blob) -> Result<Statement, Error>
         requires { self.old.pending ≡ None }
         ensures { PrepareIs L.looks text self.old self.new result }
@@ -230,9 +230,9 @@ impl<L: BlockingLink> Conn<L> {
         self.wait(alloc, CallKind::Ping, Call::Ping)
     }
 
-    /// Resets the server's session without a new login, and waits until that is done. An open transaction is rolled back; variables of
-    /// the session are as after the login; temporary tables, locks and prepared statements are gone, also those of the cache. Then the
-    /// texts of the option `setup` are sent again.
+    /// Resets the server's session without a new login, and waits until that is done. An open transaction is rolled
+    /// back; variables of the session are as after the login; temporary tables, locks and prepared statements are
+    /// gone, also those of the cache. Then the texts of the option `setup` are sent again.
     ///
     /// `false`: the server can't, and nothing was sent. MySQL can from 5.7.3 on, MariaDB from 10.2.4 on.
     pub fn reset(&mut self, alloc: Global) -> Result<bool, Error>
@@ -245,9 +245,9 @@ impl<L: BlockingLink> Conn<L> {
         }
     }
 
-    /// Changes the connection's user, and waits until that is done: the options get the account that the change gives them, the server
-    /// is told, and its session is a new one. Prepared statements are gone, also those of the cache. Then the texts of the option
-    /// `setup` are sent again.
+    /// Changes the connection's user, and waits until that is done: the options get the account that the change gives
+    /// them, the server is told, and its session is a new one. Prepared statements are gone, also those of the cache.
+    /// Then the texts of the option `setup` are sent again.
     pub fn change_user(&mut self, alloc: Global, change: ChangeUserOpts) -> Result<(), Error>
         requires { self.old.pending ≡ None }
         ensures { DoneIs L.looks kinds.ChangeUser (calls.ChangeUser change) self.old self.new result }

@@ -51,8 +51,8 @@ impl<L: BlockingLink> Conn<L> {
         }
     }
 
-    /// Lets a stream take the set that is read, or the next one, and waits for it. The rest of a set that an earlier stream
-    /// took is passed over first. `false`: nothing is left.
+    /// Lets a stream take the set that is read, or the next one, and waits for it. The rest of a set that an earlier
+    /// stream took is passed over first. `false`: nothing is left.
     pub fn take_set(&mut self, alloc: Global) -> Result<bool, Error>
         requires { self.old.pending ≡ None }
         ensures { StreamWaits L.looks self.old self.new result }

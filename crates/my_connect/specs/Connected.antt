@@ -63,14 +63,15 @@ abbrev pub MadeBy : {L : Type 0} → (L → Looks) → OptsView → Given → Wo
 MadeBy look opts g old new (Ok c) = IsNew look opts g c × (new ≡ old)
 MadeBy look opts g old new (Err e) = GivesUp look opts g old new e
 
--- Over the link that was dialed a connection was made with these options, or its making failed; without a link the cause is returned.
+-- Over the link that was dialed a connection was made with these options, or its making failed; without a link the
+-- cause is returned.
 abbrev pub MadeOver : {L : Type 0} → (L → Looks) → (L → Bool) → OptsView → Chances → Result L Error → WorldSeen → WorldSeen
     → Result (ConnSeen L) Error → Type 0
 MadeOver look socket opts told (Ok link) old new result = MadeBy look opts (given_by look socket link told.now told.random) old new result
 MadeOver look socket opts told (Err e) old new result = (result ≡ Err e) × (new ≡ old)
 
--- The world told the moment and its next random word, then the link was dialed, and a connection made over it. Where that failed, the
--- world took the link back.
+-- The world told the moment and its next random word, then the link was dialed, and a connection made over it. Where
+-- that failed, the world took the link back.
 pub record ConnectIs {L : Type 0} (look : L → Looks) (socket : L → Bool) (opts : OptsView) (old new : WorldSeen)
     (result : Result (ConnSeen L) Error) : Type 0 where
   pub told : Chances

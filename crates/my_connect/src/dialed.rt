@@ -90,9 +90,9 @@ where
     }
 }
 
-/// Connects with these options, and waits until the connection is made. The world dials the link, and tells the moment and a random
-/// word; a dial that gives none is an error of the kind `Dial`. Where the making fails, the world takes the link back. It keeps no
-/// tape, and no text follows the login.
+/// Connects with these options, and waits until the connection is made. The world dials the link, and tells the
+/// moment and a random word; a dial that gives none is an error of the kind `Dial`. Where the making fails, the world
+/// takes the link back. It keeps no tape, and no text follows the login.
 pub fn connect_with<W: World>(
     alloc: Global,
     opts: Opts,
@@ -113,8 +113,8 @@ where
     }
 }
 
-/// Connects to the server of this URL, as `connect_with` does with its options. A URL that gives none is refused, as is one of more than
-/// `LONGEST_URL` bytes, which is out of memory.
+/// Connects to the server of this URL, as `connect_with` does with its options. A URL that gives none is refused, as
+/// is one of more than `LONGEST_URL` bytes, which is out of memory.
 pub fn connect<W: World>(alloc: Global, url: &str, world: &mut W) -> Result<Client<W::L>, Error>
 where
     W::L: BlockingLink,

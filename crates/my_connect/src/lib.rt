@@ -1,5 +1,5 @@
-//! Clients: connections at which no call is open, by their type, and how one is made over a world. It hands on what a program needs
-//! beside them.
+//! Clients: connections at which no call is open, by their type, and how one is made over a world. It hands on what a
+//! program needs beside them.
 #![tactic(auto)]
 
 mod client;

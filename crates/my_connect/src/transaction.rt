@@ -22,7 +22,8 @@ use my_reading::Error;
 use my_statements::Statement;
 use std::alloc::Global;
 
-/// A transaction of a client that is lent. One that is let go is given up: it is rolled back before the client's next command.
+/// A transaction of a client that is lent. One that is let go is given up: it is rolled back before the client's next
+/// command.
 pub struct Transaction<'a, L> {
     client: &'a mut Client<L>,
 }

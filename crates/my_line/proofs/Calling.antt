@@ -37,7 +37,7 @@ use Rattle.my_client.proofs.Ending.{returned_read}
 use Rattle.my_client.proofs.Living.{lives_still, lives_then}
 use Rattle.my_client.proofs.Moving.{all_pending, said_at, started}
 use Rattle.my_client.proofs.Resting.{idle_at, rests_closed}
-use Rattle.my_line.specs.Calls.{CallFor, Does, EachCall, Leaves}
+use Rattle.my_line.specs.Calls.{CallFor, Does, EachCall, IsAdmitted, Leaves}
 
 -- what the tape keeps of it
 abbrev pub NotesCall : Option Tape → Option Tape → Call → Type 0
@@ -70,16 +70,20 @@ polled_call s t x y p q r m after within each noted login k w agrees =
       end = kept_after next a after;
       rests = rests_after login t next a after pending d.stands d.waits;
       agrees = noted next a u.noted pending;
-      does = inl (record { asked = a; pending = w.1.asked; polled = d.polled });
+      does = inl (record { admitted = tt; asked = a; pending = w.1.asked; polled = d.polled });
     }
 
 -- a call that begins
-does_begun : (login : Login) (call : Call) (x y : Looks) (k end : Kept) (m : Met) (after : After) → Does login None x y (asking k call None) end m after → Does login (Some call) x y k end m after
-does_begun login call x y k end m after (inl w) = inl (record { asked = w.asked; pending = w.pending; polled = w.polled })
-does_begun login call x y k end m after (inr w) = absurd (no_call w.given w.call_is)
+does_begun : (login : Login) (call : Call) (x y : Looks) (k end : Kept) (m : Met) (after : After) → IsAdmitted (Some call) k → Does login None x y (asking k call None) end m after → Does login (Some call) x y k end m after
+does_begun login call x y k end m after admitted (inl w) = inl (record { admitted = admitted; asked = w.asked; pending = w.pending; polled = w.polled })
+does_begun login call x y k end m after admitted (inr w) = absurd (no_call w.given w.call_is)
   where
     no_call : (c : Call) → None ≡ Some c → ⊥
     no_call c e = cc
+
+not_true : (b : Bool) → (b ≡ true → ⊥) → b ≡ false
+not_true true f = absurd (f refl)
+not_true false f = refl
 
 bool_cases : (b : Bool) → (b ≡ true) ⊎ (b ≡ false)
 bool_cases true = inl refl
@@ -106,7 +110,7 @@ begun_call s r t x y p q u call m after unrefused noted is each login k w agrees
       end = f.end;
       rests = f.rests;
       agrees = f.agrees;
-      does = does_begun login call x y k f.end m after f.does;
+      does = does_begun login call x y k f.end m after (ap (λ (b : Bool). is_refused b (kind_of call)) (rests_closed login s k w.0 w.1) ∙ not_true (is_refused s.closed (kind_of call)) unrefused) f.does;
     }
 
 -- a closed connection refuses it, and stands for that

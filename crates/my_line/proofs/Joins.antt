@@ -62,7 +62,7 @@ module _ (s t : Seen) (x y : Looks) (p q : Option Tape) (m : Met) (p1 : After) (
 
 -- it isn't made yet
 module _ (s t : Seen) (x y : Looks) (p q : Option Tape) (m : Met) (each : EachCall None s t x y p q m after.Pending) where
-  pub still : (login : Login) (k : Kept) (a : Asked) → ConnectsFor login s p k a → (end : Kept) × ConnectsFor login t q end a × IsPolled login a k x m after.Pending end y
+  pub still : (login : Login) (k : Kept) (a : Asked) → ConnectsFor login s p k a → (end : Kept) × ConnectsFor login t q end a × IsPolled login a k x m after.Pending end y × Rests login t end
   still login k a w =
       let f : Shook login t x y q m after.Pending k a = shook s t x y p q m after.Pending each login k a w in (
         f.end,
@@ -72,6 +72,7 @@ module _ (s t : Seen) (x y : Looks) (p q : Option Tape) (m : Met) (each : EachCa
           connects = w.connects;
         },
         f.polled,
+        f.rests,
       )
 
   pub pends : Connects s p → PendsBy after.Pending x y m

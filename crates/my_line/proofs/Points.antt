@@ -28,7 +28,10 @@ use Rattle.my_session.specs.Sessions.{Seen}
 use Rattle.my_session.specs.View.{View}
 use Rattle.my_client.specs.Lives.{Lives}
 use Rattle.my_client.specs.Polls.{moved_by}
+use Rattle.my_client.specs.Reads.{IsRead}
+use Rattle.my_client.specs.Stands.{Rests}
 use Rattle.my_client.proofs.Living.{lives_on, lives_still}
+use Rattle.my_client.proofs.Reading.{rests_read}
 use Rattle.my_line.specs.Calls.{AfterFits, Does, EachCall, MayPoll, MayStart, PendsBy, asked_for}
 use Rattle.my_line.specs.Makes.{AidRefuses, CallFails, ConnectsFor, GoesOn, IsMade, IsMaking, Leads, MakesFor, Point, Polls, StaysMaking, WhyNotMade, all_met, first_point}
 use Rattle.my_line.specs.Stands.{StandsFor}
@@ -76,17 +79,24 @@ ready (Failed e) = Failed e
 abbrev pub GoingAfter : Login → CallKind → Seen → Option Tape → Kept → After → Type 0
 GoingAfter login kind t q end Pending = GoesOn login kind None t q end
 GoingAfter login kind t q end (Answered answer) = StandsFor login t q None end
-GoingAfter login kind t q end (Failed e) = Agrees q end
+GoingAfter login kind t q end (Failed e) = Agrees q end × IsRead login end
 
 abbrev pub AfterMaking : Login → Making → Seen → Option Tape → Kept → After → Type 0
 AfterMaking login at t q end Pending = MakesFor login at None t q end
 AfterMaking login at t q end (Answered answer) = StandsFor login t q None end
 AfterMaking login at t q end (Failed e) = Agrees q end
 
+-- a call that is pending waits for its link, and one that failed is kept as the reading says
+abbrev pub AfterRests : Login → Seen → Kept → After → Type 0
+AfterRests login t end Pending = Rests login t end
+AfterRests login t end (Answered answer) = Unit {0}
+AfterRests login t end (Failed e) = IsRead login end
+
 pub record MadePoll (login : Login) (at : Making) (call : Option Call) (t : Seen) (x y : Looks) (q : Option Tape) (k : Kept) (m : Met) (after : After) : Type 0 where
   pub end : Kept
   pub does : Does login call x y k end m (ready after)
   pub leaves : AfterMaking login at t q end after
+  pub rests : AfterRests login t end after
 
 query_ready : (answer : Answer) → may_be Query (told answer) ≡ true → answer ≡ answers.Ready
 query_ready answers.Ready e = refl
@@ -108,13 +118,13 @@ module _ (login : Login) (s t : Seen) (x y : Looks) (p q : Option Tape) (m : Met
   shaking : (after : After) → EachCall None s t x y p q m after → (a : Asked) → ConnectsFor login s p k a → MadePoll login Shakes None t x y q k m after
   shaking Pending each a w =
       let f = still s t x y p q m each login k a w in
-      record { end = f.0; does = inl (record { asked = a; pending = w.asked.asked; polled = f.2 }); leaves = (refl, a, f.1) }
+      record { end = f.0; does = inl (record { admitted = tt; asked = a; pending = w.asked.asked; polled = f.2 }); leaves = (refl, a, f.1); rests = f.3 }
   shaking (Answered answer) each a w =
       let f = made s t x y p q m answer each login k a w in
-      record { end = f.0; does = inl (record { asked = a; pending = w.asked.asked; polled = f.2 }); leaves = f.1 }
+      record { end = f.0; does = inl (record { admitted = tt; asked = a; pending = w.asked.asked; polled = f.2 }); leaves = f.1; rests = tt }
   shaking (Failed e) each a w =
       let f : Shook login t x y q m (Failed e) k a = shook s t x y p q m (Failed e) each login k a w in
-      record { end = f.end; does = inl (record { asked = a; pending = w.asked.asked; polled = f.polled }); leaves = f.agrees }
+      record { end = f.end; does = inl (record { admitted = tt; asked = a; pending = w.asked.asked; polled = f.polled }); leaves = f.agrees; rests = rests_read login t f.end f.rests }
 
   going : (kind : CallKind) → ((answer : Answer) → may_be kind (told answer) ≡ true → answer ≡ answers.Ready) → (call : Option Call) (o : Option CallKind) (after : After) → MayPoll kind call o → EachCall call s t x y p q m after → StandsFor login s p o k → (end : Kept) × Does login call x y k end m (ready after) × GoingAfter login kind t q end after
   going kind r call o Pending may each w =
@@ -126,26 +136,31 @@ module _ (login : Login) (s t : Seen) (x y : Looks) (p q : Option Tape) (m : Met
       (f.0, subst (λ (v : Answer). Does login call x y k f.0 m (Answered v)) (r answer fits) f.2, f.1)
   going kind r call o (Failed e) may each w =
       let f = stands_after kind call s t x y p q o m (Failed e) may each login k w in
-      (f.0, f.2, f.1.agrees)
+      (f.0, f.2, (f.1.agrees, rests_read login t f.0 f.1.rests))
+
+  going_rests : (kind : CallKind) (end : Kept) (after : After) → GoingAfter login kind t q end after → AfterRests login t end after
+  going_rests kind end Pending w = w.1.rests
+  going_rests kind end (Answered answer) w = tt
+  going_rests kind end (Failed e) w = w.1
 
   asking_leaves : (n : ℕ) (end : Kept) (after : After) → GoingAfter login Query t q end after → AfterMaking login (Asks n) t q end after
   asking_leaves n end Pending w = w
   asking_leaves n end (Answered answer) w = w
-  asking_leaves n end (Failed e) w = w
+  asking_leaves n end (Failed e) w = w.0
 
   dropping_leaves : (n : ℕ) (end : Kept) (after : After) → GoingAfter login DropResult t q end after → AfterMaking login (Drops n) t q end after
   dropping_leaves n end Pending w = w
   dropping_leaves n end (Answered answer) w = w
-  dropping_leaves n end (Failed e) w = w
+  dropping_leaves n end (Failed e) w = w.0
 
   pub polled_making : (at : Making) (call : Option Call) (after : After) → EachCall call s t x y p q m after → MakesFor login at call s p k → MadePoll login at call t x y q k m after
   polled_making Shakes call after each w = subst (λ (c : Option Call). MadePoll login Shakes c t x y q k m after) (sym w.0) (shaking after (subst (λ (c : Option Call). EachCall c s t x y p q m after) w.0 each) w.1 w.2)
   polled_making (Asks n) call after each w =
       let f = going Query query_ready call w.0 after w.2 each w.1 in
-      record { end = f.0; does = f.1; leaves = asking_leaves n f.0 after f.2 }
+      record { end = f.0; does = f.1; leaves = asking_leaves n f.0 after f.2; rests = going_rests Query f.0 after f.2 }
   polled_making (Drops n) call after each w =
       let f = going DropResult drop_ready call w.0 after w.2 each w.1 in
-      record { end = f.0; does = f.1; leaves = dropping_leaves n f.0 after f.2 }
+      record { end = f.0; does = f.1; leaves = dropping_leaves n f.0 after f.2; rests = going_rests DropResult f.0 after f.2 }
 
 -- where it may be polled
 pub making_starts : (login : Login) (at : Making) (call : Option Call) (s : Seen) (p : Option Tape) (k : Kept) → MakesFor login at call s p k → MayStart call s
@@ -269,7 +284,7 @@ module _ (texts : Texts) (now : ℕ) (first : Making) (x : Looks) (u : View) (p 
         let f = so.each login k h in
         let d : MadePoll login at call w.seen y z r f.kept m Pending = made_poll login k f Pending e in
         let c = calls login k f Pending d in
-        (d.end, d.leaves, c.0, c.1);
+        (d.end, d.leaves, c.0, c.1, d.rests);
   })
 
   pub is_made : (answer : Answer) → after ≡ Answered answer → Ends texts at → (all : Met) → all ≡ sum → IsMade texts now first x z u w p r all
@@ -286,7 +301,7 @@ module _ (texts : Texts) (now : ℕ) (first : Making) (x : Looks) (u : View) (p 
   call_fails error e login k h =
       let f = so.each login k h in
       let d : MadePoll login at call w.seen y z r f.kept m (Failed error) = made_poll login k f (Failed error) e in
-      (d.end, d.leaves, (calls login k f (Failed error) d).0)
+      (d.end, d.leaves, (calls login k f (Failed error) d).0, d.rests)
 
   refuses : (answer : Answer) → after ≡ Answered answer → (error : Error) → EndsRefused texts at error → AidRefuses texts first x z u.seen p r (record sum { refused = 1 }) error
   refuses answer e error ends = record {

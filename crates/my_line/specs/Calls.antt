@@ -13,7 +13,7 @@ use Rattle.my_reading.specs.Errors.{connection_closed}
 use Rattle.my_reading.specs.Told.{told}
 use Rattle.my_session.specs.Fits.{may_be}
 use Rattle.my_client.specs.Made.{has_closed}
-use Rattle.my_session.specs.Sessions.{Seen}
+use Rattle.my_session.specs.Sessions.{Seen, is_refused}
 use Rattle.my_session.specs.View.{View}
 use Rattle.my_client.specs.declared.poll.After.{After}
 use Rattle.my_client.specs.declared.poll.After.TheVariants.{Pending, Answered, Failed}
@@ -40,8 +40,15 @@ abbrev pub asked_for : Option Call → Kept → Kept
 asked_for None k = k
 asked_for (Some call) k = asking k call None
 
+-- a call that begins isn't one that a closed connection refuses
+abbrev pub IsAdmitted : Option Call → Kept → Type 0
+IsAdmitted None k = Unit {0}
+IsAdmitted (Some call) k = is_refused (has_closed (made_of k.calls)) (kind_of call) ≡ false
+
 -- the open call was polled over the link, each move in its turn by the reading, and returned what the reading says
-pub record PollsOn (login : Login) (call : Option Call) (x y : Looks) (k end : Kept) (m : Met) (after : After) : Type 0 where
+pub record PollsOn (login : Login) (call : Option Call) (x y : Looks) (k end : Kept) (m : Met)
+    (after : After) : Type 0 where
+  pub admitted : IsAdmitted call k
   pub asked : Asked
   pub pending : (asked_for call k).pending ≡ Some asked
   pub polled : IsPolled login asked (asked_for call k) x m after end y

@@ -20,7 +20,8 @@ use Rattle.my_client.specs.declared.tape.Tape.{Tape}
 use Rattle.my_client.specs.Kept.{Asked, Kept}
 use Rattle.my_client.specs.Notes.{Agrees}
 use Rattle.my_client.specs.Lives.{Lives}
-use Rattle.my_client.specs.Stands.{StandsAsked}
+use Rattle.my_client.specs.Reads.{IsRead}
+use Rattle.my_client.specs.Stands.{Rests, StandsAsked}
 use Rattle.my_line.specs.Calls.{Does, MayPoll}
 use Rattle.my_line.specs.Stands.{StandsFor}
 use Rattle.my_line.specs.Texts.{Ends, EndsRefused, Follows, kind_at}
@@ -76,9 +77,10 @@ Leads texts login p (m ∷ ms) q = Leads texts login p ms m × Passes texts logi
 abbrev pub all_met : Met → ℕ → Met
 all_met met n = record met { taken = n }
 
--- The calls of one poll: each but the last was answered, and the last returned this. They met what the last one met, and received all
--- bytes that came.
-pub record Polls (texts : Texts) (login : Login) (at : Making) (x y : Looks) (k end : Kept) (m : Met) (after : After) : Type 0 where
+-- The calls of one poll: each but the last was answered, and the last returned this. They met what the last one met,
+-- and received all bytes that came.
+pub record Polls (texts : Texts) (login : Login) (at : Making) (x y : Looks) (k end : Kept) (m : Met)
+    (after : After) : Type 0 where
   pub earlier : List Point
   pub last : Point
   pub leads : Leads texts login (first_point at x k) earlier last
@@ -87,38 +89,43 @@ pub record Polls (texts : Texts) (login : Login) (at : Making) (x y : Looks) (k 
   pub met_is : m ≡ all_met met m.taken
   pub took : length end.taken ≡ length k.taken + m.taken
 
--- it isn't made yet: a call of it is pending
-pub record StaysMaking (texts : Texts) (now : ℕ) (at to : Making) (x y : Looks) (u v : View) (p q : Option Tape) (m : Met) : Type 0 where
+-- it isn't made yet: a call of it is pending, and waits for its link
+pub record StaysMaking (texts : Texts) (now : ℕ) (at to : Making) (x y : Looks) (u v : View) (p q : Option Tape)
+    (m : Met) : Type 0 where
   pub lives : Lives now m.taken u v
   pub pends : Rose x.counts.holds y.counts.holds ⊎ (MOST_TAKEN ≤ m.taken)
   pub each : (login : Login) (k : Kept) → MakesFor login at None u.seen p k
       → (end : Kept) × MakesFor login to None v.seen q end
-      × (c : Polls texts login at x y k end m Pending) × (c.last.at ≡ to)
+      × (c : Polls texts login at x y k end m Pending) × (c.last.at ≡ to) × Rests login v.seen end
 
 -- it is made: its last call was answered, and no further text follows
-pub record IsMade (texts : Texts) (now : ℕ) (at : Making) (x y : Looks) (u v : View) (p q : Option Tape) (m : Met) : Type 0 where
+pub record IsMade (texts : Texts) (now : ℕ) (at : Making) (x y : Looks) (u v : View) (p q : Option Tape)
+    (m : Met) : Type 0 where
   pub lives : Lives now m.taken u v
   pub each : (login : Login) (k : Kept) → MakesFor login at None u.seen p k
       → (end : Kept) × StandsFor login v.seen q None end
       × (c : Polls texts login at x y k end m (Answered Ready)) × Ends texts c.last.at
 
--- a call of it failed; the tape has all that was done
+-- a call of it failed; the tape has all that was done, and each call of it ended as the reading says
 abbrev pub CallFails : Texts → Making → Looks → Looks → Seen → Option Tape → Option Tape → Met → Error → Type 0
 CallFails texts at x y s p q m e = (login : Login) (k : Kept) → MakesFor login at None s p k
-    → (end : Kept) × Agrees q end × Polls texts login at x y k end m (Failed e)
+    → (end : Kept) × Agrees q end × Polls texts login at x y k end m (Failed e) × IsRead login end
 
 -- its last call was answered, and then the aid refused the connection, which is met, too
-pub record AidRefuses (texts : Texts) (at : Making) (x y : Looks) (s : Seen) (p q : Option Tape) (m : Met) (e : Error) : Type 0 where
+pub record AidRefuses (texts : Texts) (at : Making) (x y : Looks) (s : Seen) (p q : Option Tape) (m : Met)
+    (e : Error) : Type 0 where
   pub calls : Met
   pub met_is : m ≡ record calls { refused = 1 }
   pub each : (login : Login) (k : Kept) → MakesFor login at None s p k
-      → (end : Kept) × Agrees q end × (c : Polls texts login at x y k end calls (Answered Ready)) × EndsRefused texts c.last.at e
+      → (end : Kept) × Agrees q end × (c : Polls texts login at x y k end calls (Answered Ready))
+      × EndsRefused texts c.last.at e
 
 -- why no connection was made
 abbrev pub WhyNotMade : Texts → Making → Looks → Looks → Seen → Option Tape → Option Tape → Met → Error → Type 0
 WhyNotMade texts at x y s p q m e = CallFails texts at x y s p q m e ⊎ AidRefuses texts at x y s p q m e
 
-abbrev pub MakesTo : Texts → ℕ → Making → Looks → Looks → View → View → Option Tape → Option Tape → Met → MakeStep → Type 0
+abbrev pub MakesTo : Texts → ℕ → Making → Looks → Looks → View → View → Option Tape → Option Tape → Met → MakeStep
+    → Type 0
 MakesTo texts now at x y u v p q m (steps.Pending to) = StaysMaking texts now at to x y u v p q m
 MakesTo texts now at x y u v p q m steps.Made = IsMade texts now at x y u v p q m
 MakesTo texts now at x y u v p q m (steps.Failed e) = WhyNotMade texts at x y u.seen p q m e

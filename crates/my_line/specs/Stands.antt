@@ -13,8 +13,8 @@ use Rattle.my_client.specs.Stands.{Rests}
 abbrev pub kind_kept : Kept → Option CallKind
 kind_kept k = option_map (λ a. kind_of a.call) k.pending
 
--- This is what the connection did: its session is where the reading of it is, the tape agrees with it, it was connected, and this
--- call is open.
+-- This is what the connection did: its session is where the reading of it is, the tape agrees with it, it was
+-- connected, and this call is open.
 pub record StandsFor (login : Login) (s : Seen) (t : Option Tape) (o : Option CallKind) (k : Kept) : Type 0 where
   pub rests : Rests login s k
   pub agrees : Agrees t k

@@ -1,4 +1,5 @@
--- Which calls make a connection: the handshake, and for each text that the aid gives a query and a pass over what is left of its result.
+-- Which calls make a connection: the handshake, and for each text that the aid gives a query and a pass over what is
+-- left of its result.
 use Rattle.std.specs.Prelude.{ℕ, ◌≡◌, ◌+◌, List, Option, Some, None}
 use Rattle.my_link.specs.Aid.{IsTold, Texts}
 use Rattle.my_link.specs.declared.aid.AfterStep.TheVariants as after

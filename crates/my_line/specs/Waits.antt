@@ -43,8 +43,9 @@ abbrev pub ResultFits : CallKind → Result Answer Error → Type 0
 ResultFits c (Ok answer) = may_be c (told answer) ≡ true
 ResultFits c (Err e) = Unit {0}
 
--- After `k` this call began, and the link did these moves, each in its turn by the reading. They received `n` bytes. Then
--- the link stopped so, and the call returned what that says: an answer or error of the reading, or the link's error.
+-- After `k` this call began, and the link did these moves, each in its turn by the reading. They received `n` bytes.
+-- Then the link stopped so, and the call returned what that says: an answer or error of the reading, or the link's
+-- error.
 pub record Driven (login : Login) (call : Call) (x y : Looks) (k : Kept) (n : ℕ) (r : Result Answer Error) (end : Kept)
     : Type 0 where
   pub moves : List Move

@@ -34,8 +34,8 @@ fn with_earlier(met: Met, earlier: u64) -> Met
     }
 }
 
-/// Continues the making of a connection, at the moment `now`: the handshake, and then each text that the aid tells, with
-/// its result read whole before the next. It returns where the making is, and what was met.
+/// Continues the making of a connection, at the moment `now`: the handshake, and then each text that the aid tells,
+/// with its result read whole before the next. It returns where the making is, and what was met.
 pub fn make<L: Link, A: AfterConnect>(
     alloc: Global,
     session: &mut Session,

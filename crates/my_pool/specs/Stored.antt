@@ -36,8 +36,9 @@ abbrev pub IsOutOr : {L : Type 0} → (ConnSeen L → Type 0) → Option (ConnSe
 IsOutOr P None = Unit {0}
 IsOutOr P (Some c) = P c
 
--- What is kept of a connection at a place: an idle one is fit; a returned one has no open call; one that is being cleaned,
--- reset or closed has no other open call, or a caller has it in hand; one that is leased, or that a request has, isn't kept.
+-- What is kept of a connection at a place: an idle one is fit; a returned one has no open call; one that is being
+-- cleaned, reset or closed has no other open call, or a caller has it in hand; one that is leased, or that a request
+-- has, isn't kept.
 abbrev pub StoredAt : {L : Type 0} → Place → Option (ConnSeen L) → Type 0
 StoredAt (Idle times) k = IsThere (IsResting times) k
 StoredAt Leased k = IsAbsent k
@@ -58,8 +59,8 @@ pub record IsStored {L : Type 0} (s : State) (kept : List (Entry (ConnSeen L))) 
   pub once : (n : ℕ) → how_many (has n) kept ≤ 1
 
 -- What holds of an exchange: its core is sound and covered; there is room for its connections and wakers, and for the
--- tapes of all connections that may go; each connection is kept as its place says; a waker is kept for requests that wait
--- alone, once for each; and what its journal tells leads to the core's state.
+-- tapes of all connections that may go; each connection is kept as its place says; a waker is kept for requests that
+-- wait alone, once for each; and what its journal tells leads to the core's state.
 pub record IsWhole {L : Type 0} (start s : State) (shelf : Shelved (ConnSeen L)) (wakers : Called)
     (told : Option (List PoolEvent)) (gone : Shelved Tape) : Type 0 where
   pub sound : IsSound s

@@ -69,8 +69,8 @@ impl<L: Drop, J: Journal, W: Wake> Exchange<L, J, W> {
     ghost use Rattle.my_pool_core.specs.Made.{limits_of};
     ghost use Rattle.my_pool.specs.Stored.{IsFresh};
 
-    /// A pool with no connection, by the pool's options among these; its first connection will have the number `first`. The
-    /// journal tells no event yet.
+    /// A pool with no connection, by the pool's options among these; its first connection will have the number
+    /// `first`. The journal tells no event yet.
     pub fn new(
         alloc: Global,
         opts: Opts,

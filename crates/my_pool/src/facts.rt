@@ -28,7 +28,8 @@ pub fn facts_at<L>(conn: &Conn<L>, now: u64) -> Facts
     }
 }
 
-/// A connection that is fit is clean, whatever it did. This does nothing; it is for callers whose proof needs that fact.
+/// A connection that is fit is clean, whatever it did. This does nothing; it is for callers whose proof needs that
+/// fact.
 pub fn fit_is_clean<L>(conn: &Conn<L>)
     ensures { IsFit conn.now → IsCleanConn conn.now }
 {

@@ -11,9 +11,9 @@ ghost use Rattle.my_pool.specs.Pools.{MadeWith, Pool, left_of};
 
 use my_link::Link;
 
-/// The tape of a connection that goes comes last, with its number (`right`). It is neither left out (`lost`) nor there
-/// twice (`twice`), doesn't stand before an earlier one (`before`), and is no other connection's (`other`). Where none is
-/// left, there are those that there were (`none`).
+/// The tape of a connection that goes comes last, with its number (`right`). It is neither left out (`lost`) nor
+/// there twice (`twice`), doesn't stand before an earlier one (`before`), and is no other connection's (`other`).
+/// Where none is left, there are those that there were (`none`).
 pub fn tapes_stand_in_order()
     ensures right { (t u : Tape) → with_left (Some (2, u)) (entry 1 t ∷ []) ≡ entry 1 t ∷ entry 2 u ∷ [] }
     ensures none { (t : Tape) → with_left None (entry 1 t ∷ []) ≡ entry 1 t ∷ [] }

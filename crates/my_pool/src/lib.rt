@@ -1,5 +1,5 @@
-//! A pool on one thread: its core with the connections that it keeps, the wakers of requests that wait, and a journal. Each
-//! event of the core is a method.
+//! A pool on one thread: its core with the connections that it keeps, the wakers of requests that wait, and a
+//! journal. Each event of the core is a method.
 #![tactic(auto)]
 
 mod exchange;

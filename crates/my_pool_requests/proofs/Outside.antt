@@ -110,24 +110,8 @@ pub data Makes : Call → Type 0 where
 pub which : (call : Call) → makes_one (kind_of call) ≡ true → Makes call
 which calls.Connect e = Connects
 which (calls.Query text) e = Queries text
-which (calls.Prepare text) e = absurd (cc)
-which (calls.Execute statement params) e = absurd (cc)
-which (calls.Batch statement lists) e = absurd (cc)
-which (calls.CloseStmt id) e = absurd (cc)
-which calls.NextRow e = absurd (cc)
 which calls.DropResult e = Passes
-which calls.TakeSet e = absurd (cc)
-which calls.SkipTaken e = absurd (cc)
-which calls.Ping e = absurd (cc)
-which calls.Reset e = absurd (cc)
-which (calls.ChangeUser change) e = absurd (cc)
-which (calls.Begin opts) e = absurd (cc)
-which calls.Commit e = absurd (cc)
-which calls.Rollback e = absurd (cc)
-which calls.ForgetTransaction e = absurd (cc)
-which calls.CleanForPool e = absurd (cc)
-which calls.ResetForPool e = absurd (cc)
-which calls.Quit e = absurd (cc)
+which _ e = absurd (cc)
 
 texts_plain : (texts : List (List ℕ)) → ArePlain (All ∷ parts_of_texts texts)
 texts_plain [] = (Reads, tt)

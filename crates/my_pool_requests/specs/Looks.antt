@@ -30,8 +30,8 @@ use Rattle.my_pool_requests.specs.Stages.{asked}
 
 -- ---- a look at an idle connection ----
 
--- One that is alive is leased. Where the check isn't ready, no event happens, and the next poll looks again. One that is
--- dead, or whose check failed, isn't good, and the request has none again; its tape is left.
+-- One that is alive is leased. Where the check isn't ready, no event happens, and the next poll looks again. One that
+-- is dead, or whose check failed, isn't good, and the request has none again; its tape is left.
 abbrev pub LookedBy : {L : Type 0} → ℕ → ℕ → ConnSeen L → CheckStep → Pool L → Pool L → Option (AskTurn L) → Type 0
 LookedBy {L} age n c checks.Alive p q turn = (held : AskTurn L) × LeasedBy age n c p q held × (turn ≡ Some held)
 LookedBy age n c checks.NotYet p q turn = (q ≡ p) × (turn ≡ Some (turns.Pending (asked age (stages.Looks n c))))

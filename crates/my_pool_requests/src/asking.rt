@@ -113,12 +113,12 @@ where
     }
 }
 
-/// A request is polled once, at a moment. An idle connection is leased where it is still alive and no byte is left over;
-/// where there is none, and the core says so, one is dialed and made. Where the request waits, its waker is kept, and is
-/// called once the request may be polled with a result.
+/// A request is polled once, at a moment. An idle connection is leased where it is still alive and no byte is left
+/// over; where there is none, and the core says so, one is dialed and made. Where the request waits, its waker is
+/// kept, and is called once the request may be polled with a result.
 ///
-/// It fails with `PoolDisconnected` where the pool is closed, with `PoolFull` where as many requests wait as may, and else
-/// with the error of its dial or of its connect call.
+/// It fails with `PoolDisconnected` where the pool is closed, with `PoolFull` where as many requests wait as may, and
+/// else with the error of its dial or of its connect call.
 pub fn poll_ask<O: Dialer + Aid, J: Journal, W: Wake>(
     alloc: Global,
     pool: &mut Exchange<O::L, J, W>,

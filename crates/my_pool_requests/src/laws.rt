@@ -14,9 +14,9 @@ ghost use Rattle.my_pool_requests.specs.Stages.{Asked};
 
 use my_link::Link;
 
-/// A connection that was idle is leased only where no byte of it is left over (`leased`), and its link is alive: one that
-/// isn't ready doesn't count as alive (`alive`). It isn't good only where a byte is left over, or where its link is dead or
-/// failed (`refused`). The request looks again only where the link wasn't ready (`pending`).
+/// A connection that was idle is leased only where no byte of it is left over (`leased`), and its link is alive: one
+/// that isn't ready doesn't count as alive (`alive`). It isn't good only where a byte is left over, or where its link
+/// is dead or failed (`refused`). The request looks again only where the link wasn't ready (`pending`).
 pub fn idle_connections_are_checked<L: Link>()
     ensures leased { (age n : ℕ) (c : ConnSeen L) (p q : Pool L) (held : ConnEntry L)
         → LooksOn L.looks age n c p q (Some (turns.Held held)) → left_over c ≡ [] }
@@ -29,8 +29,8 @@ pub fn idle_connections_are_checked<L: Link>()
         → (after : L) × HoldRose (L.looks c.link).counts (L.looks after).counts }
 {}
 
-/// A request that looks for a connection fails only where the core answers that the pool is closed or full, and with the
-/// error of that answer.
+/// A request that looks for a connection fails only where the core answers that the pool is closed or full, and with
+/// the error of that answer.
 pub fn requests_fail_for_a_cause<L: Link>()
     ensures { (age now : ℕ) (wakes : Bool) (p q : Pool L) (e : Error)
         → (seeks : Seeks L.looks age now wakes p q (soughts.Turn (turns.Failed e))) → WhyRefused seeks.last.answer e }

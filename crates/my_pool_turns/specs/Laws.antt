@@ -19,8 +19,8 @@ abbrev pub AreFalling : List ℕ → Type 0
 AreFalling [] = Unit {0}
 AreFalling (n ∷ ns) = ((m : ℕ) → is_among m ns ≡ true → m < n) × AreFalling ns
 
--- These numbers, the newest first, are exactly those of the connections at the places of a kind, each of them once; they
--- rose.
+-- These numbers, the newest first, are exactly those of the connections at the places of a kind, each of them once;
+-- they rose.
 pub record AreThose (kind : PlaceKind) (s : State) (numbers : List ℕ) : Type 0 where
   pub falling : AreFalling numbers
   pub exactly : (n : ℕ) → is_among n numbers ≡ is_at kind n s

@@ -16,8 +16,8 @@ pub fn none_is_left<L: Link>()
     ensures { (now : ℕ) (p q : Pool L) → Turns L.looks now p q → NoneDue q.state }
 {}
 
-/// Of the connections that are cleaned, reset or closed where a turn comes to them, each is polled once, in rising order
-/// of numbers, and no other is (`polled`). So what stops after the first of two is no turn (`stopped`).
+/// Of the connections that are cleaned, reset or closed where a turn comes to them, each is polled once, in rising
+/// order of numbers, and no other is (`polled`). So what stops after the first of two is no turn (`stopped`).
 pub fn each_is_polled_once<L: Link>()
     ensures polled { (task : Task) (now : ℕ) (p q : Pool L) → IsSound p.state → (polls : PollsAll L.looks task now p q)
         → AreThose (kind_at task) p.state polls.numbers }

@@ -1,4 +1,5 @@
--- The answer to a query or to an executed statement: the call that begins it, what is read of it, and how its rest is dropped.
+-- The answer to a query or to an executed statement: the call that begins it, what is read of it, and how its rest is
+-- dropped.
 use Rattle.std.specs.Prelude.{◌≡◌}
 use Rattle.std.specs.declared.result.Result.{Result}
 use Rattle.std.specs.declared.result.Result.TheVariants.{Ok, Err}
@@ -22,7 +23,8 @@ RestIs look (Ok value) old new result = (r : Result (Unit {0}) Error) × (result
     × DoneIs look kinds.DropResult calls.DropResult old new r
 RestIs look (Err error) old new result = (result ≡ Err error) × (new ≡ old)
 
--- Where the call that begins an answer was done, this was read of it, and the rest dropped; where it failed, no call followed.
+-- Where the call that begins an answer was done, this was read of it, and the rest dropped; where it failed, no call
+-- followed.
 abbrev pub ReadIs : {L A : Type 0} → (L → Looks) → (ConnSeen L → ConnSeen L → Result A QueryError → Type 0) → Result (Unit {0}) Error
     → ConnSeen L → ConnSeen L → Result A QueryError → Type 0
 ReadIs {L} {A} look reads (Ok done) old new result = (r : Result A QueryError) × (mid : ConnSeen L) × reads old mid r

@@ -26,19 +26,24 @@ IsListIn list (Err error) (Ok items) = ⊥
 IsListIn list (Err error) (Err same) = same ≡ error
 
 -- Of a fold of the function from this value this was read, and the value is what it led to.
-abbrev pub FoldedBy : {U F : Type 0} → U → F → (Folded U F → Result (Folded U F) QueryError → Type 0) → Result U QueryError → Type 0
+abbrev pub FoldedBy : {U F : Type 0} → U → F → (Folded U F → Result (Folded U F) QueryError → Type 0)
+    → Result U QueryError → Type 0
 FoldedBy {U} {F} init f reads result = (r : Result (Folded U F) QueryError)
     × (result ≡ part_in (λ (folded : Folded U F). folded.value) r) × reads (record { value = init; f = f }) r
 
 -- From an empty list this was read, and the values are the list that it led to.
-abbrev pub CollectedBy : {T A : Type 0} → (Collected T → Result (Collected T) QueryError → Type 0) → Result (Vec T A) QueryError → Type 0
+abbrev pub CollectedBy : {T A : Type 0} → (Collected T → Result (Collected T) QueryError → Type 0)
+    → Result (Vec T A) QueryError → Type 0
 CollectedBy {T} reads result = (none : Collected T) × (none.items.items ≡ [])
-    × (r : Result (Collected T) QueryError) × IsListIn (λ (collected : Collected T). collected.items.items) r result × reads none r
+    × (r : Result (Collected T) QueryError) × IsListIn (λ (collected : Collected T). collected.items.items) r result
+    × reads none r
 
 -- From an empty list and this function this was read, and the values are the list that it led to.
-abbrev pub MappedBy : {U F A : Type 0} → F → (Mapped U F → Result (Mapped U F) QueryError → Type 0) → Result (Vec U A) QueryError → Type 0
+abbrev pub MappedBy : {U F A : Type 0} → F → (Mapped U F → Result (Mapped U F) QueryError → Type 0)
+    → Result (Vec U A) QueryError → Type 0
 MappedBy {U} {F} f reads result = (none : Mapped U F) × (none.items.items ≡ []) × (none.f ≡ f)
-    × (r : Result (Mapped U F) QueryError) × IsListIn (λ (mapped : Mapped U F). mapped.items.items) r result × reads none r
+    × (r : Result (Mapped U F) QueryError) × IsListIn (λ (mapped : Mapped U F). mapped.items.items) r result
+    × reads none r
 
 -- The value is the fold of the function over what the rows of the first set became, in order, from this value.
 abbrev pub FoldsFirst : {L T U F : Type 0} → (L → Looks) → (ConnSeen L → ConnSeen L → Result (Unit {0}) Error → Type 0)
@@ -60,8 +65,10 @@ abbrev pub MapsFirst : {L T U F A : Type 0} → (L → Looks) → (ConnSeen L �
 MapsFirst look begins converts becomes step f old new result =
     MappedBy f (λ none r. AnswerIs look begins (SetIs look converts becomes (Maps step) none) old new r) result
 
--- Of an answer that a call began so, the value is the fold of the function over what the rows of the first set became, in order.
-abbrev pub FoldsBegun : {L T U F : Type 0} → (L → Looks) → (RowParts → Type 0) → (RowParts → T → Type 0) → (F → U → T → U → F → Type 0)
+-- Of an answer that a call began so, the value is the fold of the function over what the rows of the first set
+-- became, in order.
+abbrev pub FoldsBegun : {L T U F : Type 0} → (L → Looks) → (RowParts → Type 0) → (RowParts → T → Type 0)
+    → (F → U → T → U → F → Type 0)
     → U → F → Result (Unit {0}) Error → ConnSeen L → ConnSeen L → Result U QueryError → Type 0
 FoldsBegun look converts becomes step init f begun old new result =
     FoldedBy init f (λ start r. ReadIs look (SetIs look converts becomes (Folds step) start) begun old new r) result
@@ -72,8 +79,10 @@ abbrev pub CollectsBegun : {L T A : Type 0} → (L → Looks) → (RowParts → 
 CollectsBegun look converts becomes begun old new result =
     CollectedBy (λ none r. ReadIs look (SetIs look converts becomes Collects none) begun old new r) result
 
--- Of an answer that a call began so, the values are what the function returned of what the rows of the first set became, in order.
+-- Of an answer that a call began so, the values are what the function returned of what the rows of the first set
+-- became, in order.
 abbrev pub MapsBegun : {L T U F A : Type 0} → (L → Looks) → (RowParts → Type 0) → (RowParts → T → Type 0)
-    → (F → T → U → F → Type 0) → F → Result (Unit {0}) Error → ConnSeen L → ConnSeen L → Result (Vec U A) QueryError → Type 0
+    → (F → T → U → F → Type 0) → F → Result (Unit {0}) Error → ConnSeen L → ConnSeen L → Result (Vec U A) QueryError
+    → Type 0
 MapsBegun look converts becomes step f begun old new result =
     MappedBy f (λ none r. ReadIs look (SetIs look converts becomes (Maps step) none) begun old new r) result

@@ -17,9 +17,9 @@ use my_statements::Statement;
 use my_value::FromRow;
 use std::alloc::Global;
 
-/// Rows in one call, at what holds a connection. Each call begins an answer, reads what it needs of the first set, and drops the rest. The
-/// first of these that fails is the last, and its error is returned. None may be made while a call that was polled is open, and none is
-/// open afterwards.
+/// Rows in one call, at what holds a connection. Each call begins an answer, reads what it needs of the first set,
+/// and drops the rest. The first of these that fails is the last, and its error is returned. None may be made while a
+/// call that was polled is open, and none is open afterwards.
 pub trait Queryable: Calls {
     ghost use Rattle.my_query.specs.Answers.{AnswerIs, NothingIs};
     ghost use Rattle.my_query.specs.Calls.{CollectsFirst, FoldsFirst, MapsFirst};
@@ -47,8 +47,8 @@ pub trait Queryable: Calls {
         collect_answer::<T, Self>(self, alloc, begun)
     }
 
-    /// Sends a query, and returns what the first row of the first set became. `None`: that set has no row, or there is no set. The rest of
-    /// the answer is dropped.
+    /// Sends a query, and returns what the first row of the first set became. `None`: that set has no row, or there
+    /// is no set. The rest of the answer is dropped.
     fn query_first<T: FromRow + Drop, Q: AsQuery>(
         &mut self,
         alloc: Global,
@@ -65,7 +65,8 @@ pub trait Queryable: Calls {
         first_of_answer::<T, Self>(self, alloc, begun)
     }
 
-    /// Sends a query, and returns what the function makes of each row of the first set, in order. The rest of the answer is dropped.
+    /// Sends a query, and returns what the function makes of each row of the first set, in order. The rest of the
+    /// answer is dropped.
     ///
     /// A row that doesn't convert ends it, as in `query`.
     fn query_map<T: FromRow, Q: AsQuery, U: Drop, F: FnMut(T) -> U>(
@@ -86,7 +87,8 @@ pub trait Queryable: Calls {
         map_answer::<T, U, F, Self>(self, alloc, begun, f)
     }
 
-    /// Sends a query, and folds the function over the rows of the first set, in order, from `init`. The rest of the answer is dropped.
+    /// Sends a query, and folds the function over the rows of the first set, in order, from `init`. The rest of the
+    /// answer is dropped.
     ///
     /// A row that doesn't convert ends it, as in `query`.
     fn query_fold<T: FromRow, Q: AsQuery, U: Drop, F: FnMut(U, T) -> U>(
@@ -120,8 +122,8 @@ pub trait Queryable: Calls {
         drop_answer(self, alloc, begun)
     }
 
-    /// Executes the statement that is named with these parameters, and returns what the rows of the first set became, in order. The rest of the
-    /// answer is dropped.
+    /// Executes the statement that is named with these parameters, and returns what the rows of the first set became,
+    /// in order. The rest of the answer is dropped.
     ///
     /// A row that doesn't convert ends it: that row is in the error, and the rest of the answer is still to be read.
     fn exec<T: FromRow + Drop, S: StatementLike>(
@@ -141,8 +143,8 @@ pub trait Queryable: Calls {
         collect_answer::<T, Self>(self, alloc, begun)
     }
 
-    /// Executes the statement that is named with these parameters, and returns what the first row of the first set became. `None`: that set has
-    /// no row, or there is no set. The rest of the answer is dropped.
+    /// Executes the statement that is named with these parameters, and returns what the first row of the first set
+    /// became. `None`: that set has no row, or there is no set. The rest of the answer is dropped.
     fn exec_first<T: FromRow + Drop, S: StatementLike>(
         &mut self,
         alloc: Global,
@@ -160,8 +162,8 @@ pub trait Queryable: Calls {
         first_of_answer::<T, Self>(self, alloc, begun)
     }
 
-    /// Executes the statement that is named with these parameters, and returns what the function makes of each row of the first set, in order. The
-    /// rest of the answer is dropped.
+    /// Executes the statement that is named with these parameters, and returns what the function makes of each row of
+    /// the first set, in order. The rest of the answer is dropped.
     ///
     /// A row that doesn't convert ends it, as in `exec`.
     fn exec_map<T: FromRow, S: StatementLike, U: Drop, F: FnMut(T) -> U>(
@@ -183,8 +185,8 @@ pub trait Queryable: Calls {
         map_answer::<T, U, F, Self>(self, alloc, begun, f)
     }
 
-    /// Executes the statement that is named with these parameters, and folds the function over the rows of the first set, in order, from `init`.
-    /// The rest of the answer is dropped.
+    /// Executes the statement that is named with these parameters, and folds the function over the rows of the first
+    /// set, in order, from `init`. The rest of the answer is dropped.
     ///
     /// A row that doesn't convert ends it, as in `exec`.
     fn exec_fold<T: FromRow, S: StatementLike, U: Drop, F: FnMut(U, T) -> U>(

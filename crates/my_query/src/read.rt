@@ -30,7 +30,8 @@ pub fn next_item<T: FromRow, C: Calls>(conn: &mut C, alloc: Global) -> Result<Op
     }
 }
 
-/// Reads the rows of the set up to its end, and gathers what they become. A set of 2^64 rows is refused as out of memory.
+/// Reads the rows of the set up to its end, and gathers what they become. A set of 2^64 rows is refused as out of
+/// memory.
 pub fn read_set<T: FromRow, G: Gather<T> + Drop, C: Calls>(
     conn: &mut C,
     alloc: Global,

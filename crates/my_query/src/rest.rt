@@ -77,7 +77,8 @@ pub fn collect_answer<T: FromRow + Drop, C: Calls>(
     }
 }
 
-/// What the function makes of each row of the first set of an answer that this call began, in order; the rest is dropped.
+/// What the function makes of each row of the first set of an answer that this call began, in order; the rest is
+/// dropped.
 pub fn map_answer<T: FromRow, U: Drop, F: FnMut(T) -> U, C: Calls>(
     conn: &mut C,
     alloc: Global,

@@ -64,8 +64,9 @@ fn ended_with<T>(collected: &Result<Vec<T>, QueryError>) -> bool
     }
 }
 
-/// What the next row of a stream becomes, and whether the stream ended. `None`: it ended, and if it had before, nothing is read. A row
-/// that doesn't convert is returned, and the stream goes on after it; every other error ends it.
+/// What the next row of a stream becomes, and whether the stream ended. `None`: it ended, and if it had before,
+/// nothing is read. A row that doesn't convert is returned, and the stream goes on after it; every other error ends
+/// it.
 pub fn next_left<T: FromRow, C: Calls>(
     conn: &mut C,
     alloc: Global,
@@ -93,8 +94,8 @@ pub fn next_left<T: FromRow, C: Calls>(
     }
 }
 
-/// What the rows that are left of a stream become, in order, and whether it ended: it did unless a row doesn't convert, which is
-/// returned; the rows after that one are left.
+/// What the rows that are left of a stream become, in order, and whether it ended: it did unless a row doesn't
+/// convert, which is returned; the rows after that one are left.
 pub fn collect_left<T: FromRow + Drop, C: Calls>(
     conn: &mut C,
     alloc: Global,

@@ -1,12 +1,12 @@
 -- What was done, as something else that is the same.
-use Rattle.std.proofs.Common.{◌≡◌, ◌+◌, ◌&&◌, ℕ, Bool, true, false, not, refl, sym, ap, ◌∙◌, subst}
+use Rattle.std.proofs.Common.{◌≡◌, ◌+◌, ◌&&◌, ℕ, Bool, true, false, not, refl, sym, ap, subst}
 use Rattle.std.specs.Bool.{Decides}
 use Rattle.my_grammar.specs.declared.login.Login.{Login}
 use Rattle.my_reading.specs.Place.{Place}
 use Rattle.my_script.specs.declared.step.Step.{Step}
 use Rattle.my_script.specs.declared.transcript.StepAnswer.{StepAnswer}
-use Rattle.my_acts.specs.declared.act.Act.{Act}
-use Rattle.my_acts.specs.Acts.{ground_of}
+use Rattle.my_run_judge.specs.declared.act.Act.{Act}
+use Rattle.my_run_judge.specs.Acts.{ground_of}
 use Rattle.my_run_judge.specs.declared.made.Made.{Made}
 use Rattle.my_run_judge.specs.declared.walk.Walker.{Walker}
 use Rattle.my_run_judge.specs.Lines.{ActRight, LineRight, act_in, after_line, after_reads, status_after}

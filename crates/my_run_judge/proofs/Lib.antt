@@ -6,3 +6,8 @@ pub mod EachPoll
 pub mod Passing
 pub mod Whole
 pub mod Numbers
+pub mod Planning
+pub mod Keeping
+pub mod Following
+pub mod Dialing
+pub mod Finding

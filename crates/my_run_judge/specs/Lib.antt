@@ -1,3 +1,4 @@
+pub mod Acts
 pub mod Seen
 pub mod Walks
 pub mod Made
@@ -6,3 +7,4 @@ pub mod Does
 pub mod Verdicts
 pub mod Transcripts
 pub mod Meets
+pub mod Plan

@@ -29,13 +29,13 @@ use Rattle.my_run_judge.specs.Meets.{LastMet, RowMet}
 use Rattle.my_run_judge.specs.Seen.{TapeSeen}
 use Rattle.my_script.specs.declared.transcript.TapeCall.{TapeCall}
 use Rattle.my_script.specs.declared.transcript.Use.{Use}
-use Rattle.my_acts.specs.declared.act.Act.{Act}
-use Rattle.my_acts.specs.declared.act.Act.TheVariants.{Wrong, Skips, Tells, Holds, Fails, Connects, Polls, Passes, Ends, Cancels}
-use Rattle.my_acts.specs.declared.act.Ground.{Ground}
-use Rattle.my_acts.specs.declared.act.Status.{Status}
-use Rattle.my_acts.specs.declared.act.Status.TheVariants.{Absent, Dialing, Open, Gathers}
+use Rattle.my_run_judge.specs.declared.act.Act.{Act}
+use Rattle.my_run_judge.specs.declared.act.Act.TheVariants.{Wrong, Skips, Tells, Holds, Fails, Connects, Polls, Passes, Ends, Cancels}
+use Rattle.my_run_judge.specs.declared.act.Ground.{Ground}
+use Rattle.my_run_judge.specs.declared.act.Status.{Status}
+use Rattle.my_run_judge.specs.declared.act.Status.TheVariants.{Absent, Dialing, Open, Gathers}
 use Rattle.my_run_judge.specs.declared.walk.Spot.{Spot}
-use Rattle.my_acts.specs.Acts.{act_with, begun_by, ground_of, next_call}
+use Rattle.my_run_judge.specs.Acts.{act_with, begun_by, ground_of, next_call}
 use Rattle.my_run_judge.specs.Walks.{Walk, with_status, with_taken, IsEnded, ended}
 
 -- the call is this one, where the line begins one

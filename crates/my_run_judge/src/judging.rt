@@ -9,10 +9,10 @@ ghost use Rattle.my_run_judge.specs.Verdicts.{EndsAs, IsFound};
 ghost use Rattle.my_run_judge.specs.Walks.{Walk};
 ghost use Rattle.my_run_judge.specs.Seen.{seen};
 
+use crate::act::{Act, Ground, Status, act_with};
 use crate::line::is_dial;
 use crate::made::Made;
 use crate::walk::{Spot, Walker};
-use my_acts::{Act, Ground, Status, act_with};
 use my_frame::NoMemory;
 use my_grammar::Login;
 use my_judge::first_reader;

@@ -21,10 +21,10 @@ ghost use Rattle.my_run_judge.specs.Lines.{
 ghost use Rattle.my_run_judge.specs.Walks.{Walk, ended};
 ghost use Rattle.my_run_judge.specs.Seen.{seen};
 
+use crate::act::Status;
 use crate::meets::{last_met, row_met};
 use crate::shown::{is_followed_by, is_next, is_pending, is_shown_at, is_skipped};
 use crate::walk::{Spot, Walker, call_after, call_at};
-use my_acts::Status;
 use my_frame::NoMemory;
 use my_grammar::Login;
 use my_handshake::{ServerVersion, server_version};

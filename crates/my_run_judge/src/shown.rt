@@ -5,7 +5,7 @@ ghost use Rattle.std.specs.Bool.{Decides};
 ghost use Rattle.std.specs.Option.{option_copied};
 ghost use Rattle.my_reading.specs.Calls.{kind_of};
 ghost use Rattle.my_script.specs.Streams.{is_skip};
-ghost use Rattle.my_acts.specs.Acts.{begun_by, closing_call, executing_call, next_call, reading_call};
+ghost use Rattle.my_run_judge.specs.Acts.{begun_by, closing_call, executing_call, next_call, reading_call};
 ghost use Rattle.my_run_judge.specs.Lines.{
   IsBegun,
   IsCallOf,

@@ -32,7 +32,7 @@ fn dialed_by(step: &Step) -> u64
 }
 
 /// How many connections the steps dial.
-pub fn dialed_in(steps: &[Step]) -> u64
+pub(crate) fn dialed_in(steps: &[Step]) -> u64
     ensures count { result ≡ dialed_in steps.now }
     ensures within { result < 2 ^ 63 }
 {
@@ -108,7 +108,7 @@ fn judge_number(
 }
 
 /// The earlier of two findings; a wrong line is earlier than that all is right.
-pub fn earlier(one: Found, other: Found) -> Found
+pub(crate) fn earlier(one: Found, other: Found) -> Found
     ensures { result ≡ earlier one other }
 {
     match one {

@@ -8,8 +8,8 @@ ghost use Rattle.my_run_judge.specs.Does.{Begins, Does, IsReadCall, IsSentAt, Is
 ghost use Rattle.my_run_judge.specs.Walks.{IsEnded, ended, ending_of, sent_end, told_in};
 ghost use Rattle.my_run_judge.specs.Seen.{seen};
 
+use crate::act::Status;
 use crate::shown::is_begun;
-use my_acts::Status;
 use my_frame::NoMemory;
 use my_grammar::Login;
 use my_judge::{Ending, Reader, between};

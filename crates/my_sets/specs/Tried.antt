@@ -21,7 +21,8 @@ pub record EmptyIsTried (L : Type 0) : Type 0 where
   pub none : (c : ConnSeen L) → unread_columns c ≡ None → has_further c ≡ false → is_empty c ≡ true
 
 -- what reads of a stream come to, of rows that become this
-pub record ReadsAreTried {L T : Type 0} (look : L → Looks) (converts : RowParts → Type 0) (becomes : RowParts → T → Type 0)
+pub record ReadsAreTried {L T : Type 0} (look : L → Looks) (converts : RowParts → Type 0)
+    (becomes : RowParts → T → Type 0)
     (old new : ConnSeen L) : Type 0 where
   -- a row that doesn't convert is returned, and the stream goes on
   pub unfit : (row : RowParts) → NextIs look old new (Ok (Row row)) → (converts row → ⊥)
@@ -35,4 +36,5 @@ pub record ReadsAreTried {L T : Type 0} (look : L → Looks) (converts : RowPart
   pub again : ItemLeftIs look converts becomes true false old new (Ok None) → ⊥
 
 abbrev pub StreamsAreTried : {T : Type 0} → Type 0 → (RowParts → Type 0) → (RowParts → T → Type 0) → Type 0
-StreamsAreTried L converts becomes = (look : L → Looks) (old new : ConnSeen L) → ReadsAreTried look converts becomes old new
+StreamsAreTried L converts becomes = (look : L → Looks) (old new : ConnSeen L)
+    → ReadsAreTried look converts becomes old new

@@ -15,8 +15,8 @@ use my_value::FromRow;
 use std::alloc::Global;
 use std::marker::PhantomData;
 
-/// A text, or a statement and its parameters, that is run at a holder. None of its calls may be made while a call that was
-/// polled is open.
+/// A text, or a statement and its parameters, that is run at a holder. None of its calls may be made while a call
+/// that was polled is open.
 pub trait Query: Starts {
     ghost use Rattle.my_query.specs.Answers.{AnswerIs, NothingIs};
     ghost use Rattle.my_query.specs.Calls.{CollectsFirst, FoldsFirst, MapsFirst};
@@ -29,8 +29,8 @@ pub trait Query: Starts {
     /// The protocol of its rows.
     type Protocol;
 
-    /// Sends it, and returns its result: its rows are still to be read. Of the holder after an error this says nothing; `start`
-    /// and then `QueryResult::of` do.
+    /// Sends it, and returns its result: its rows are still to be read. Of the holder after an error this says
+    /// nothing; `start` and then `QueryResult::of` do.
     fn run<'a, C: Calls>(
         self,
         alloc: Global,
@@ -51,8 +51,8 @@ pub trait Query: Starts {
         }
     }
 
-    /// What the first row of the first set became. `None`: that set has no row, or there is no set. The rest of the answer is
-    /// dropped.
+    /// What the first row of the first set became. `None`: that set has no row, or there is no set. The rest of the
+    /// answer is dropped.
     fn first<T: FromRow + Drop, C: Calls>(
         self,
         alloc: Global,
@@ -123,8 +123,8 @@ pub trait Query: Starts {
         fold_answer::<T, U, F, C>(conn, alloc, begun, init, f)
     }
 
-    /// The rows of the first set of its answer as a stream. Of the holder after an error this says nothing; `take_first` and
-    /// then `SetStream::of` do.
+    /// The rows of the first set of its answer as a stream. Of the holder after an error this says nothing;
+    /// `take_first` and then `SetStream::of` do.
     fn stream<'a, T: FromRow, C: Calls>(
         self,
         alloc: Global,

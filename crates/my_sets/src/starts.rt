@@ -13,8 +13,8 @@ pub trait Starts: Sized {
     /// How it begins the answer.
     ghost start_of: { Self → Start };
 
-    /// Sends it, and waits until the server accepts it: its rows are still to be read. This says of the holder what it is
-    /// afterwards, also where the call fails. None may be made while a call that was polled is open.
+    /// Sends it, and waits until the server accepts it: its rows are still to be read. This says of the holder what
+    /// it is afterwards, also where the call fails. None may be made while a call that was polled is open.
     fn start<C: Calls>(self, alloc: Global, conn: &mut C) -> Result<(), Error>
         requires { (C.conn_of conn.old).pending ≡ None }
         ensures idle { (C.conn_of conn.new).pending ≡ None }

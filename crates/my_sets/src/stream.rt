@@ -14,8 +14,8 @@ use my_value::FromRow;
 use std::alloc::Global;
 use std::marker::PhantomData;
 
-/// The rows of one set of a result that is the stream's own. A stream that is let go before its end leaves the rest of the
-/// set, which the next command of the holder passes over.
+/// The rows of one set of a result that is the stream's own. A stream that is let go before its end leaves the rest
+/// of the set, which the next command of the holder passes over.
 #[derive(Drop)]
 pub struct SetStream<C, T, P> {
     pub result: QueryResult<C, P>,
@@ -117,7 +117,8 @@ impl<C, T, P> SetStream<C, T, P> {
         }
     }
 
-    /// The id that the server generated for the last new row, by that OK; none where it generated none, or without an OK.
+    /// The id that the server generated for the last new row, by that OK; none where it generated none, or without an
+    /// OK.
     pub fn last_insert_id(&self) -> Option<u64>
         ensures { result ≡ insert_by self.now.set.ok }
     {

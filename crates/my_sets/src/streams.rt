@@ -19,8 +19,8 @@ use my_value::FromRow;
 use std::alloc::Global;
 use std::marker::PhantomData;
 
-/// Calls that give a stream, at what holds a connection, which is lent to it. None may be made while a call that was polled
-/// is open.
+/// Calls that give a stream, at what holds a connection, which is lent to it. None may be made while a call that was
+/// polled is open.
 pub trait Streams: Calls {
     /// Sends a query, and returns the rows of the first set of its answer as a stream.
     fn query_stream<T: FromRow, Q: AsQuery>(
@@ -38,8 +38,8 @@ pub trait Streams: Calls {
         query.stream::<T, Self>(alloc, self)
     }
 
-    /// Executes the statement that is named with these parameters, and returns the rows of the first set of its answer as a
-    /// stream.
+    /// Executes the statement that is named with these parameters, and returns the rows of the first set of its
+    /// answer as a stream.
     fn exec_stream<T: FromRow, S: StatementLike>(
         &mut self,
         alloc: Global,
@@ -79,8 +79,8 @@ pub trait IntoStream: Sized {
     /// Its holder.
     ghost held_by: { Self → Self.C };
 
-    /// A stream of the set that is read, or of the next one; the rest of a set that an earlier stream took is passed over
-    /// first. `None`: nothing is left.
+    /// A stream of the set that is read, or of the next one; the rest of a set that an earlier stream took is passed
+    /// over first. `None`: nothing is left.
     fn stream_and_drop<T: FromRow>(
         self,
         alloc: Global,

@@ -89,8 +89,8 @@ fn take_begun<C: Calls>(
     }
 }
 
-/// Begins an answer so, and takes its first set for a stream (`SetStream::of`). This says of the holder what it is afterwards, also
-/// where it fails.
+/// Begins an answer so, and takes its first set for a stream (`SetStream::of`). This says of the holder what it is
+/// afterwards, also where it fails.
 pub fn take_first<S: Starts, C: Calls>(
     conn: &mut C,
     alloc: Global,

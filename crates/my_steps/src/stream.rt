@@ -30,25 +30,7 @@ pub(crate) fn is_skipping<L>(conn: &TapedConn<L>) -> bool
         None => false,
         Some(open) => match open.call {
             Call::SkipTaken => true,
-            Call::Connect
-            | Call::Query(_)
-            | Call::Prepare(_)
-            | Call::Execute(_, _)
-            | Call::Batch(_, _)
-            | Call::CloseStmt(_)
-            | Call::NextRow
-            | Call::DropResult
-            | Call::TakeSet
-            | Call::Ping
-            | Call::Reset
-            | Call::ChangeUser(_)
-            | Call::Begin(_)
-            | Call::Commit
-            | Call::Rollback
-            | Call::ForgetTransaction
-            | Call::CleanForPool
-            | Call::ResetForPool
-            | Call::Quit => false,
+            _ => false,
         },
     }
 }

@@ -1,9 +1,8 @@
 //! Rows of heaps, and many pushes, removals and pops beside a scanned list.
 
-use crate::dice::Dice;
 use crate::rows::HEAP;
-use crate::words::{is_wanted, numbers_of};
 use my_pool_parts::{Counted, Entry, WaitHeap};
+use pool_looks::{Dice, is_wanted, numbers_of};
 use std::test::Fail;
 
 const SLOTS: usize = 100;

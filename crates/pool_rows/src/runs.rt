@@ -1,13 +1,12 @@
 //! Many events from a seed, with what is known of the pool beside it.
 
-use crate::dice::{Dice, some_event, some_word};
+use crate::events::{some_event, some_word};
 use crate::scanned::follow;
-use crate::sound::{Shown, is_sound};
-use crate::words::told;
 use my_frame::NoMemory;
 use my_opts_parts::{Millis, PoolConstraints, PoolOpts};
 use my_pool_core::{Core, PoolEvent};
 use my_pool_parts::{Connection, Request};
+use pool_looks::{Dice, Shown, is_sound, replayed, told};
 use std::alloc::Global;
 use std::test::Fail;
 
@@ -146,33 +145,6 @@ fn play(
         }
     }
     Ok(false)
-}
-
-// Whether another pool has the same lists and counts.
-fn is_same(alloc: Global, core: &Core, other: &Core) -> Result<bool, NoMemory> {
-    let connections = core.connections(alloc)?;
-    let requests = core.requests(alloc)?;
-    Ok(
-        core.metrics() == other.metrics()
-            && connections == other.connections(alloc)?
-            && requests == other.requests(alloc)?,
-    )
-}
-
-/// Whether a replay of events is a pool; None where it is refused.
-pub fn replayed(
-    alloc: Global,
-    core: &Core,
-    opts: &PoolOpts,
-    first: u64,
-    events: &[PoolEvent],
-) -> Result<Option<bool>, NoMemory> {
-    let Some(again) = Core::replay(alloc, opts, first, events)? else {
-        return Ok(None);
-    };
-    let same = is_same(alloc, core, &again);
-    drop(again);
-    Ok(Some(same?))
 }
 
 // Events happen: whether the pool was as it should be after each, their replay makes it again, and a replay with one that may not

@@ -16,7 +16,7 @@ use Rattle.my_world.specs.World.{Plans, DialCounts}
 use Rattle.my_steps.specs.Dialing.{Course}
 use Rattle.my_run.specs.Headline.{Headline}
 use Rattle.my_run.specs.Tool.{plans_with}
-use Rattle.my_plan_judge.specs.Runs.{IsFirstOfBoth, IsRightRun}
+use Rattle.my_run_judge.specs.Plan.Runs.{IsFirstOfBoth, IsRightRun}
 
 -- the plans of all links and of their dials are those of these lines
 pub record ArePlansOf (lines : List WorldLine) (plans : Plans) : Type 0 where

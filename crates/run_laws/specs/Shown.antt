@@ -24,28 +24,26 @@ use Rattle.reading_laws.specs.Bytes.{all_sent, all_taken, calls_from}
 
 -- the calls that a step makes by itself; those of a statement are shown by none, since their steps name its number
 abbrev pub is_stepped : CallKind → Bool
-is_stepped kinds.Connect = false
-is_stepped kinds.TakeSet = false
-is_stepped kinds.SkipTaken = false
-is_stepped kinds.Execute = false
-is_stepped kinds.Batch = false
-is_stepped kinds.CloseStmt = false
-is_stepped kinds.CleanForPool = false
-is_stepped kinds.ResetForPool = false
-is_stepped c = true
+is_stepped kinds.Query = true
+is_stepped kinds.Prepare = true
+is_stepped kinds.NextRow = true
+is_stepped kinds.DropResult = true
+is_stepped kinds.Ping = true
+is_stepped kinds.Reset = true
+is_stepped kinds.ChangeUser = true
+is_stepped kinds.Begin = true
+is_stepped kinds.Commit = true
+is_stepped kinds.Rollback = true
+is_stepped kinds.ForgetTransaction = true
+is_stepped kinds.Quit = true
+is_stepped c = false
 
 -- the step that makes a call on connection 0; those that no step makes are shown by none
 abbrev pub step_of : Call → Step
-step_of calls.Connect = steps.Conn
 step_of (calls.Query text) = steps.Query 0 text
 step_of (calls.Prepare text) = steps.Prepare 0 text
-step_of (calls.Execute statement params) = steps.Conn
-step_of (calls.Batch statement lists) = steps.Conn
-step_of (calls.CloseStmt id) = steps.Conn
 step_of calls.NextRow = steps.Next 0
 step_of calls.DropResult = steps.Drop 0
-step_of calls.TakeSet = steps.Conn
-step_of calls.SkipTaken = steps.Conn
 step_of calls.Ping = steps.Ping 0
 step_of calls.Reset = steps.Reset 0
 step_of (calls.ChangeUser change) = steps.User 0 change
@@ -53,9 +51,8 @@ step_of (calls.Begin opts) = steps.Begin 0 opts
 step_of calls.Commit = steps.Commit 0
 step_of calls.Rollback = steps.Rollback 0
 step_of calls.ForgetTransaction = steps.ForgetTransaction 0
-step_of calls.CleanForPool = steps.Conn
-step_of calls.ResetForPool = steps.Conn
 step_of calls.Quit = steps.Quit 0
+step_of call = steps.Conn
 
 -- the answer of a step whose call ended so, or is open
 abbrev pub outcome_of : Option Told → Outcome
@@ -80,8 +77,8 @@ abbrev pub begun_by_step : List Span → Bool
 begun_by_step [] = true
 begun_by_step (s ∷ ss) = is_stepped (kind_of s.call) && begun_by_step ss
 
--- The transcript's first answer is that the connection was made; each other one is how its call ended. The uses say how many bytes
--- each call received, and the tape has the bytes of all calls, and where those sent by each begin.
+-- The transcript's first answer is that the connection was made; each other one is how its call ended. The uses say
+-- how many bytes each call received, and the tape has the bytes of all calls, and where those sent by each begin.
 pub record Shows (a : StepAnswer) (answers : List StepAnswer) (t : Tape) (s : Span) (ss : List Span) : Type 0 where
   pub id : ℕ
   pub version : ServerVersion
@@ -95,12 +92,15 @@ pub record Shows (a : StepAnswer) (answers : List StepAnswer) (t : Tape) (s : Sp
 
 -- No run of these steps has a transcript that shows these calls.
 abbrev pub NoTranscript : Login → Span → List Span → Type 0
-NoTranscript login s ss = (plans : Plans) (before later : Course) (a : StepAnswer) (answers : List StepAnswer) (t : Tape)
+NoTranscript login s ss = (plans : Plans) (before later : Course) (a : StepAnswer) (answers : List StepAnswer)
+    (t : Tape)
     → Shows a answers t s ss
     → Headline login plans before later (steps.Conn ∷ map (λ c. step_of c.call) ss) (a ∷ answers) (t ∷ []) → ⊥
 
 -- Nor has one of these steps and `fields` a transcript that shows these calls and then this OK.
 abbrev pub NoFields : Login → Span → List Span → Option OkPacket → Type 0
-NoFields login s ss fields = (plans : Plans) (before later : Course) (a b : StepAnswer) (answers : List StepAnswer) (t : Tape)
+NoFields login s ss fields = (plans : Plans) (before later : Course) (a b : StepAnswer) (answers : List StepAnswer)
+    (t : Tape)
     → Shows a answers t s ss → b.outcome ≡ Fields fields
-    → Headline login plans before later (steps.Conn ∷ (map (λ c. step_of c.call) ss ++ steps.Fields 0 ∷ [])) (a ∷ (answers ++ b ∷ [])) (t ∷ []) → ⊥
+    → Headline login plans before later (steps.Conn ∷ (map (λ c. step_of c.call) ss ++ steps.Fields 0 ∷ []))
+    (a ∷ (answers ++ b ∷ [])) (t ∷ []) → ⊥

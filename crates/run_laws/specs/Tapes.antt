@@ -25,9 +25,9 @@ abbrev pub AtEach : (Handle → Type 0) → List Line → Type 0
 AtEach P [] = Unit {0}
 AtEach P (l ∷ ls) = ((n : ℕ) → P (at_number l.handles n)) × AtEach P ls
 
--- After each line of a run each connection's tape is one that the reading accepts: its first call connects and no other does,
--- each call ended as it comes to, or is open there, what was sent is a beginning of what the calls say, and the calls
--- stand in order.
+-- After each line of a run each connection's tape is one that the reading accepts: its first call connects and no
+-- other does, each call ended as it comes to, or is open there, what was sent is a beginning of what the calls say,
+-- and the calls stand in order.
 abbrev pub EachTapeIsRead : Type 0
 EachTapeIsRead = (login : Login) (plans : Plans) (before later : Course) (steps : List Step) (answers : List StepAnswer) (tapes : List Tape)
     → (h : Headline login plans before later steps answers tapes) → AtEach (HasTape login) h.lines

@@ -69,17 +69,20 @@ abbrev pub other_steps : List Step
 other_steps = steps.Conn ∷ steps.Query 0 text ∷ steps.Stream 0 ∷ steps.Item 0 ∷ []
 
 abbrev pub other_answers : List AnswerView
-other_answers = begun (line 3 outcomes.Done (polled 0 ∷ []) ∷ line 4 (outcomes.Row (row (codes "1"))) (polled (length further) ∷ []) ∷ [])
+other_answers = begun (line 3 outcomes.Done (polled 0 ∷ []) ∷ line 4 (outcomes.Row (row (codes "1")))
+    (polled (length further) ∷ []) ∷ [])
 
 abbrev pub other_tape : TapeView
-other_tape = taped further (made calls.TakeSet all_sent answers.Ready ∷ made calls.NextRow all_sent (answers.Row (row (codes "1"))) ∷ [])
+other_tape = taped further
+    (made calls.TakeSet all_sent answers.Ready ∷ made calls.NextRow all_sent (answers.Row (row (codes "1"))) ∷ [])
 
 -- `stream`, `unstream`, `stream`: the second passes over nothing
 abbrev pub kept_steps : List Step
 kept_steps = steps.Conn ∷ steps.Query 0 text ∷ steps.Stream 0 ∷ steps.Unstream 0 ∷ steps.Stream 0 ∷ []
 
 abbrev pub kept_answers : List AnswerView
-kept_answers = begun (line 3 outcomes.Done (polled 0 ∷ []) ∷ line 4 outcomes.Done [] ∷ line 5 outcomes.Done (polled 0 ∷ []) ∷ [])
+kept_answers = begun (line 3 outcomes.Done (polled 0 ∷ []) ∷ line 4 outcomes.Done []
+    ∷ line 5 outcomes.Done (polled 0 ∷ []) ∷ [])
 
 abbrev pub kept_tape : TapeView
 kept_tape = taped [] (made calls.TakeSet all_sent answers.Ready ∷ made calls.TakeSet all_sent answers.Ready ∷ [])
@@ -93,7 +96,8 @@ read_answers = begun (line 3 outcomes.Done (polled 0 ∷ []) ∷ line 4 outcomes
     ∷ line 5 (outcomes.Row (row (codes "1"))) (polled (length (one 3)) ∷ []) ∷ [])
 
 abbrev pub read_tape : TapeView
-read_tape = taped (one 3) (made calls.TakeSet all_sent answers.Ready ∷ made calls.NextRow all_sent (answers.Row (row (codes "1"))) ∷ [])
+read_tape = taped (one 3)
+    (made calls.TakeSet all_sent answers.Ready ∷ made calls.NextRow all_sent (answers.Row (row (codes "1"))) ∷ [])
 
 -- `stream`, `item`, `item`: the second is refused, though the stream is there
 abbrev pub over_steps : List Step

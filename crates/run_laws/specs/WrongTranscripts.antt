@@ -38,17 +38,19 @@ pub record AreWrong : Type 0 where
   -- `reset`: the session was reset, though nothing was sent; and a server that has the command wasn't sent it
   pub silent_reset : NoneShow (reset [] [] true ∷ [])
   pub idle_reset : NoneShow (reset [] [] false ∷ [])
-  -- `user`: another user than the step's was sent; ok before the server's, or though it refused; `prep`, `user`, `prep`: the statement is in the cache
-  -- after it
+  -- `user`: another user than the step's was sent; ok before the server's, or though it refused; `prep`, `user`,
+  -- `prep`: the statement is in the cache after it
   pub old_user : NoneShow (changed (changes_to (codes "root")) (fine 1 2) ∷ [])
   pub early_change : NoneShow (changed (changes_to (codes "bob")) [] ∷ [])
   pub changed_by_error : NoneShow (changed (changes_to (codes "bob")) (refusal 1) ∷ [])
   pub kept_over_change : NoneShow (prepared 1 ∷ changed (changes_to (codes "bob")) (fine 1 2) ∷ found ∷ [])
-  -- `begin`, `forget`, `ping`: the transaction wasn't rolled back, or twice with a second `ping`; `begin`, `forget`: it was rolled back at once
+  -- `begin`, `forget`, `ping`: the transaction wasn't rolled back, or twice with a second `ping`; `begin`, `forget`:
+  -- it was rolled back at once
   pub not_undone : NoneShow (begun ∷ forgotten ∷ pinged [] [] ∷ [])
   pub undone_twice : NoneShow (begun ∷ forgotten ∷ pinged rolls_back (fine 1 2) ∷ pinged rolls_back (fine 1 2) ∷ [])
   pub undone_early : NoneShow (begun ∷ returned ForgetTransaction rolls_back (fine 1 2) ToldReady ∷ [])
-  -- `begin`, `begin`: both began one; `begin`: it is refused, though there is no other one; `begin`, `begin`, `next`: the refusal closed
+  -- `begin`, `begin`: both began one; `begin`: it is refused, though there is no other one; `begin`, `begin`, `next`:
+  -- the refusal closed
   pub begun_twice : NoneShow (begun ∷ begun ∷ [])
   pub never_nested : NoneShow (returned (Begin default_tx) [] [] (ToldError (Driver NestedTransaction)) ∷ [])
   pub closing_refusal : NoneShow (begun ∷ returned (Begin default_tx) [] [] (ToldError (Driver NestedTransaction)) ∷ returned NextRow [] [] (ToldError connection_closed) ∷ [])
@@ -58,8 +60,8 @@ pub record AreWrong : Type 0 where
   pub early_begin : NoneShow (returned (Begin reading_tx) (sets_access ++ starts) (fine 1 2) ToldReady ∷ [])
   -- `begin`, `rollback`: nothing was sent
   pub silent_rollback : NoneShow (begun ∷ returned Rollback [] [] ToldReady ∷ [])
-  -- `begin`, `commit`: ok, though the server refused; it isn't rolled back then; an error before the answer to that, or the second one in place
-  -- of the first; it is rolled back though it was committed; nothing was sent
+  -- `begin`, `commit`: ok, though the server refused; it isn't rolled back then; an error before the answer to that,
+  -- or the second one in place of the first; it is rolled back though it was committed; nothing was sent
   pub committed_by_error : NoneShow (begun ∷ returned Commit commits (refusal 1) ToldReady ∷ [])
   pub not_rolled_back : NoneShow (begun ∷ returned Commit commits (refusal 1) (ToldError (Server error)) ∷ [])
   pub early_refusal : NoneShow (begun ∷ returned Commit (commits ++ rolls_back) (refusal 1) (ToldError (Server error)) ∷ [])
@@ -81,7 +83,8 @@ pub record AreWrong : Type 0 where
   pub invented_fault : NoneShow (selected ∷ returned NextRow [] (one 3) (ToldError (invalid_data 4)) ∷ [])
   -- `query`, `next`: the server's error is passed over
   pub lost_error : NoneShow (selected ∷ returned NextRow [] (refusal 3) ToldNone ∷ [])
-  -- `prep`: a statement with two parameters, where the server said one; `prep`, `prep`: it is prepared again, though it is cached
+  -- `prep`: a statement with two parameters, where the server said one; `prep`, `prep`: it is prepared again, though
+  -- it is cached
   pub other_number : NoneShow (prepared 2 ∷ [])
   pub prepared_again : NoneShow (prepared 1 ∷ prepared 1 ∷ [])
   -- `query`, `fields`: those of an end that was received and not read

@@ -1,5 +1,5 @@
-//! What follows of the headline, each law a function's clause: how tapes are read, which transcripts no run has, what the
-//! judges of transcripts and of plans find of a run, and what a transcript's text says of it.
+//! What follows of the headline, each law a function's clause: how tapes are read, which transcripts no run has, what
+//! the judges of transcripts and of plans find of a run, and what a transcript's text says of it.
 #![tactic(auto)]
 
 ghost use Rattle.my_run.specs.Fits.{LinksFit};
@@ -12,10 +12,10 @@ ghost use Rattle.run_laws.specs.WrongStreams.{AreNoStreams};
 ghost use Rattle.run_laws.specs.WrongTranscripts.{AreWrong};
 ghost use Rattle.run_laws.specs.Written.{ReadsAsItself};
 
-/// After each line of a run each connection's tape is one of a client that logs in so, by the reading of my_reading: so the
-/// tapes that a transcript prints are beginnings of conversations that begin with one handshake. The calls of each
-/// stand in order: the first one begins with the first bytes, no other one before the one that precedes it or after the
-/// tape's end, and only the newest may be open.
+/// After each line of a run each connection's tape is one of a client that logs in so, by the reading of my_reading:
+/// so the tapes that a transcript prints are beginnings of conversations that begin with one handshake. The calls of
+/// each stand in order: the first one begins with the first bytes, no other one before the one that precedes it or
+/// after the tape's end, and only the newest may be open.
 pub fn each_tape_is_read()
     ensures { EachTapeIsRead }
 {}
@@ -27,24 +27,25 @@ pub fn each_tape_is_lawful()
     ensures { EachTapeIsLawful }
 {}
 
-/// After each line of a run each link fits its connection: one that shows the bytes that it was sent was sent those of the
-/// tape, what is left of a plan for reads follows the bytes that the tape received, and a dial that isn't ready waited as
-/// often as the plan says.
+/// After each line of a run each link fits its connection: one that shows the bytes that it was sent was sent those
+/// of the tape, what is left of a plan for reads follows the bytes that the tape received, and a dial that isn't
+/// ready waited as often as the plan says.
 pub fn each_link_fits()
     ensures { LinksFit }
 {}
 
 /// No run has one of these transcripts: a row, an end or an error that the bytes don't hold, an answer that comes too
-/// early, a step that stays pending though its answer was received, a command that wasn't sent or is another call's, a
-/// reset for which nothing was sent, a transaction that isn't begun as its options say, that was given up and isn't rolled
-/// back before the next command, or that is committed though the server refused, bytes on a closed connection, a statement
-/// that has another number of parameters than the server said, or that is prepared again though it is cached.
+/// early, a step that stays pending though its answer was received, a command that wasn't sent or is another call's,
+/// a reset for which nothing was sent, a transaction that isn't begun as its options say, that was given up and isn't
+/// rolled back before the next command, or that is committed though the server refused, bytes on a closed connection,
+/// a statement that has another number of parameters than the server said, or that is prepared again though it is
+/// cached.
 pub fn no_transcript_is_wrong()
     ensures { AreWrong }
 {}
 
-/// No run has one of these: an item that shows a row of the next set, a stream and a `next` that don't pass over the rest
-/// of the set that an earlier stream took, and an item that is refused, though its stream is there.
+/// No run has one of these: an item that shows a row of the next set, a stream and a `next` that don't pass over the
+/// rest of the set that an earlier stream took, and an item that is refused, though its stream is there.
 pub fn no_stream_is_wrong()
     ensures { AreNoStreams }
 {}
@@ -60,20 +61,20 @@ pub fn each_run_is_right()
     ensures { EachRunIsRight }
 {}
 
-/// A transcript of which the judge finds a wrong line is one of no run, over whatever links: the theorem on runs is false
-/// of it.
+/// A transcript of which the judge finds a wrong line is one of no run, over whatever links: the theorem on runs is
+/// false of it.
 pub fn each_refusal_refutes()
     ensures { EachRefusalRefutes }
 {}
 
-/// The transcript of each run over a world that told a plan of these lines is right by `my_plan_judge`, and keeps to the
+/// The transcript of each run over a world that told a plan of these lines is right by `my_run_judge`, and keeps to the
 /// plan. So the judge refuses nothing that such a run prints.
 pub fn each_planned_run_is_right()
     ensures { EachPlannedRunIsRight }
 {}
 
-/// A transcript of which the judge finds a wrong line is one of no run over a world that told a plan of these lines: the
-/// theorem on runs is false of it.
+/// A transcript of which the judge finds a wrong line is one of no run over a world that told a plan of these lines:
+/// the theorem on runs is false of it.
 pub fn each_planned_refusal_refutes()
     ensures { EachPlannedRefusalRefutes }
 {}
@@ -83,9 +84,9 @@ pub fn memory_tells()
     ensures { MemoryTells }
 {}
 
-/// Two transcripts with one text have the same answers, each with its number and its text, and the same tapes, each with its
-/// number and the bytes of both sides. The text of no answer has a line feed: of an error that a server sent the state is
-/// printed as it came, so that one with a line feed would break its line.
+/// Two transcripts with one text have the same answers, each with its number and its text, and the same tapes, each
+/// with its number and the bytes of both sides. The text of no answer has a line feed: of an error that a server sent
+/// the state is printed as it came, so that one with a line feed would break its line.
 pub fn one_text_one_transcript()
     ensures { OneTextOneTranscript }
 {}

@@ -27,19 +27,14 @@ fn letter(step: Option<SessionStep>) -> char {
 }
 
 // Adds what a step at this moment asks, and the moment of the last payload.
-fn step_at<P: Peer>(
-    alloc: Global,
-    peer: &mut P,
-    now: u64,
-    text: &mut String,
-) -> Result<(), NoMemory> {
+fn step_at(alloc: Global, peer: &mut Session, now: u64, text: &mut String) -> Result<(), NoMemory> {
     text.push(letter(peer.steps(alloc, now)))?;
     write!(text, "{} ", peer.read_at())?;
     Ok(())
 }
 
 // Begins a call that isn't refused.
-fn begins<P: Peer>(peer: &mut P, call: Call) -> bool {
+fn begins(peer: &mut Session, call: Call) -> bool {
     match peer.begins(call) {
         Ok(begun) => begun,
         Err(error) => {
@@ -50,7 +45,7 @@ fn begins<P: Peer>(peer: &mut P, call: Call) -> bool {
 }
 
 // A ping that is sent at 6, awaited at 7 and answered at 8.
-fn pings<P: Peer>(alloc: Global, peer: &mut P, text: &mut String) -> Result<(), NoMemory> {
+fn pings(alloc: Global, peer: &mut Session, text: &mut String) -> Result<(), NoMemory> {
     write!(text, "{} ", begins(peer, Call::Ping))?;
     step_at(alloc, peer, 6, text)?;
     peer.sends(text)?;
@@ -62,7 +57,7 @@ fn pings<P: Peer>(alloc: Global, peer: &mut P, text: &mut String) -> Result<(), 
 }
 
 // What a session says of itself before it connects, then, and after a ping; and the lengths of its buffer, and what is read of it.
-fn lived<P: Peer>(alloc: Global, peer: &mut P, head: &Head) -> Result<String, NoMemory> {
+fn lived(alloc: Global, peer: &mut Session, head: &Head) -> Result<String, NoMemory> {
     let mut text = String::new(alloc);
     write!(text, "{} ", peer.read_at())?;
     let mut sent = String::new(alloc);
@@ -75,9 +70,9 @@ fn lived<P: Peer>(alloc: Global, peer: &mut P, head: &Head) -> Result<String, No
     Ok(text)
 }
 
-fn lived_new<P: Peer>(alloc: Global) -> Result<String, NoMemory> {
+fn lived_new(alloc: Global) -> Result<String, NoMemory> {
     let head = head_of("8.0.36");
-    let mut peer = P::made(alloc, options(alloc, &head)?)?;
+    let mut peer = Session::made(alloc, options(alloc, &head)?)?;
     let text = lived(alloc, &mut peer, &head);
     drop(peer);
     text
@@ -85,7 +80,7 @@ fn lived_new<P: Peer>(alloc: Global) -> Result<String, NoMemory> {
 
 #[test]
 fn sessions_know_when_they_read_last(rt: HostRuntime) -> Result<(), Fail> {
-    let text = lived_new::<Session>(rt.alloc())?;
+    let text = lived_new(rt.alloc())?;
     assert!(rt;
         text.as_str() == "0 5 true true s5 010000000e n5 r8 -8 1024 1024 7",
         "{text}"
@@ -94,9 +89,9 @@ fn sessions_know_when_they_read_last(rt: HostRuntime) -> Result<(), Fail> {
 }
 
 // Prepares this text, and adds what is sent and answered.
-fn prepares<P: Peer>(
+fn prepares(
     alloc: Global,
-    peer: &mut P,
+    peer: &mut Session,
     statement: &str,
     reply: &[u8],
     head: &Head,
@@ -131,9 +126,9 @@ fn reply(alloc: Global, number: u32) -> Result<Vec<u8>, NoMemory> {
 }
 
 // Whether a statement with a text of this number is prepared so, and found again without a byte.
-fn is_kept<P: Peer>(
+fn is_kept(
     alloc: Global,
-    peer: &mut P,
+    peer: &mut Session,
     number: u32,
     head: &Head,
     last: &mut Option<Statement>,
@@ -164,9 +159,9 @@ fn is_kept<P: Peer>(
 }
 
 // How many of 300 statements are kept so by a cache of three.
-fn kept<P: Peer>(
+fn kept(
     alloc: Global,
-    peer: &mut P,
+    peer: &mut Session,
     head: &Head,
     last: &mut Option<Statement>,
 ) -> Result<u32, NoMemory> {
@@ -180,9 +175,9 @@ fn kept<P: Peer>(
     Ok(301)
 }
 
-fn kept_new<P: Peer>(alloc: Global) -> Result<u32, NoMemory> {
+fn kept_new(alloc: Global) -> Result<u32, NoMemory> {
     let head = head_of("8.0.36 cached=3");
-    let mut peer = P::made(alloc, options(alloc, &head)?)?;
+    let mut peer = Session::made(alloc, options(alloc, &head)?)?;
     let mut last = None;
     let kept = kept(alloc, &mut peer, &head, &mut last);
     drop(last);
@@ -192,7 +187,7 @@ fn kept_new<P: Peer>(alloc: Global) -> Result<u32, NoMemory> {
 
 #[test]
 fn three_of_300_statements_are_kept(rt: HostRuntime) -> Result<(), Fail> {
-    assert!(rt; kept_new::<Session>(rt.alloc())? == 301);
+    assert!(rt; kept_new(rt.alloc())? == 301);
     Ok(())
 }
 
@@ -222,9 +217,9 @@ const ONE_PARAMETER: &str = "0c000001 00 01000000 0000 0100 00 0000 \
     17000002 0364656600000001 3f 000c3f0000000000fd8000000000";
 
 // Whether the value is sent so.
-fn sends_ahead<P: Peer>(
+fn sends_ahead(
     alloc: Global,
-    peer: &mut P,
+    peer: &mut Session,
     head: &Head,
     last: &mut Option<Statement>,
 ) -> Result<bool, NoMemory> {
@@ -236,9 +231,9 @@ fn sends_ahead<P: Peer>(
     Ok(begun && letter(peer.steps(alloc, 0)) == 's' && is_sent_ahead(peer.owes()))
 }
 
-fn sends_ahead_new<P: Peer>(alloc: Global) -> Result<bool, NoMemory> {
+fn sends_ahead_new(alloc: Global) -> Result<bool, NoMemory> {
     let head = head_of("8.0.36 limit=1073741824");
-    let mut peer = P::made(alloc, options(alloc, &head)?)?;
+    let mut peer = Session::made(alloc, options(alloc, &head)?)?;
     let mut last = None;
     let sent = sends_ahead(alloc, &mut peer, &head, &mut last);
     drop(last);
@@ -248,6 +243,6 @@ fn sends_ahead_new<P: Peer>(alloc: Global) -> Result<bool, NoMemory> {
 
 #[test]
 fn a_long_value_is_sent_ahead(rt: HostRuntime) -> Result<(), Fail> {
-    assert!(rt; sends_ahead_new::<Session>(rt.alloc())?);
+    assert!(rt; sends_ahead_new(rt.alloc())?);
     Ok(())
 }

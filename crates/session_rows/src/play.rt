@@ -6,15 +6,15 @@ use crate::peer::Peer;
 use crate::said::{answered, failed};
 use my_frame::NoMemory;
 use my_reading::Call;
-use my_session::SessionStep;
+use my_session::{Session, SessionStep};
 use my_statements::Statement;
 use std::alloc::{AllocError, Global};
 use std::fmt::Write;
 
 // Steps the open call until it is answered or waits in vain. Where bytes are awaited, the next part is received.
-fn carried<P: Peer>(
+fn carried(
     alloc: Global,
-    peer: &mut P,
+    peer: &mut Session,
     parts: &[&[u8]],
     then: Then,
     text: &mut String,
@@ -48,9 +48,9 @@ fn carried<P: Peer>(
 
 /// Begins a call and steps it, and adds what was sent, and the answer. These parts are received meanwhile, each where bytes are
 /// awaited.
-pub fn played<P: Peer>(
+pub fn played(
     alloc: Global,
-    peer: &mut P,
+    peer: &mut Session,
     call: Call,
     parts: &[&[u8]],
     then: Then,
@@ -65,9 +65,9 @@ pub fn played<P: Peer>(
 }
 
 /// Connects a session as its head says, and adds what was sent, and the answer.
-pub fn connected<P: Peer>(
+pub fn connected(
     alloc: Global,
-    peer: &mut P,
+    peer: &mut Session,
     head: &Head,
     text: &mut String,
 ) -> Result<(), NoMemory> {
@@ -87,14 +87,14 @@ pub fn connected<P: Peer>(
     played
 }
 
-fn show_settings<P: Peer>(peer: &P, text: &mut String) -> Result<(), AllocError> {
+fn show_settings(peer: &Session, text: &mut String) -> Result<(), AllocError> {
     let (limit, wait) = peer.settings();
     write!(text, "{limit} {wait}")
 }
 
 // How many columns are known of the last statement.
-fn show_columns<P: Peer>(
-    peer: &P,
+fn show_columns(
+    peer: &Session,
     text: &mut String,
     last: &Option<Statement>,
 ) -> Result<(), AllocError> {
@@ -109,9 +109,9 @@ fn show_columns<P: Peer>(
 }
 
 // A call with its bytes, of which so many come first.
-fn shown_call<P: Peer>(
+fn shown_call(
     alloc: Global,
-    peer: &mut P,
+    peer: &mut Session,
     call: &str,
     bytes: &str,
     first: usize,
@@ -126,9 +126,9 @@ fn shown_call<P: Peer>(
 }
 
 // What a row shows. The bytes of a call after `~` are cut at this place.
-fn shown<P: Peer>(
+fn shown(
     alloc: Global,
-    peer: &mut P,
+    peer: &mut Session,
     call: &str,
     bytes: &str,
     place: usize,
@@ -156,9 +156,9 @@ fn parts_of(row: &str) -> (&str, &str, &str) {
 }
 
 // The first row that shows something else, with that; nothing where there is none.
-fn fault_of_calls<P: Peer>(
+fn fault_of_calls(
     alloc: Global,
-    peer: &mut P,
+    peer: &mut Session,
     talk: &str,
     place: usize,
     then: Then,
@@ -178,9 +178,9 @@ fn fault_of_calls<P: Peer>(
 }
 
 // The same of a new session, which connects first where the head says so.
-fn fault_of_peer<P: Peer>(
+fn fault_of_peer(
     alloc: Global,
-    peer: &mut P,
+    peer: &mut Session,
     head: &Head,
     talk: &str,
     place: usize,
@@ -208,9 +208,9 @@ fn head_line(talk: &str) -> &str {
     ""
 }
 
-fn fault_at<P: Peer>(alloc: Global, talk: &str, place: usize) -> Result<String, NoMemory> {
+fn fault_at(alloc: Global, talk: &str, place: usize) -> Result<String, NoMemory> {
     let head = head_of(head_line(talk));
-    let mut peer = P::made(alloc, options(alloc, &head)?)?;
+    let mut peer = Session::made(alloc, options(alloc, &head)?)?;
     let fault = fault_of_peer(alloc, &mut peer, &head, talk, place);
     drop(peer);
     fault
@@ -229,12 +229,12 @@ fn longest(alloc: Global, talk: &str) -> Result<usize, NoMemory> {
 }
 
 /// The first row of a talk that shows something else, with that, wherever the bytes are cut; nothing where there is none.
-pub fn fault_of_talk<P: Peer>(alloc: Global, talk: &str) -> Result<String, NoMemory> {
+pub fn fault_of_talk(alloc: Global, talk: &str) -> Result<String, NoMemory> {
     for place in 0..longest(alloc, talk)? {
-        let fault = fault_at::<P>(alloc, talk, place)?;
+        let fault = fault_at(alloc, talk, place)?;
         if !fault.is_empty() {
             return Ok(fault);
         }
     }
-    fault_at::<P>(alloc, talk, usize::MAX)
+    fault_at(alloc, talk, usize::MAX)
 }

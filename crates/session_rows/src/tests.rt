@@ -8,7 +8,6 @@ use crate::rows::statements::STATEMENTS;
 use crate::rows::talks::TALKS;
 use crate::rows::transactions::TRANSACTIONS;
 use my_frame::NoMemory;
-use my_session::Session;
 use std::alloc::Global;
 use std::process::Abort;
 use std::test::Fail;
@@ -17,7 +16,7 @@ use std::test::Fail;
 fn played(rt: &impl Abort, alloc: Global, talks: &str) -> Result<u64, NoMemory> {
     let mut count = 0u64;
     for talk in talks.split("\n\n") {
-        let fault = fault_of_talk::<Session>(alloc, talk)?;
+        let fault = fault_of_talk(alloc, talk)?;
         assert!(rt; fault.is_empty(), "{talk}\n{fault}");
         count = count.wrapping_add(1);
     }

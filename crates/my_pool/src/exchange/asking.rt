@@ -51,8 +51,8 @@ impl<L: Drop, J: Journal, W: Wake> Exchange<L, J, W> {
         Ok(age)
     }
 
-    /// A request without a connection is polled at a moment. Where it waits, its waker is kept, and else returned; the idle
-    /// connection that it takes is handed out, and is fit.
+    /// A request without a connection is polled at a moment. Where it waits, its waker is kept, and else returned;
+    /// the idle connection that it takes is handed out, and is fit.
     pub fn poll_request(
         &mut self,
         age: u64,

@@ -62,8 +62,8 @@ impl<L, J: Journal, W: Wake> Exchange<L, J, W> {
         gone
     }
 
-    /// The tapes of the connections that are gone, with their numbers, in the order in which they went; none is left. Out
-    /// of memory, nothing changes. This is no event.
+    /// The tapes of the connections that are gone, with their numbers, in the order in which they went; none is left.
+    /// Out of memory, nothing changes. This is no event.
     pub fn take_tapes(&mut self, alloc: Global) -> Result<Vec<Slot<Tape>>, NoMemory>
         ensures taken { IfOk result (λ tapes. map entry_of tapes.items ≡ self.old.gone) }
         ensures left { OnOk result (self.new ≡ record self.old { gone = [] }) }

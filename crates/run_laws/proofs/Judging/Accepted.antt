@@ -15,7 +15,7 @@ use Rattle.my_script.specs.declared.transcript.StepAnswer.{StepAnswer}
 use Rattle.my_script.specs.declared.transcript.Tape.{Tape}
 use Rattle.my_script.specs.declared.transcript.TapeCall.{TapeCall}
 use Rattle.my_script.specs.declared.transcript.Use.{Use}
-use Rattle.my_acts.specs.declared.act.Status.TheVariants as status
+use Rattle.my_run_judge.specs.declared.act.Status.TheVariants as status
 use Rattle.my_client.specs.Kept.{Kept}
 use Rattle.my_client.specs.Reads.{calls_kept, tape_kept}
 use Rattle.my_world.specs.World.{Plans}

@@ -24,9 +24,9 @@ use Rattle.my_script.specs.declared.step.Step.TheVariants as steps
 use Rattle.my_script.specs.declared.transcript.Outcome.{Outcome}
 use Rattle.my_script.specs.declared.transcript.Outcome.TheVariants as outcomes
 use Rattle.my_script.specs.declared.transcript.Use.{Use}
-use Rattle.my_acts.specs.declared.act.Act.TheVariants.{Skips, Tells, Polls}
-use Rattle.my_acts.specs.declared.act.Status.TheVariants as status
-use Rattle.my_acts.specs.Acts.{act_of, asked, at_dialing, at_gathering, at_idle, at_open, begun_by, gathering, ground_of, polled_once}
+use Rattle.my_run_judge.specs.declared.act.Act.TheVariants.{Skips, Tells, Polls}
+use Rattle.my_run_judge.specs.declared.act.Status.TheVariants as status
+use Rattle.my_run_judge.specs.Acts.{act_of, asked, at_dialing, at_gathering, at_idle, at_open, begun_by, gathering, ground_of, polled_once}
 use Rattle.my_client.specs.Kept.{Asked, Kept, asking, asked_by, made_of}
 use Rattle.my_client.specs.Reads.{facts_kept}
 use Rattle.my_steps.specs.Grows.{Begins, BeginsOn, Calls, TellsFields, TellsWith, shown}

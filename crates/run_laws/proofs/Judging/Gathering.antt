@@ -22,9 +22,9 @@ use Rattle.my_script.specs.declared.transcript.Outcome.TheVariants as outcomes
 use Rattle.my_script.specs.declared.transcript.TapeCall.{TapeCall as ShownCall}
 use Rattle.my_script.specs.declared.transcript.Use.{Use}
 use Rattle.my_reading.specs.declared.facts.Facts.{Facts}
-use Rattle.my_acts.specs.declared.act.Act.TheVariants.{Polls}
-use Rattle.my_acts.specs.declared.act.Status.TheVariants as status
-use Rattle.my_acts.specs.Acts.{gathering}
+use Rattle.my_run_judge.specs.declared.act.Act.TheVariants.{Polls}
+use Rattle.my_run_judge.specs.declared.act.Status.TheVariants as status
+use Rattle.my_run_judge.specs.Acts.{gathering}
 use Rattle.my_client.specs.declared.poll.After.{After}
 use Rattle.my_client.specs.declared.poll.After.TheVariants as after
 use Rattle.my_client.specs.declared.tape.Said.TheVariants as says

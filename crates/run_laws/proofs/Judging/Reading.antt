@@ -30,11 +30,11 @@ use Rattle.my_script.specs.Streams.{is_skip, target}
 use Rattle.my_script.specs.declared.transcript.Outcome.{Outcome}
 use Rattle.my_script.specs.declared.transcript.Outcome.TheVariants as outcomes
 use Rattle.my_script.specs.declared.transcript.Use.{Use}
-use Rattle.my_acts.specs.declared.act.Act.TheVariants.{Wrong, Skips as SkipsLine, Polls, Passes as PassesLine}
-use Rattle.my_acts.specs.declared.act.Ground.{Ground}
-use Rattle.my_acts.specs.declared.act.Status.{Status}
-use Rattle.my_acts.specs.declared.act.Status.TheVariants as status
-use Rattle.my_acts.specs.Acts.{act_of, after_passing, at_dialing, at_gathering, at_idle, at_open, begun_by, closed_at_once, follows, gathered, gathering, ground_of, next_call, passed, passes, passing, polled, reading_call, reads, taking}
+use Rattle.my_run_judge.specs.declared.act.Act.TheVariants.{Wrong, Skips as SkipsLine, Polls, Passes as PassesLine}
+use Rattle.my_run_judge.specs.declared.act.Ground.{Ground}
+use Rattle.my_run_judge.specs.declared.act.Status.{Status}
+use Rattle.my_run_judge.specs.declared.act.Status.TheVariants as status
+use Rattle.my_run_judge.specs.Acts.{act_of, after_passing, at_dialing, at_gathering, at_idle, at_open, begun_by, closed_at_once, follows, gathered, gathering, ground_of, next_call, passed, passes, passing, polled, reading_call, reads, taking}
 use Rattle.my_client.specs.declared.poll.After.{After}
 use Rattle.my_client.specs.declared.poll.After.TheVariants as after
 use Rattle.my_client.specs.declared.tape.Said.TheVariants as says
@@ -56,26 +56,8 @@ use Rattle.run_laws.proofs.Judging.Calling.{gathered_line, gathered_spot}
 
 -- the call that passes over the rest of a set returns that it is done, and doesn't close the connection
 pub skip_call : (call : Call) → is_skip (kind_of call) ≡ true → call ≡ calls.SkipTaken
-skip_call calls.Connect e = cc
-skip_call (calls.Query text) e = cc
-skip_call (calls.Prepare text) e = cc
-skip_call (calls.Execute statement params) e = cc
-skip_call (calls.Batch statement lists) e = cc
-skip_call (calls.CloseStmt id) e = cc
-skip_call calls.NextRow e = cc
-skip_call calls.DropResult e = cc
-skip_call calls.TakeSet e = cc
 skip_call calls.SkipTaken e = refl
-skip_call calls.Ping e = cc
-skip_call calls.Reset e = cc
-skip_call (calls.ChangeUser change) e = cc
-skip_call (calls.Begin opts) e = cc
-skip_call calls.Commit e = cc
-skip_call calls.Rollback e = cc
-skip_call calls.ForgetTransaction e = cc
-skip_call calls.CleanForPool e = cc
-skip_call calls.ResetForPool e = cc
-skip_call calls.Quit e = cc
+skip_call _ e = cc
 
 skip_ready : (answer : Answer) → may_be (kind_of calls.SkipTaken) (told answer) ≡ true → answer ≡ answers.Ready
 skip_ready answers.Ready e = refl

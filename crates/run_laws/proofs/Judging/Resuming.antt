@@ -28,12 +28,12 @@ use Rattle.my_script.specs.declared.step.Step.TheVariants as steps
 use Rattle.my_script.specs.declared.transcript.Outcome.{Outcome}
 use Rattle.my_script.specs.declared.transcript.Outcome.TheVariants as outcomes
 use Rattle.my_script.specs.declared.transcript.Use.{Use}
-use Rattle.my_acts.specs.declared.act.Act.{Act}
-use Rattle.my_acts.specs.declared.act.Act.TheVariants.{Wrong, Skips, Connects, Polls, Cancels}
-use Rattle.my_acts.specs.declared.act.Act.TheVariants as acts
-use Rattle.my_acts.specs.declared.act.Status.{Status}
-use Rattle.my_acts.specs.declared.act.Status.TheVariants as status
-use Rattle.my_acts.specs.Acts.{act_of, after_cancel, connecting, dialed, gathered, gathering, passed, polled}
+use Rattle.my_run_judge.specs.declared.act.Act.{Act}
+use Rattle.my_run_judge.specs.declared.act.Act.TheVariants.{Wrong, Skips, Connects, Polls, Cancels}
+use Rattle.my_run_judge.specs.declared.act.Act.TheVariants as acts
+use Rattle.my_run_judge.specs.declared.act.Status.{Status}
+use Rattle.my_run_judge.specs.declared.act.Status.TheVariants as status
+use Rattle.my_run_judge.specs.Acts.{act_of, after_cancel, connecting, dialed, gathered, gathering, passed, polled}
 use Rattle.my_client.specs.declared.poll.After.{After}
 use Rattle.my_world.specs.World.{Plans}
 use Rattle.my_client.specs.declared.poll.After.TheVariants as after
@@ -82,25 +82,7 @@ connects_first_call k a some e = first_connects k.calls a (subst (λ q. connects
 -- only connecting connects, and it returns that it is done
 is_connecting : (call : Call) → is_connect (kind_of call) ≡ true → call ≡ calls.Connect
 is_connecting calls.Connect e = refl
-is_connecting (calls.Query text) e = cc
-is_connecting (calls.Prepare text) e = cc
-is_connecting (calls.Execute prepared params) e = cc
-is_connecting (calls.Batch prepared lists) e = cc
-is_connecting (calls.CloseStmt id) e = cc
-is_connecting calls.NextRow e = cc
-is_connecting calls.DropResult e = cc
-is_connecting calls.TakeSet e = cc
-is_connecting calls.SkipTaken e = cc
-is_connecting calls.Ping e = cc
-is_connecting calls.Reset e = cc
-is_connecting (calls.ChangeUser change) e = cc
-is_connecting (calls.Begin opts) e = cc
-is_connecting calls.Commit e = cc
-is_connecting calls.Rollback e = cc
-is_connecting calls.ForgetTransaction e = cc
-is_connecting calls.CleanForPool e = cc
-is_connecting calls.ResetForPool e = cc
-is_connecting calls.Quit e = cc
+is_connecting _ e = cc
 
 made_ready : (answer : Answer) → may_be (kind_of calls.Connect) (told answer) ≡ true → answer ≡ answers.Ready
 made_ready answers.Ready e = refl
@@ -230,25 +212,8 @@ module _ (login : Login) (t : Tape) (all : AreCalls login (reading login t).call
         where
           not_next : (c : Call) → c ≡ calls.NextRow → is_connect (kind_of c) ≡ true → ⊥
           not_next calls.Connect e f = cc
-          not_next (calls.Query text) e f = cc
-          not_next (calls.Prepare text) e f = cc
-          not_next (calls.Execute prepared params) e f = cc
-          not_next (calls.Batch prepared lists) e f = cc
-          not_next (calls.CloseStmt id) e f = cc
           not_next calls.NextRow e f = cc
-          not_next calls.DropResult e f = cc
-          not_next calls.TakeSet e f = cc
-          not_next calls.SkipTaken e f = cc
-          not_next calls.Ping e f = cc
-          not_next calls.Reset e f = cc
-          not_next (calls.ChangeUser change) e f = cc
-          not_next (calls.Begin opts) e f = cc
-          not_next calls.Commit e f = cc
-          not_next calls.Rollback e f = cc
-          not_next calls.ForgetTransaction e f = cc
-          not_next calls.CleanForPool e f = cc
-          not_next calls.ResetForPool e f = cc
-          not_next calls.Quit e f = cc
+          not_next _ e f = cc
   polls_on false k a x made o us kp live once con None rs has r = by_skip (is_skip (kind_of a.call)) refl r
     where
       opened : (w : Walk) → Tied login t (Joined true k x) w → w.spot.status ≡ status.Open

@@ -16,12 +16,12 @@ use Rattle.my_script.specs.declared.step.Step.TheVariants as steps
 use Rattle.my_script.specs.declared.transcript.Outcome.{Outcome}
 use Rattle.my_script.specs.declared.transcript.Outcome.TheVariants as outcomes
 use Rattle.my_script.specs.declared.transcript.Use.{Use}
-use Rattle.my_acts.specs.declared.act.Act.{Act}
-use Rattle.my_acts.specs.declared.act.Act.TheVariants.{Skips}
-use Rattle.my_acts.specs.declared.act.Ground.{Ground}
-use Rattle.my_acts.specs.declared.act.Status.{Status}
-use Rattle.my_acts.specs.declared.act.Status.TheVariants as status
-use Rattle.my_acts.specs.Acts.{act_ahead, act_here, act_of, act_there, act_with, dialed, is_missing, is_unprepared, moved, moves_world, refused}
+use Rattle.my_run_judge.specs.declared.act.Act.{Act}
+use Rattle.my_run_judge.specs.declared.act.Act.TheVariants.{Skips}
+use Rattle.my_run_judge.specs.declared.act.Ground.{Ground}
+use Rattle.my_run_judge.specs.declared.act.Status.{Status}
+use Rattle.my_run_judge.specs.declared.act.Status.TheVariants as status
+use Rattle.my_run_judge.specs.Acts.{act_ahead, act_here, act_of, act_there, act_with, dialed, is_missing, is_unprepared, moved, moves_world, refused}
 use Rattle.my_client.specs.Kept.{Asked, nothing_kept}
 use Rattle.my_world.specs.World.{Plans}
 use Rattle.my_value.specs.RowParts.{RowParts}

@@ -16,11 +16,11 @@ use Rattle.my_script.specs.declared.step.Step.TheVariants as steps
 use Rattle.my_script.specs.declared.transcript.Outcome.{Outcome}
 use Rattle.my_script.specs.declared.transcript.Outcome.TheVariants as outcomes
 use Rattle.my_script.specs.declared.transcript.Use.{Use}
-use Rattle.my_acts.specs.declared.act.Act.TheVariants.{Skips as SkipsLine}
-use Rattle.my_acts.specs.declared.act.Ground.{Ground}
-use Rattle.my_acts.specs.declared.act.Ground.TheVariants.{Taken}
-use Rattle.my_acts.specs.declared.act.Status.TheVariants as status
-use Rattle.my_acts.specs.Acts.{act_of, ground_of, itemed, no_item}
+use Rattle.my_run_judge.specs.declared.act.Act.TheVariants.{Skips as SkipsLine}
+use Rattle.my_run_judge.specs.declared.act.Ground.{Ground}
+use Rattle.my_run_judge.specs.declared.act.Ground.TheVariants.{Taken}
+use Rattle.my_run_judge.specs.declared.act.Status.TheVariants as status
+use Rattle.my_run_judge.specs.Acts.{act_of, ground_of, itemed, no_item}
 use Rattle.my_client.specs.Kept.{Asked, Kept, asked_by, asking, made_of}
 use Rattle.my_client.specs.Reads.{place_kept}
 use Rattle.my_steps.specs.Grows.{Begins, BeginsOn, Items, ItemsAt, ItemsOn, LetsGo, LetsGoWith, has_taken, shown}

@@ -11,10 +11,10 @@ use Rattle.my_script.specs.declared.step.Step.{Step}
 use Rattle.my_script.specs.Beside.{finds}
 use Rattle.my_script.specs.Streams.{target}
 use Rattle.my_script.specs.declared.transcript.StepAnswer.{StepAnswer}
-use Rattle.my_acts.specs.declared.act.Status.{Status}
-use Rattle.my_acts.specs.declared.act.Status.TheVariants as status
-use Rattle.my_acts.specs.declared.act.Act.{Act}
-use Rattle.my_acts.specs.Acts.{act_with}
+use Rattle.my_run_judge.specs.declared.act.Status.{Status}
+use Rattle.my_run_judge.specs.declared.act.Status.TheVariants as status
+use Rattle.my_run_judge.specs.declared.act.Act.{Act}
+use Rattle.my_run_judge.specs.Acts.{act_with}
 use Rattle.my_client.specs.Kept.{Asked, Kept, nothing_kept}
 use Rattle.my_client.specs.Reads.{calls_kept, tape_kept}
 use Rattle.my_judge.specs.Reads.{read_of}

@@ -26,9 +26,9 @@ use Rattle.my_run.specs.Headline.{AnswerView, answer_view, answers_of, steps_of}
 use Rattle.my_run_judge.specs.Transcripts.{dialed_by}
 use Rattle.run_laws.proofs.Judging.Accepted.{step_dials}
 use Rattle.run_laws.proofs.Judging.Running.{push_before, push_last, put_here, put_length, put_there, same_or}
-use Rattle.my_plan_judge.specs.declared.dials.DialSpot.{DialSpot}
-use Rattle.my_plan_judge.specs.declared.dials.DialSpot.TheVariants.{Ahead, Held, Over}
-use Rattle.my_plan_judge.specs.Dials.{DialKept, DialsKept, FirstMet, LineDials, after_step, dial_leaves, dial_meets, items_after, left_by, spot_after}
+use Rattle.my_run_judge.specs.declared.plan.dials.DialSpot.{DialSpot}
+use Rattle.my_run_judge.specs.declared.plan.dials.DialSpot.TheVariants.{Ahead, Held, Over}
+use Rattle.my_run_judge.specs.Plan.Dials.{DialKept, DialsKept, FirstMet, LineDials, after_step, dial_leaves, dial_meets, items_after, left_by, spot_after}
 use Rattle.run_laws.specs.Planned.{ArePlansOf}
 
 -- the lines, by what is shown of their answers

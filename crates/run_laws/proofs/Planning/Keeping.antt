@@ -23,14 +23,14 @@ use Rattle.my_run_judge.specs.declared.judging.Found.{Found}
 use Rattle.my_run_judge.specs.declared.judging.Found.TheVariants.{Right, Wrong}
 use Rattle.my_run_judge.specs.Transcripts.{IsFoundIn, IsWrongBelow, dialed_in, earlier}
 use Rattle.run_laws.proofs.Judging.Accepted as judged
-use Rattle.my_plan_judge.specs.declared.left.Left.{Left}
-use Rattle.my_plan_judge.specs.Left.{alike, first_left}
-use Rattle.my_plan_judge.specs.declared.dials.DialSpot.{DialSpot}
-use Rattle.my_plan_judge.specs.declared.dials.DialSpot.TheVariants.{Ahead}
-use Rattle.my_plan_judge.specs.Dials.{DialsKept, FirstUndialed, after_step, left_by}
-use Rattle.my_plan_judge.specs.Lines.{FirstUnkept, LinesKept}
-use Rattle.my_plan_judge.specs.Planned.{before_end, planned}
-use Rattle.my_plan_judge.specs.Runs.{ArePlanned, DialsAt, EachKept, IsFirstUnplanned, OneUnkept, PlansFound, TapeFound}
+use Rattle.my_run_judge.specs.declared.plan.left.Left.{Left}
+use Rattle.my_run_judge.specs.Plan.Left.{alike, first_left}
+use Rattle.my_run_judge.specs.declared.plan.dials.DialSpot.{DialSpot}
+use Rattle.my_run_judge.specs.declared.plan.dials.DialSpot.TheVariants.{Ahead}
+use Rattle.my_run_judge.specs.Plan.Dials.{DialsKept, FirstUndialed, after_step, left_by}
+use Rattle.my_run_judge.specs.Plan.Lines.{FirstUnkept, LinesKept}
+use Rattle.my_run_judge.specs.Plan.Planned.{before_end, planned}
+use Rattle.my_run_judge.specs.Plan.Runs.{ArePlanned, DialsAt, EachKept, IsFirstUnplanned, OneUnkept, PlansFound, TapeFound}
 use Rattle.run_laws.specs.Planned.{ArePlansOf, EachPlannedRunIsRight, EachPlannedRefusalRefutes, MemoryTells}
 use Rattle.run_laws.proofs.Planning.Dialing.{each_dialed}
 use Rattle.run_laws.proofs.Planning.Running.{AreShown, HasRoom, NumberRoom, RanSo, Stands, first, ran, shown_lines}

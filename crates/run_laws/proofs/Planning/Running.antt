@@ -25,10 +25,10 @@ use Rattle.my_steps.specs.Handle.{Handle, Absent, Dialing, Joined, at_number, pu
 use Rattle.my_steps.specs.Sums.{held_use, quiet, use_of}
 use Rattle.my_run.specs.Headline.{AnswerView, answer_view, answers_of}
 use Rattle.run_laws.proofs.Judging.Running.{less_or, past, push_before, push_last, put_here, put_length, put_there, same_or}
-use Rattle.my_plan_judge.specs.declared.left.Left.{Left}
-use Rattle.my_plan_judge.specs.Left.{AreKept, IsKept, after_met, after_use, after_uses}
-use Rattle.my_plan_judge.specs.Lines.{LinesKept}
-use Rattle.my_plan_judge.specs.Planned.{before_end}
+use Rattle.my_run_judge.specs.declared.plan.left.Left.{Left}
+use Rattle.my_run_judge.specs.Plan.Left.{AreKept, IsKept, after_met, after_use, after_uses}
+use Rattle.my_run_judge.specs.Plan.Lines.{LinesKept}
+use Rattle.my_run_judge.specs.Plan.Planned.{before_end}
 use Rattle.run_laws.proofs.Planning.Spending.{left_at, left_is}
 use Rattle.run_laws.proofs.Planning.Stepping.{Dials, DialsTo, Goes, HasFailed, HasLinked, HeldTo, IsHeld, IsLeft, Stays, WalksTo, calls_go, cancels_go, closes_go, dials_go, executes_go, goes_on_go, items_go, lets_go, reads_go, tells_go, where_go}
 use Rattle.run_laws.proofs.Planning.Walking.{NoneAt, StandsIn, WalkKept, none_kept, walk_kept, walks_elsewhere, walks_longer}

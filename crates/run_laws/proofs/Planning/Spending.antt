@@ -10,9 +10,9 @@ use Rattle.my_link.specs.Link.{Told, Gave, put_back, after_hold, after_fault, af
 use Rattle.my_link.specs.Looks.{Looks}
 use Rattle.my_link.specs.Moves.{Move, Received, Sent, Moves, Leads, received_by, Stop, NoStop, ReadHold, WriteHold, ReadFault, WriteFault, LinkEnd, StopsAt, faults_at, ends_at, IsUsed, IsMet, Receives, Sends, ReadHolds, WriteHolds, ReadFails, WriteFails, ReadEnds}
 use Rattle.my_link.specs.Spent.{spelled, fails_in, write_fails_in}
-use Rattle.my_plan_judge.specs.declared.left.Left.{Left}
-use Rattle.my_plan_judge.specs.Left.{EndPlanned, IsPlanned, after_met}
-use Rattle.my_plan_judge.specs.Planned.{before_end, has_end}
+use Rattle.my_run_judge.specs.declared.plan.left.Left.{Left}
+use Rattle.my_run_judge.specs.Plan.Left.{EndPlanned, IsPlanned, after_met}
+use Rattle.my_run_judge.specs.Plan.Planned.{before_end, has_end}
 
 -- some items are there
 abbrev items_in : {I : Type 0} → Option (List I) → List I

@@ -13,9 +13,9 @@ use Rattle.my_client.specs.Kept.{Asked, Kept}
 use Rattle.my_client.specs.Polls.{IsPolled}
 use Rattle.my_script.specs.declared.transcript.Use.{Use}
 use Rattle.my_run.proofs.Polls.{met_so, taken_so, used_so}
-use Rattle.my_plan_judge.specs.declared.left.Left.{Left}
-use Rattle.my_plan_judge.specs.Left.{AreKept, IsKept, IsPlanned, after_met, after_use, after_uses}
-use Rattle.my_plan_judge.specs.Planned.{before_end}
+use Rattle.my_run_judge.specs.declared.plan.left.Left.{Left}
+use Rattle.my_run_judge.specs.Plan.Left.{AreKept, IsKept, IsPlanned, after_met, after_use, after_uses}
+use Rattle.my_run_judge.specs.Plan.Planned.{before_end}
 use Rattle.run_laws.proofs.Planning.Spending.{Has, PlannedUse, left_at, use_planned}
 
 -- a poll that received these bytes

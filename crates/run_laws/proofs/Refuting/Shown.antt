@@ -303,18 +303,10 @@ module _ (login : Login) (plans : Plans) where
   -- one step at connection 0
   step_went : (call : Call) → is_stepped (kind_of call) ≡ true → (k : Kept) (x : Looks) (hs : List Handle) (o : Outcome) (us : List Use) (ms : List Handle) → hs ≡ Joined true k x ∷ [] → k.pending ≡ None → Free k → (found : Bool) (aim : Aim) (statement : Option StatementView) → (o ≡ NoSuchHandle → ⊥) → StepGrows login plans found aim statement hs (step_of call) o us ms
       → (h : Handle) × (ms ≡ h ∷ []) × Went k call o (taken_in us) h
-  step_went calls.Connect plain k x hs o us ms is rest free found aim statement seen g = cc
   step_went (calls.Query text) plain k x hs o us ms is rest free found aim statement seen g = at_went (calls.Query text) k x hs o us ms is rest g.made g.does g.others
   step_went (calls.Prepare text) plain k x hs o us ms is rest free found aim statement seen g = at_went (calls.Prepare text) k x hs o us ms is rest g.made g.does g.others
-  step_went (calls.Execute prepared params) plain k x hs o us ms is rest free found aim statement seen g = cc
-  step_went (calls.Batch prepared lists) plain k x hs o us ms is rest free found aim statement seen g = cc
-  step_went (calls.CloseStmt id) plain k x hs o us ms is rest free found aim statement seen g = cc
-  step_went calls.CleanForPool plain k x hs o us ms is rest free found aim statement seen g = cc
-  step_went calls.ResetForPool plain k x hs o us ms is rest free found aim statement seen g = cc
   step_went calls.NextRow plain k x hs o us ms is rest free found aim statement seen g = next_went k x hs o us ms is rest free g.made g.does g.others
   step_went calls.DropResult plain k x hs o us ms is rest free found aim statement seen g = at_went calls.DropResult k x hs o us ms is rest g.made g.does g.others
-  step_went calls.TakeSet plain k x hs o us ms is rest free found aim statement seen g = cc
-  step_went calls.SkipTaken plain k x hs o us ms is rest free found aim statement seen g = cc
   step_went calls.Ping plain k x hs o us ms is rest free found aim statement seen g = at_went calls.Ping k x hs o us ms is rest g.made g.does g.others
   step_went calls.Reset plain k x hs o us ms is rest free found aim statement seen g = at_went calls.Reset k x hs o us ms is rest g.made g.does g.others
   step_went (calls.ChangeUser change) plain k x hs o us ms is rest free found aim statement seen g = at_went (calls.ChangeUser change) k x hs o us ms is rest g.made g.does g.others
@@ -323,6 +315,7 @@ module _ (login : Login) (plans : Plans) where
   step_went calls.Rollback plain k x hs o us ms is rest free found aim statement seen g = found_went found calls.Rollback k x hs o us ms is rest g.made g.does g.others seen
   step_went calls.ForgetTransaction plain k x hs o us ms is rest free found aim statement seen g = found_went found calls.ForgetTransaction k x hs o us ms is rest g.made g.does g.others seen
   step_went calls.Quit plain k x hs o us ms is rest free found aim statement seen g = at_went calls.Quit k x hs o us ms is rest g.made g.does g.others
+  step_went _ plain k x hs o us ms is rest free found aim statement seen g = cc
 
   through : (ss : List Span) → are_plain ss ≡ true → (k : Kept) (x : Looks) (hs : List Handle) → hs ≡ Joined true k x ∷ [] → (is_last ss ≡ false → k.pending ≡ None) → Free k → (vs : List AnswerView) → map (λ b. b.outcome) vs ≡ map (λ s. outcome_of s.ending) ss → map (λ b. taken_in b.uses) vs ≡ map (λ s. length s.taken) ss
       → (ts : List Handle) → Chain login plans hs (map (λ s. step_of s.call) ss) vs ts → Led k ss ts

@@ -1,6 +1,5 @@
-use Rattle.std.proofs.Common.{◌≡◌, ◌+◌, ◌∙◌, Option, rules, subst}
+use Rattle.std.proofs.Common.{◌≡◌, ◌∙◌, Option, rules, subst}
 use Rattle.my_reading.specs.Place.{Place, is_taken}
-use Rattle.my_acts.specs.Acts.{act_with}
 use Rattle.my_statements.specs.Prepared.{StatementView}
 use Rattle.my_run_judge.specs.Does.{Does, StandsAt, walk_of}
 use Rattle.my_run_judge.specs.Lines.{ActRight, act_in, after_reads, ground_at}

@@ -1,6 +1,6 @@
 use Rattle.std.proofs.Common.{List, IfOk, drop, sym, subst}
 use Rattle.std.specs.Option.{option_copied}
-use Rattle.my_acts.specs.declared.act.Act.{Act}
+use Rattle.my_run_judge.specs.declared.act.Act.{Act}
 use Rattle.my_script.specs.declared.transcript.Use.{Use}
 use Rattle.my_run_judge.specs.Seen.{seen}
 use Rattle.my_run_judge.specs.Does.{Does}

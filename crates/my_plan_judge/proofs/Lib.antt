@@ -1,5 +1,0 @@
-pub mod Planning
-pub mod Keeping
-pub mod Following
-pub mod Dialing
-pub mod Finding
