@@ -1,7 +1,7 @@
 //! Calls that are polled by hand.
 
 ghost use Rattle.std.specs.Prelude.{◌≡◌, None};
-ghost use Rattle.my_line.specs.Calls.{MayPoll};
+ghost use Rattle.my_client.specs.Calls.{MayPoll};
 
 use crate::facts::fact;
 use my_calls::{

@@ -2,12 +2,11 @@
 
 use crate::links::{opts_of, play};
 use my_frame::NoMemory;
-use my_link::MemLink;
+use my_link::{MemLink, MemWorld};
 use my_pool::Exchange;
 use my_pool_requests::{AskTurn, Moment, ask, cancel_ask, give, poll_ask};
 use my_pool_store::{Dropped, NoWake};
 use my_pool_turns::turn;
-use my_world::MemWorld;
 use std::alloc::Global;
 use std::test::Fail;
 

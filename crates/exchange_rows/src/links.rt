@@ -2,10 +2,9 @@
 
 use my_conn::{Conn, Connected, Connecting};
 use my_frame::{Blob, NoMemory};
-use my_link::{DialStep, Dialer, MemLink, NoAid};
+use my_link::{DialStep, Dialer, MemLink, MemWorld, NoAid, World, WorldLine};
 use my_opts::Opts;
 use my_opts_parts::limits::LONGEST_URL;
-use my_world::{MemWorld, World, WorldLine};
 use std::alloc::Global;
 
 // What words play: of a server its greeting, its OK for a login, and for a command; and a set of one row.

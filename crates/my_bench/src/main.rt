@@ -12,9 +12,8 @@ mod words;
 
 use fault::Fault;
 use my_conn::Conn;
-use my_link::BlockingLink;
+use my_link::{BlockingLink, World};
 use my_net::{RealLink, TcpWorld};
-use my_world::World;
 use place::Place;
 use rounds::rounds;
 use std::alloc::AllocError;

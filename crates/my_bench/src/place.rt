@@ -4,12 +4,12 @@ ghost use Rattle.std.specs.Prelude.{◌≡◌, IfOk, None};
 use crate::fault::Fault;
 use crate::words::Plan;
 use my_conn::Conn;
+use my_link::{DialStep, World};
 use my_net::RealLink;
 use my_opts::{Opts, OptsBuilder, UrlFault};
 use my_opts_parts::Target;
 use my_opts_parts::limits::LONGEST_URL;
 use my_reading::{Error, IoError, IoFault, IoKind};
-use my_world::{DialStep, World};
 use std::alloc::Global;
 
 /// The options of a connection, and where it is dialed.

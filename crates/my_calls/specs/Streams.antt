@@ -4,8 +4,8 @@ use Rattle.std.specs.declared.result.Result.{Result}
 use Rattle.std.specs.declared.result.Result.TheVariants.{Err}
 use Rattle.my_link.specs.Looks.{Looks}
 use Rattle.my_link.specs.declared.met.Met.{Met}
-use Rattle.my_packets.specs.declared.poll.Poll.{Poll}
-use Rattle.my_packets.specs.declared.poll.Poll.TheVariants as polls
+use Rattle.my_link.specs.declared.poll.Poll.{Poll}
+use Rattle.my_link.specs.declared.poll.Poll.TheVariants as polls
 use Rattle.my_reading.specs.declared.answer.Answer.{Answer}
 use Rattle.my_reading.specs.declared.call.Call.{Call}
 use Rattle.my_reading.specs.declared.call.Call.TheVariants as calls

@@ -10,6 +10,6 @@ pub use calls::{
     ForPool, NextCall, NextRow, Ping, PingCall, PoolCall, PrepCall, Prepare, Query, QueryCall,
     Quit, QuitCall, Reset, ResetCall, Transact, TxCall,
 };
-pub use my_packets::Poll;
+pub use my_link::Poll;
 pub use states::{CallState, Returns};
 pub use stream::StreamCall;

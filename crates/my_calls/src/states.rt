@@ -1,6 +1,6 @@
 //! A call that is polled by hand.
 ghost use Rattle.std.specs.Prelude.{◌≡◌, Some, None, true};
-ghost use Rattle.my_packets.specs.declared.poll.Poll.TheVariants as polls;
+ghost use Rattle.my_link.specs.declared.poll.Poll.TheVariants as polls;
 ghost use Rattle.my_reading.specs.Told.{told};
 ghost use Rattle.my_reading.specs.declared.answer.Answer.{Answer as AnswerOf};
 ghost use Rattle.my_reading.specs.declared.answer.Answer.TheVariants as answers;
@@ -8,14 +8,13 @@ ghost use Rattle.my_reading.specs.declared.call.CallKind.{CallKind as KindOf};
 ghost use Rattle.my_reading.specs.declared.call.CallKind.TheVariants as kinds;
 ghost use Rattle.my_reading.specs.Calls.{kind_of};
 ghost use Rattle.my_session.specs.Fits.{may_be};
-ghost use Rattle.my_line.specs.Calls.{AfterFits, MayPoll};
+ghost use Rattle.my_client.specs.Calls.{AfterFits, MayPoll};
 ghost use Rattle.my_conn.specs.Answers.{done_of, next_of};
 ghost use Rattle.my_calls.specs.States.{PollIs, ReturnedBy, StateCancels, first_state, is_for_pool};
 
 use my_client::After;
 use my_conn::{Conn, NextAnswer, flag_answer, next_answer, statement_answer};
-use my_link::{Aid, Link};
-use my_packets::Poll;
+use my_link::{Aid, Link, Poll};
 use my_reading::{Answer, Call, CallKind, Error};
 use my_statements::Statement;
 use std::alloc::Global;

@@ -1,13 +1,12 @@
 //! The taking of a set by a stream.
 ghost use Rattle.std.specs.Prelude.{◌≡◌, None};
-ghost use Rattle.my_packets.specs.declared.poll.Poll.TheVariants as polls;
-ghost use Rattle.my_line.specs.Calls.{MayPoll};
+ghost use Rattle.my_link.specs.declared.poll.Poll.TheVariants as polls;
+ghost use Rattle.my_client.specs.Calls.{MayPoll};
 ghost use Rattle.my_calls.specs.Streams.{SkipsFrom, StreamCancels, StreamIs, TakesFrom, open_at};
 
 use my_client::After;
 use my_conn::{Conn, taken_answer};
-use my_link::{Aid, Link};
-use my_packets::Poll;
+use my_link::{Aid, Link, Poll};
 use my_reading::{Call, CallKind, Error};
 use std::alloc::Global;
 

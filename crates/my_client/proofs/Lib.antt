@@ -10,3 +10,13 @@ pub mod Resting
 pub mod Stepping
 pub mod Stopping
 pub mod TapeRead
+pub mod Noting
+pub mod Polled
+pub mod Calling
+pub mod Standing
+pub mod Cancelling
+pub mod Forgetting
+pub mod Joins
+pub mod Waiting
+pub mod Shaking
+pub mod Points

@@ -10,3 +10,10 @@ pub mod Reads
 pub mod Room
 pub mod Stands
 pub mod Turns
+pub mod StandsFor
+pub mod Calls
+pub mod Cancels
+pub mod Forgets
+pub mod Waits
+pub mod Texts
+pub mod Makes

@@ -10,9 +10,9 @@ use Rattle.my_client.specs.declared.tape.Tape.{Tape}
 use Rattle.my_client.specs.Kept.{Asked, Kept}
 use Rattle.my_client.specs.Reads.{place_kept}
 use Rattle.my_session.specs.Sessions.{Seen}
-use Rattle.my_line.specs.Cancels.{CancelFor, EachCancel, cancelled_by}
-use Rattle.my_line.specs.Stands.{StandsFor}
-use Rattle.my_line.proofs.Standing.{asked_kind, connected_by, not_both}
+use Rattle.my_client.specs.Cancels.{CancelFor, EachCancel, cancelled_by}
+use Rattle.my_client.specs.StandsFor.{StandsFor}
+use Rattle.my_client.proofs.Standing.{asked_kind, connected_by, not_both}
 use Rattle.my_conn.specs.Conn.{Standing}
 use Rattle.my_conn.specs.Cancels.{CancelIs}
 use Rattle.my_conn.specs.declared.conn.Fixed.{Fixed}

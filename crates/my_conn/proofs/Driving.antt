@@ -19,12 +19,12 @@ use Rattle.my_client.specs.Kept.{Kept, asking}
 use Rattle.my_session.specs.View.{View}
 use Rattle.my_client.specs.Lives.{Lives, made_in}
 use Rattle.my_client.proofs.Living.{lives_both}
-use Rattle.my_line.specs.Calls.{AfterFits, Does, Refuses, pending_after}
-use Rattle.my_line.specs.Stands.{StandsFor}
-use Rattle.my_line.specs.Waits.{DriveRefused, Driven, Goes, ResultFits}
-use Rattle.my_line.specs.declared.handshake.TheConstants.{TOO_LONG}
-use Rattle.my_line.proofs.Standing.{bool_cases, not_both}
-use Rattle.my_line.proofs.Waiting.{Results, driven, goes_begins, goes_so}
+use Rattle.my_client.specs.Calls.{AfterFits, Does, Refuses, pending_after}
+use Rattle.my_client.specs.StandsFor.{StandsFor}
+use Rattle.my_client.specs.Waits.{DriveRefused, Driven, Goes, ResultFits}
+use Rattle.my_client.specs.declared.handshake.TheConstants.{TOO_LONG}
+use Rattle.my_client.proofs.Standing.{bool_cases, not_both}
+use Rattle.my_client.proofs.Waiting.{Results, driven, goes_begins, goes_so}
 use Rattle.my_conn.specs.Calls.{CallIs, lost_answer}
 use Rattle.my_conn.specs.Conn.{ConnSeen, session_of}
 use Rattle.my_conn.specs.Drives.{DriveIs, lost_result}

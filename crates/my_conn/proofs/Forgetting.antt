@@ -5,9 +5,9 @@ use Rattle.my_session.specs.View.{Lifetime}
 use Rattle.my_client.specs.declared.tape.Tape.{Tape}
 use Rattle.my_session.specs.Sessions.{Seen}
 use Rattle.my_client.proofs.Resting.{rests_idle}
-use Rattle.my_line.specs.Forgets.{EachForget, forgotten}
-use Rattle.my_line.specs.Stands.{StandsFor}
-use Rattle.my_line.proofs.Standing.{no_asked, not_both}
+use Rattle.my_client.specs.Forgets.{EachForget, forgotten}
+use Rattle.my_client.specs.StandsFor.{StandsFor}
+use Rattle.my_client.proofs.Standing.{no_asked, not_both}
 use Rattle.my_conn.specs.Conn.{Standing}
 use Rattle.my_conn.specs.Forgets.{ForgetIs}
 use Rattle.my_conn.specs.declared.conn.Fixed.{Fixed}

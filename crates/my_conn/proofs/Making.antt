@@ -24,12 +24,12 @@ use Rattle.my_session.specs.Sessions.{Seen}
 use Rattle.my_session.specs.View.{View}
 use Rattle.my_client.specs.Stands.{StandsAsked, StandsAt, StandsOpen}
 use Rattle.my_client.proofs.Resting.{at_unread}
-use Rattle.my_line.specs.Makes.{ConnectsFor, IsMade, IsMaking, MakesFor, MakesTo, StaysMaking}
-use Rattle.my_line.specs.declared.making.MakeStep.{MakeStep}
-use Rattle.my_line.specs.Stands.{StandsFor}
-use Rattle.my_line.specs.Waits.{IsShaken}
-use Rattle.my_line.specs.declared.texts.Making.{Making}
-use Rattle.my_line.specs.declared.texts.Making.TheVariants.{Shakes, Asks, Drops}
+use Rattle.my_client.specs.Makes.{ConnectsFor, IsMade, IsMaking, MakesFor, MakesTo, StaysMaking}
+use Rattle.my_client.specs.declared.making.MakeStep.{MakeStep}
+use Rattle.my_client.specs.StandsFor.{StandsFor}
+use Rattle.my_client.specs.Waits.{IsShaken}
+use Rattle.my_client.specs.declared.texts.Making.{Making}
+use Rattle.my_client.specs.declared.texts.Making.TheVariants.{Shakes, Asks, Drops}
 use Rattle.my_conn.specs.Conn.{Standing}
 use Rattle.my_conn.specs.Connects.{kept_by}
 use Rattle.my_conn.specs.News.{FromUrlIs, Given, IsFirst, IsNew, first_fixed, untaped}

@@ -27,7 +27,7 @@ use Rattle.my_client.proofs.TapeRead.Lists.{one_read}
 use Rattle.my_client.specs.Polls.{comes_to, moved_by}
 use Rattle.my_client.proofs.Moving.{all_pending}
 use Rattle.my_client.proofs.Stopping.{AreTold, TellsSo, run_tells}
-use Rattle.my_line.specs.Waits.{WhyUnmade}
+use Rattle.my_client.specs.Waits.{WhyUnmade}
 use Rattle.my_conn.specs.Conn.{ConnSeen}
 use Rattle.my_conn.specs.News.{Given, IsUnmade, NewIs}
 use Rattle.my_conn.specs.declared.unmade.Unmade.{Unmade}

@@ -25,8 +25,8 @@ use Rattle.my_client.proofs.TapeRead.Lists.{spans_at_rest}
 use Rattle.my_session.specs.Sessions.{Seen, is_dirty}
 use Rattle.my_client.specs.Stands.{Stands}
 use Rattle.my_client.proofs.Resting.{at_account, at_end_left, at_spot, at_status, idle_at, kept_at, rests_at}
-use Rattle.my_line.specs.Stands.{StandsFor}
-use Rattle.my_line.proofs.Standing.{no_asked}
+use Rattle.my_client.specs.StandsFor.{StandsFor}
+use Rattle.my_client.proofs.Standing.{no_asked}
 use Rattle.my_conn.specs.Conn.{Standing}
 use Rattle.my_conn.proofs.Standing.{sound}
 

@@ -18,11 +18,11 @@ use Rattle.my_client.specs.Kept.{Asked, Kept}
 use Rattle.my_client.specs.Notes.{Agrees}
 use Rattle.my_client.specs.Polls.{moved_by}
 use Rattle.my_session.specs.Sessions.{Seen}
-use Rattle.my_line.specs.Calls.{Does, asked_for}
-use Rattle.my_line.specs.Makes.{IsMaking, Leads, MakesFor, Point, Polls, WhyNotMade, first_point}
-use Rattle.my_line.specs.declared.texts.Making.{Making}
-use Rattle.my_line.specs.declared.texts.Making.TheVariants.{Shakes, Asks, Drops}
-use Rattle.my_line.proofs.Polled.{moved_sent}
+use Rattle.my_client.specs.Calls.{Does, asked_for}
+use Rattle.my_client.specs.Makes.{IsMaking, Leads, MakesFor, Point, Polls, WhyNotMade, first_point}
+use Rattle.my_client.specs.declared.texts.Making.{Making}
+use Rattle.my_client.specs.declared.texts.Making.TheVariants.{Shakes, Asks, Drops}
+use Rattle.my_client.proofs.Polled.{moved_sent}
 use Rattle.my_conn.specs.Sent.{SentSince, UnmadeAreTaped}
 
 no_bytes : (g : Option (List ℕ)) → Comes g [] g

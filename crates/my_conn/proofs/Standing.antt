@@ -9,9 +9,9 @@ use Rattle.my_client.specs.declared.tape.Tape.{Tape}
 use Rattle.my_session.specs.Sessions.{Seen}
 use Rattle.my_session.specs.View.{View}
 use Rattle.my_client.specs.Lives.{made_in}
-use Rattle.my_line.specs.Calls.{EachCall, Leaves, MayPoll, pending_after}
-use Rattle.my_line.specs.Stands.{StandsFor}
-use Rattle.my_line.proofs.Standing.{fits_after, not_both, pends_after, stands_after}
+use Rattle.my_client.specs.Calls.{EachCall, Leaves, MayPoll, pending_after}
+use Rattle.my_client.specs.StandsFor.{StandsFor}
+use Rattle.my_client.proofs.Standing.{fits_after, not_both, pends_after, stands_after}
 use Rattle.my_conn.specs.Conn.{Standing}
 use Rattle.my_conn.specs.Calls.{CallIs}
 use Rattle.my_conn.specs.declared.conn.Fixed.{Fixed}

@@ -15,8 +15,8 @@ use Rattle.my_client.specs.declared.poll.After.{After}
 use Rattle.my_client.specs.declared.poll.After.TheVariants.{Answered, Failed}
 use Rattle.my_client.specs.Kept.{Kept}
 use Rattle.my_client.specs.Lives.{Lives, made_in}
-use Rattle.my_line.specs.Calls.{AfterFits, Does, PendsBy, pending_after}
-use Rattle.my_line.specs.Stands.{StandsFor}
+use Rattle.my_client.specs.Calls.{AfterFits, Does, PendsBy, pending_after}
+use Rattle.my_client.specs.StandsFor.{StandsFor}
 use Rattle.my_conn.specs.Conn.{ConnSeen, session_of}
 
 -- a lost connection is closed

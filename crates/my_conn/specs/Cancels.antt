@@ -4,8 +4,8 @@ use Rattle.my_grammar.specs.declared.login.Login.{Login}
 use Rattle.my_client.specs.Kept.{Asked, Kept}
 use Rattle.my_client.specs.declared.tape.Tape.{Tape}
 use Rattle.my_session.specs.Sessions.{Seen}
-use Rattle.my_line.specs.Cancels.{EachCancel, cancelled_by}
-use Rattle.my_line.specs.Stands.{StandsFor}
+use Rattle.my_client.specs.Cancels.{EachCancel, cancelled_by}
+use Rattle.my_client.specs.StandsFor.{StandsFor}
 use Rattle.my_conn.specs.Conn.{ConnSeen}
 
 -- the open call is cancelled, for all that the connection may have done before

@@ -9,7 +9,7 @@ use Rattle.my_client.specs.declared.tape.Tape.{Tape}
 use Rattle.my_client.specs.Conn.{kept_in}
 use Rattle.my_client.specs.Kept.{Kept}
 use Rattle.my_client.specs.Reads.{place_kept, tape_kept}
-use Rattle.my_line.specs.Stands.{StandsFor}
+use Rattle.my_client.specs.StandsFor.{StandsFor}
 use Rattle.my_conn.specs.Conn.{ConnSeen}
 
 -- Where no call is open, the connection is clean, by its login and its tape, exactly where it isn't closed and isn't

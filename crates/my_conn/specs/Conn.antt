@@ -7,7 +7,7 @@ use Rattle.my_session.specs.Sessions.{Seen}
 use Rattle.my_session.specs.View.{View}
 use Rattle.my_client.specs.declared.tape.Tape.{Tape}
 use Rattle.my_client.specs.Kept.{Kept}
-use Rattle.my_line.specs.Stands.{StandsFor}
+use Rattle.my_client.specs.StandsFor.{StandsFor}
 use Rattle.my_conn.specs.declared.conn.Fixed.{Fixed}
 
 -- its session, and what that was made with; its link; its tape, where one is kept; the kind of the open call; whether

@@ -3,7 +3,7 @@ use Rattle.std.specs.Prelude.{ℕ, ◌≡◌, None, false, is_some}
 use Rattle.my_link.specs.Aid.{Texts}
 use Rattle.my_link.specs.Looks.{Looks}
 use Rattle.my_link.specs.declared.met.Met.{Met}
-use Rattle.my_line.specs.Makes.{IsMade, StaysMaking}
+use Rattle.my_client.specs.Makes.{IsMade, StaysMaking}
 use Rattle.my_conn.specs.declared.connecting.Connected.{Connected}
 use Rattle.my_conn.specs.declared.connecting.Connected.TheVariants.{Pending, Made, Failed}
 use Rattle.my_conn.specs.Conn.{ConnSeen, session_of}

@@ -9,8 +9,8 @@ use Rattle.my_session.specs.View.{Lifetime}
 use Rattle.my_session.specs.Sessions.{Seen}
 use Rattle.my_session.specs.View.{View}
 use Rattle.my_client.specs.declared.tape.Tape.{Tape}
-use Rattle.my_line.specs.Makes.{WhyNotMade}
-use Rattle.my_line.specs.declared.texts.Making.{Making}
+use Rattle.my_client.specs.Makes.{WhyNotMade}
+use Rattle.my_client.specs.declared.texts.Making.{Making}
 use Rattle.my_conn.specs.declared.conn.Fixed.{Fixed}
 use Rattle.my_conn.specs.declared.unmade.Unmade.{Unmade}
 

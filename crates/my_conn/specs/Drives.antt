@@ -19,9 +19,9 @@ use Rattle.my_reading.specs.Errors.{connection_closed}
 use Rattle.my_statements.specs.Prepared.{StatementView}
 use Rattle.my_client.specs.Kept.{Kept}
 use Rattle.my_client.specs.Lives.{Lives, made_in}
-use Rattle.my_line.specs.Stands.{StandsFor}
-use Rattle.my_line.specs.Waits.{DriveRefused, Driven, Goes, ResultFits}
-use Rattle.my_line.specs.declared.handshake.TheConstants.{TOO_LONG}
+use Rattle.my_client.specs.StandsFor.{StandsFor}
+use Rattle.my_client.specs.Waits.{DriveRefused, Driven, Goes, ResultFits}
+use Rattle.my_client.specs.declared.handshake.TheConstants.{TOO_LONG}
 use Rattle.my_conn.specs.Answers.{done_of, next_of, taken_of}
 use Rattle.my_conn.specs.declared.drive.NextAnswer.{NextAnswer}
 use Rattle.my_conn.specs.Conn.{ConnSeen, session_of}

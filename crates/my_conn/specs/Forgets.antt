@@ -2,8 +2,8 @@
 use Rattle.std.specs.Prelude.{◌≡◌, None, true, false, is_some}
 use Rattle.my_grammar.specs.declared.login.Login.{Login}
 use Rattle.my_client.specs.Kept.{Kept}
-use Rattle.my_line.specs.Forgets.{forgotten}
-use Rattle.my_line.specs.Stands.{StandsFor}
+use Rattle.my_client.specs.Forgets.{forgotten}
+use Rattle.my_client.specs.StandsFor.{StandsFor}
 use Rattle.my_conn.specs.Conn.{ConnSeen}
 
 -- For all that the connection may have done before there is what it did then: the same, and a call that gave the

@@ -11,7 +11,7 @@ use Rattle.my_opts_parts.specs.declared.error.UrlError.{UrlError}
 use Rattle.my_session.specs.Login.{login_of}
 use Rattle.my_session.specs.View.{first_lifetime}
 use Rattle.my_session.specs.View.{View}
-use Rattle.my_line.specs.Waits.{IsShaken, WhyUnmade}
+use Rattle.my_client.specs.Waits.{IsShaken, WhyUnmade}
 use Rattle.my_conn.specs.Conn.{ConnSeen, session_of}
 use Rattle.my_conn.specs.declared.conn.Fixed.{Fixed}
 use Rattle.my_conn.specs.declared.unmade.Unmade.{Unmade}

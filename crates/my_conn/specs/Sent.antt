@@ -7,7 +7,7 @@ use Rattle.my_link.specs.declared.met.Met.{Met}
 use Rattle.my_client.specs.declared.tape.Tape.{Tape}
 use Rattle.my_client.specs.Conn.{kept_in}
 use Rattle.my_client.specs.Kept.{Kept}
-use Rattle.my_line.specs.Makes.{IsMaking}
+use Rattle.my_client.specs.Makes.{IsMaking}
 use Rattle.my_conn.specs.Connects.{ConnectSeen, IsLeft}
 use Rattle.my_conn.specs.declared.unmade.Unmade.{Unmade}
 

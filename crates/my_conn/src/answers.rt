@@ -1,6 +1,6 @@
 //! What a connection returns and meets, by what its parts returned.
 ghost use Rattle.std.specs.Prelude.{◌≡◌};
-ghost use Rattle.my_line.specs.Calls.{pending_after};
+ghost use Rattle.my_client.specs.Calls.{pending_after};
 ghost use Rattle.my_conn.specs.Calls.{lost_answer};
 ghost use Rattle.my_conn.specs.Checks.{met_at};
 

@@ -9,9 +9,8 @@ ghost use Rattle.my_conn.specs.News.{first_fixed};
 mod unread;
 
 use crate::answers::{lost_answer, met_at, pending_after};
-use my_client::{After, Tape};
+use my_client::{After, Tape, cancel_open, forget_open, poll_once};
 use my_frame::NoMemory;
-use my_line::{cancel_open, forget_open, poll_once};
 use my_link::{CheckStep, Link, Met};
 use my_opts::Opts;
 use my_reading::{Call, CallKind, Error, SetColumns};
@@ -254,7 +253,7 @@ impl<L> Conn<L> {
 }
 
 impl<L: Link> Conn<L> {
-    ghost use Rattle.my_line.specs.Calls.{MayPoll};
+    ghost use Rattle.my_client.specs.Calls.{MayPoll};
     ghost use Rattle.my_conn.specs.Calls.{CallIs};
     ghost use Rattle.my_conn.specs.Cancels.{CancelIs};
     ghost use Rattle.my_conn.specs.Checks.{CheckedIs};

@@ -9,8 +9,7 @@ ghost use Rattle.my_reading.specs.declared.error.Error.TheVariants as errors;
 
 use crate::conn::{Conn, Fixed};
 use crate::unmade::Unmade;
-use my_client::{TapedConn, begin_over};
-use my_line::shake_hands;
+use my_client::{TapedConn, begin_over, shake_hands};
 use my_link::BlockingLink;
 use my_opts::{Opts, UrlFault};
 use my_reading::Error;

@@ -4,8 +4,8 @@ ghost use Rattle.my_opts_parts.specs.Pool.{deadline_of};
 ghost use Rattle.my_session.specs.Login.{login_of};
 ghost use Rattle.my_session.specs.View.{first_lifetime};
 ghost use Rattle.my_client.specs.Kept.{first_asked, first_kept};
-ghost use Rattle.my_line.specs.Makes.{ConnectsFor};
-ghost use Rattle.my_line.specs.declared.texts.Making.TheVariants.{Shakes};
+ghost use Rattle.my_client.specs.Makes.{ConnectsFor};
+ghost use Rattle.my_client.specs.declared.texts.Making.TheVariants.{Shakes};
 ghost use Rattle.my_conn.specs.Cancels.{MakingCancels};
 ghost use Rattle.my_conn.specs.Connected.{ConnectIs};
 ghost use Rattle.my_conn.specs.Connects.{kept_by};
@@ -13,9 +13,8 @@ ghost use Rattle.my_conn.specs.News.{first_fixed};
 
 use crate::conn::{Conn, Fixed};
 use crate::unmade::Unmade;
-use my_client::{Tape, TapedConn, begin_over};
+use my_client::{MakeStep, Making, Tape, TapedConn, begin_over, cancel_open, make};
 use my_frame::NoMemory;
-use my_line::{MakeStep, Making, cancel_open, make};
 use my_link::{Aid, Link, Met};
 use my_opts::Opts;
 use my_reading::Error;
@@ -35,7 +34,7 @@ pub struct Connecting<L> {
 }
 
 impl<L> Model for Connecting<L> {
-    ghost use Rattle.my_line.specs.Makes.{IsMaking};
+    ghost use Rattle.my_client.specs.Makes.{IsMaking};
     ghost use Rattle.my_conn.specs.Connects.{ConnectSeen};
 
     ghost Value = { ConnectSeen L };
@@ -160,6 +159,8 @@ impl<L: Link> Connecting<L> {
     /// Continues the making of the connection: the handshake, and then each text that the aid tells, with its result
     /// read whole before the next. Where it isn't made yet, the connection that is being made is returned; where it
     /// failed, what is left of it. With it comes what was met.
+    ///
+    /// The queries of the options, `init` and `setup`, belong to the handshake, so they are sent before the aid's texts.
     ///
     /// `now` is the moment, in milliseconds. The aid is asked what follows, and for nothing else.
     pub fn poll<A: Aid>(self, alloc: Global, aid: &mut A, now: u64) -> (Connected<L>, Met)

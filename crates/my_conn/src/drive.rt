@@ -1,6 +1,6 @@
 //! Calls that wait, over links that never hold: each polls its call until it returns.
 ghost use Rattle.std.specs.Prelude.{◌≡◌, None, Some, true};
-ghost use Rattle.my_line.specs.Calls.{MayPoll};
+ghost use Rattle.my_client.specs.Calls.{MayPoll};
 ghost use Rattle.my_reading.specs.declared.answer.Answer.TheVariants as answers;
 ghost use Rattle.my_reading.specs.declared.call.Call.TheVariants as calls;
 ghost use Rattle.my_reading.specs.declared.call.CallKind.TheVariants as kinds;
@@ -10,9 +10,8 @@ ghost use Rattle.my_conn.specs.Answers.{next_of};
 ghost use Rattle.my_conn.specs.Drives.{DoneIs, DriveIs, NextIs, PrepareIs, ResetIs};
 
 use crate::conn::Conn;
-use my_client::After;
+use my_client::{After, TOO_LONG, never_holds};
 use my_frame::{Blob, Listed};
-use my_line::{TOO_LONG, never_holds};
 use my_link::BlockingLink;
 use my_opts::ChangeUserOpts;
 use my_opts_parts::TxOpts;

@@ -14,6 +14,6 @@ mod unmade;
 pub use conn::Conn;
 pub use connecting::{Connected, Connecting};
 pub use drive::{NextAnswer, flag_answer, next_answer, statement_answer};
-pub use my_line::TOO_LONG;
+pub use my_client::TOO_LONG;
 pub use stream::taken_answer;
 pub use unmade::Unmade;

@@ -3,7 +3,7 @@ use Rattle.std.proofs.Common.{ℕ, ◌≡◌, ◌∙◌, Bool, Result, ap, subst
 use Rattle.my_link.specs.Looks.{Looks}
 use Rattle.my_opts.specs.Opts.{OptsView}
 use Rattle.my_reading.specs.declared.error.Error.{Error}
-use Rattle.my_world.specs.World.{Chance, IsDrawn, IsMoment, Plans, SamePlans, WorldSeen, drawn}
+use Rattle.my_link.specs.World.{Chance, IsDrawn, IsMoment, Plans, SamePlans, WorldSeen, drawn}
 use Rattle.my_conn.specs.Conn.{ConnSeen}
 use Rattle.my_connect.specs.Connected.{ConnectIs, MadeOver}
 use Rattle.my_connect.specs.Dialed.{DialIs, IsTold}

@@ -4,7 +4,7 @@ use Rattle.my_link.specs.Looks.{Looks}
 use Rattle.my_opts.specs.Opts.{OptsView}
 use Rattle.my_reading.specs.declared.error.Error.{Error}
 use Rattle.my_reading.specs.declared.error.Error.TheVariants as errors
-use Rattle.my_world.specs.World.{DialCounts, WorldSeen}
+use Rattle.my_link.specs.World.{DialCounts, WorldSeen}
 use Rattle.my_conn.specs.Conn.{ConnSeen}
 use Rattle.my_conn.specs.News.{Given, given_by}
 use Rattle.my_conn.proofs.Refusing.{IsOwn, new_own}

@@ -7,7 +7,7 @@ use Rattle.my_opts.specs.Opts.{OptsView}
 use Rattle.my_opts_parts.specs.declared.error.UrlError.{UrlError}
 use Rattle.my_reading.specs.declared.error.Error.{Error}
 use Rattle.my_reading.specs.declared.error.Error.TheVariants as errors
-use Rattle.my_world.specs.World.{IsMoment, IsDrawn, SamePlans, WorldSeen, with_back}
+use Rattle.my_link.specs.World.{IsMoment, IsDrawn, SamePlans, WorldSeen, with_back}
 use Rattle.my_conn.specs.Conn.{ConnSeen}
 use Rattle.my_conn.specs.News.{Given, IsNew, IsUnmade, given_by}
 use Rattle.my_conn.specs.declared.unmade.Unmade.{Unmade}

@@ -9,7 +9,7 @@ use Rattle.my_reading.specs.declared.error.Error.{Error}
 use Rattle.my_reading.specs.declared.error.Error.TheVariants as errors
 use Rattle.my_reading.specs.declared.error.IoError.TheVariants as io_errors
 use Rattle.my_reading.specs.declared.error.IoKind.TheVariants as kinds
-use Rattle.my_world.specs.World.{DialCounts, DialFailed, DialHeld, FailedBy, GivenBy, HeldBy, IsFresh, SameBut, SameLink, SamePlans, WorldSeen, drawn}
+use Rattle.my_link.specs.World.{DialCounts, DialFailed, DialHeld, FailedBy, GivenBy, HeldBy, IsFresh, SameBut, SameLink, SamePlans, WorldSeen, drawn}
 
 -- a dial gave no link
 abbrev pub undialed : Error

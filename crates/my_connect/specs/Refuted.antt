@@ -3,7 +3,7 @@ use Rattle.std.specs.Prelude.{◌≡◌, ◌<◌, ◌^◌, ◌-◌, Bool}
 use Rattle.std.specs.declared.result.Result.TheVariants.{Err}
 use Rattle.my_link.specs.Looks.{Looks}
 use Rattle.my_opts.specs.Opts.{OptsView}
-use Rattle.my_world.specs.World.{DialCounts, WorldSeen}
+use Rattle.my_link.specs.World.{DialCounts, WorldSeen}
 use Rattle.my_connect.specs.Connected.{ConnectIs}
 use Rattle.my_connect.specs.Dialed.{undialed}
 

@@ -8,11 +8,10 @@ ghost use Rattle.my_connect.specs.Dialed.{DialIs, undialed};
 use crate::client::Client;
 use my_conn::{Conn, Unmade};
 use my_frame::NoMemory;
-use my_link::{BlockingLink, DialStep, Dialer};
+use my_link::{BlockingLink, DialStep, Dialer, World};
 use my_opts::{Opts, UrlFault};
 use my_opts_parts::limits::LONGEST_URL;
 use my_reading::{Error, IoError, IoFault, IoKind};
-use my_world::World;
 use std::alloc::Global;
 
 // The options of a URL. One that is too long is refused as out of memory.

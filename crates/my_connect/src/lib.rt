@@ -11,7 +11,7 @@ pub use client::Client;
 pub use dialed::{connect, connect_with};
 pub use my_conn::{Conn, NextAnswer};
 pub use my_frame::{Blob, Listed, NoMemory};
-pub use my_link::BlockingLink;
+pub use my_link::{BlockingLink, World};
 pub use my_opts::Opts;
 pub use my_opts_parts::TxOpts;
 pub use my_params::Params;
@@ -21,5 +21,4 @@ pub use my_query::{
 pub use my_reading::Error;
 pub use my_statements::Statement;
 pub use my_value::{FromRow, Row, Value};
-pub use my_world::World;
 pub use transaction::Transaction;

@@ -1,2 +1,4 @@
 pub mod Reading
 pub mod Spending
+pub mod Planning
+pub mod Dialing

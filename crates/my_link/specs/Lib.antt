@@ -12,3 +12,8 @@ pub mod Spent
 pub mod Met
 pub mod Aid
 pub mod Dials
+pub mod World
+pub mod Plan
+pub mod MemDials
+pub mod MemParts
+pub mod MemWorld

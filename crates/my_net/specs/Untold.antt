@@ -1,6 +1,6 @@
 -- What a world tells that tells nothing.
 use Rattle.std.specs.Prelude.{None}
-use Rattle.my_world.specs.World.{Plans}
+use Rattle.my_link.specs.World.{Plans}
 
 -- of no link a plan is told
 abbrev pub nothing_told : Plans

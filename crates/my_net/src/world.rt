@@ -7,9 +7,10 @@ use crate::fault::LastFault;
 use crate::link::{RealLink, StreamLink};
 use crate::stream::{RealStream, WatchedStream};
 use my_frame::{NoMemory, SourceStep};
-use my_link::{AfterConnect, AfterStep, Aid, DialStep, Dialer, GlobalHandler, Opening};
+use my_link::{
+    AfterConnect, AfterStep, Aid, DialStep, Dialer, GlobalHandler, Opening, World, WorldLine,
+};
 use my_opts_parts::Target;
-use my_world::{World, WorldLine};
 use std::alloc::Global;
 use std::io;
 use std::io::ErrorKind;

@@ -7,7 +7,7 @@ use Rattle.my_link.specs.Moves.{Move, Sent, Leads, received_by, sent_by, NoStop,
 use Rattle.my_reading.specs.declared.error.Error.{Error}
 use Rattle.my_reading.specs.declared.error.Error.TheVariants as errors
 use Rattle.my_reading.specs.declared.error.IoError.TheVariants as ios
-use Rattle.my_packets.specs.declared.poll.Poll.TheVariants.{Ready}
+use Rattle.my_link.specs.declared.poll.Poll.TheVariants.{Ready}
 use Rattle.my_packets.specs.Writing.{Sending, GoesOn, Goes, FailsBy, SendsOn}
 
 -- so far in writes that go on

@@ -10,8 +10,8 @@ use Rattle.my_reading.specs.declared.error.Error.TheVariants as errors
 use Rattle.my_reading.specs.declared.error.IoError.TheVariants as ios
 use Rattle.my_reading.specs.declared.error.IoKind.{IoKind}
 use Rattle.my_reading.specs.declared.error.IoKind.TheVariants as kinds
-use Rattle.my_packets.specs.declared.poll.Poll.{Poll}
-use Rattle.my_packets.specs.declared.poll.Poll.TheVariants.{Ready, Pending}
+use Rattle.my_link.specs.declared.poll.Poll.{Poll}
+use Rattle.my_link.specs.declared.poll.Poll.TheVariants.{Ready, Pending}
 use Rattle.my_packets.specs.declared.read.Received.{Received}
 use Rattle.my_packets.specs.declared.read.Received.TheVariants as received
 

@@ -2,11 +2,11 @@
 #![tactic(auto)]
 
 mod buffers;
-mod poll;
+mod fault;
 mod read;
 mod write;
 
 pub use buffers::{BufferPool, PooledBuf};
-pub use poll::Poll;
+pub use my_link::Poll;
 pub use read::ReadPacket;
 pub use write::WritePacket;

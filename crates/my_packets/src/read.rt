@@ -3,11 +3,11 @@
 ghost use Rattle.std.specs.Prelude.{◌≡◌, ◌<◌, ◌++◌};
 ghost use Rattle.my_packets.specs.Reading.{IsTaken, IsReceived, ReadsPacket};
 
-use crate::poll::{Poll, link_error};
+use crate::fault::link_error;
 use bytes::BytesMut;
 use my_frame::limits::MOST_TAKEN;
 use my_frame::{CodecError, PacketCodec};
-use my_link::{Link, ReadStep};
+use my_link::{Link, Poll, ReadStep};
 use my_reading::{Error, IoError, IoKind};
 use std::alloc::Global;
 

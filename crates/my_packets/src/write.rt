@@ -5,10 +5,10 @@ ghost use Rattle.my_frame.specs.declared.fault.CodecFault.TheVariants.{TooLarge}
 ghost use Rattle.my_reading.specs.Errors.{codec_error};
 ghost use Rattle.my_packets.specs.Writing.{IsBegun, IsSent, SendsOn, WritesPacket};
 
-use crate::poll::{Poll, link_error};
+use crate::fault::link_error;
 use bytes::BytesMut;
 use my_frame::{CodecError, CodecFault, PacketCodec};
-use my_link::{Link, WriteStep};
+use my_link::{Link, Poll, WriteStep};
 use my_reading::{Error, IoError, IoKind};
 use std::alloc::Global;
 use std::marker::Model;

@@ -7,7 +7,7 @@ use Rattle.my_reading.specs.Clean.{IsClean}
 use Rattle.my_grammar.specs.declared.login.Login.{Login}
 use Rattle.my_client.specs.Kept.{Kept}
 use Rattle.my_client.specs.Reads.{tape_kept}
-use Rattle.my_line.specs.Stands.{StandsFor}
+use Rattle.my_client.specs.StandsFor.{StandsFor}
 use Rattle.my_pool_parts.specs.declared.connection.Place.{Place}
 use Rattle.my_pool_parts.specs.declared.connection.Place.TheVariants.{Cleaning, Resetting, Closing}
 use Rattle.my_pool_parts.specs.declared.connection.Times.{Times}

@@ -42,7 +42,7 @@ impl<L> Out<L> {
 
 impl<L: Link> Out<L> {
     ghost use Rattle.std.specs.Prelude.{◌≡◌};
-    ghost use Rattle.my_line.specs.Calls.{MayPoll};
+    ghost use Rattle.my_client.specs.Calls.{MayPoll};
     ghost use Rattle.my_conn.specs.Calls.{CallIs};
 
     /// Polls a call of the connection once, as `Conn::poll_call` does.

@@ -29,13 +29,13 @@ use Rattle.my_client.specs.Reads.{calls_kept, span_to, spans_to, tape_kept}
 use Rattle.my_client.proofs.Resting.{idle_at}
 use Rattle.my_client.proofs.TapeRead.Lists.{spans_at_rest}
 use Rattle.my_session.specs.Sessions.{Seen}
-use Rattle.my_line.specs.Calls.{Does, PollsOn, asked_for}
-use Rattle.my_line.specs.Makes.{ConnectsFor, GoesOn, MakesFor, Leads, Passes, Point, Polls, first_point}
-use Rattle.my_line.specs.Stands.{StandsFor, kind_kept}
-use Rattle.my_line.specs.Texts.{Ends, Follows, asked_at, kind_at}
-use Rattle.my_line.specs.declared.texts.Making.{Making}
-use Rattle.my_line.specs.declared.texts.Making.TheVariants.{Shakes, Asks, Drops}
-use Rattle.my_line.proofs.Standing.{no_asked}
+use Rattle.my_client.specs.Calls.{Does, PollsOn, asked_for}
+use Rattle.my_client.specs.Makes.{ConnectsFor, GoesOn, MakesFor, Leads, Passes, Point, Polls, first_point}
+use Rattle.my_client.specs.StandsFor.{StandsFor, kind_kept}
+use Rattle.my_client.specs.Texts.{Ends, Follows, asked_at, kind_at}
+use Rattle.my_client.specs.declared.texts.Making.{Making}
+use Rattle.my_client.specs.declared.texts.Making.TheVariants.{Shakes, Asks, Drops}
+use Rattle.my_client.proofs.Standing.{no_asked}
 use Rattle.my_conn.specs.Conn.{ConnSeen}
 use Rattle.my_conn.specs.Connected.{MakesIt, Stays}
 use Rattle.my_conn.specs.Connects.{ConnectSeen}

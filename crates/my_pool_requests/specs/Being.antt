@@ -7,7 +7,7 @@ use Rattle.my_reading.specs.Calls.{kind_of}
 use Rattle.my_reading.specs.Told.{ToldReady}
 use Rattle.my_client.specs.declared.tape.DoneCall.{DoneCall}
 use Rattle.my_client.specs.Kept.{Kept, told_by}
-use Rattle.my_line.specs.Makes.{MakesFor}
+use Rattle.my_client.specs.Makes.{MakesFor}
 use Rattle.my_conn.specs.Connects.{ConnectSeen}
 
 -- its handshake, a text, and a pass over what is left of the result

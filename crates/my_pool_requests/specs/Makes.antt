@@ -19,8 +19,8 @@ use Rattle.my_reading.specs.Errors.{io_error}
 use Rattle.my_session.specs.Login.{login_of}
 use Rattle.my_session.specs.View.{first_lifetime}
 use Rattle.my_client.specs.Kept.{first_asked, first_kept}
-use Rattle.my_line.specs.Makes.{ConnectsFor}
-use Rattle.my_line.specs.declared.texts.Making.TheVariants.{Shakes}
+use Rattle.my_client.specs.Makes.{ConnectsFor}
+use Rattle.my_client.specs.declared.texts.Making.TheVariants.{Shakes}
 use Rattle.my_conn.specs.Connected.{ConnectIs}
 use Rattle.my_conn.specs.Connects.{ConnectSeen}
 use Rattle.my_conn.specs.News.{first_fixed}

@@ -16,7 +16,7 @@ use Rattle.my_pool_core.specs.State.{State}
 use Rattle.my_reading.specs.declared.call.CallKind.{CallKind}
 use Rattle.my_client.specs.declared.poll.After.{After}
 use Rattle.my_client.specs.declared.poll.After.TheVariants as afters
-use Rattle.my_line.specs.Calls.{MayPoll, pending_after}
+use Rattle.my_client.specs.Calls.{MayPoll, pending_after}
 use Rattle.my_conn.specs.Conn.{ConnSeen}
 use Rattle.my_pool_store.specs.Shelves.{kept_at}
 use Rattle.my_pool.specs.Fit.{IsFit, IsStill, MayWork, call_at}

@@ -25,7 +25,7 @@ use Rattle.my_run.specs.Beside.{beside_in}
 use Rattle.my_steps.specs.Handle.{Handle, Absent, Dialing, Joined, at_number}
 use Rattle.my_run.specs.Headline.{AnswerView, answer_view, steps_of, IsExplained, EachExplained, Headline, SoFar}
 use Rattle.my_link.specs.declared.dialer.DialItem.{DialItem}
-use Rattle.my_world.specs.World.{Plans, SamePlans, WorldSeen}
+use Rattle.my_link.specs.World.{Plans, SamePlans, WorldSeen}
 use Rattle.my_steps.specs.Keeps.{IsStood, AreStood, AreAwaited}
 use Rattle.my_steps.proofs.Working.Awaiting.{at_sym}
 use Rattle.my_link.specs.Looks.{Looks}

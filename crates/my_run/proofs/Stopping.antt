@@ -7,7 +7,7 @@ use Rattle.my_frame.specs.Sources.{SourceSeen}
 use Rattle.my_grammar.specs.declared.login.Login.{Login}
 use Rattle.my_link.specs.Looks.{Looks}
 use Rattle.my_link.specs.declared.dialer.DialItem.{DialItem}
-use Rattle.my_world.specs.World.{Back, DialCounts, Plans, SamePlans, WorldSeen}
+use Rattle.my_link.specs.World.{Back, DialCounts, Plans, SamePlans, WorldSeen}
 use Rattle.my_script.specs.declared.step.Step.{Step}
 use Rattle.my_script.specs.declared.transcript.StepAnswer.{StepAnswer}
 use Rattle.my_script.specs.declared.transcript.Tape.{Tape}

@@ -43,8 +43,8 @@ use Rattle.my_client.specs.Polls.{IsPolled, comes_at, comes_to, moved_by as move
 use Rattle.my_client.proofs.Moving.{all_pending}
 use Rattle.my_link.specs.declared.dialer.DialItem.{DialItem}
 use Rattle.my_link.specs.declared.dialer.DialItem.TheVariants.{Wait, Fail}
-use Rattle.my_world.specs.Plan.{moment_after}
-use Rattle.my_world.specs.World.{Back, Plans, WorldSeen, DialCounts, Chance, FailedBy, counted, no_dials}
+use Rattle.my_link.specs.Plan.{moment_after}
+use Rattle.my_link.specs.World.{Back, Plans, WorldSeen, DialCounts, Chance, FailedBy, counted, no_dials}
 use Rattle.my_run.specs.declared.tool.Status.{Status}
 use Rattle.my_run.specs.declared.tool.Status.TheVariants as ends
 use Rattle.my_steps.specs.Dialing.{Course, DialsTo, chance_by, dial_met, has_dialed, moved_by, AreDialed}

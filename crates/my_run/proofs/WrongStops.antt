@@ -4,7 +4,7 @@ use Rattle.std.proofs.lemmas.List.{length-append}
 use Rattle.my_grammar.specs.declared.login.Login.{Login}
 use Rattle.my_link.specs.Looks.{Looks}
 use Rattle.my_link.specs.Spent.{HasGot}
-use Rattle.my_world.specs.World.{Back, DialCounts, Plans, no_dials}
+use Rattle.my_link.specs.World.{Back, DialCounts, Plans, no_dials}
 use Rattle.my_reading.specs.Errors.{io_error}
 use Rattle.my_reading.specs.declared.error.IoKind.TheVariants.{Dial}
 use Rattle.my_script.specs.declared.step.Step.{Step}

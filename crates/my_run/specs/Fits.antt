@@ -13,7 +13,7 @@ use Rattle.my_script.specs.declared.transcript.Tape.{Tape}
 use Rattle.my_steps.specs.Dialing.{Course}
 use Rattle.my_steps.specs.Grows.{Line}
 use Rattle.my_steps.specs.Handle.{Handle, Absent, Dialing, Joined, at_number}
-use Rattle.my_world.specs.World.{Plans}
+use Rattle.my_link.specs.World.{Plans}
 use Rattle.my_run.specs.Headline.{Headline}
 
 -- Where the link tells the bytes that it was sent, these are they; and where its plan is told, the bytes that it gave and those

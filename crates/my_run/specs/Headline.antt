@@ -12,7 +12,7 @@ use Rattle.my_steps.specs.Dialing.{AreDialed, Course, moved_by}
 use Rattle.my_steps.specs.Grows.{Line, AreGrown, handles_after}
 use Rattle.my_steps.specs.Handle.{Handle, Absent, Dialing, Joined, at_number}
 use Rattle.my_client.specs.Reads.{IsRead}
-use Rattle.my_world.specs.World.{Plans, SamePlans, WorldSeen}
+use Rattle.my_link.specs.World.{Plans, SamePlans, WorldSeen}
 use Rattle.my_steps.specs.Keeps.{AreStood, AreAwaited}
 use Rattle.my_steps.specs.Slot.{handles_in}
 use Rattle.my_run.specs.Tapes.{all_in, links_at, tape_at, tape_view, with_links}

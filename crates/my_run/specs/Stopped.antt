@@ -3,7 +3,7 @@ use Rattle.std.specs.Prelude.{ℕ, ◌≡◌, ◌⊎◌, List, [], ◌∷◌, �
 use Rattle.my_grammar.specs.declared.login.Login.{Login}
 use Rattle.my_link.specs.Looks.{Looks}
 use Rattle.my_link.specs.declared.dialer.DialItem.{DialItem}
-use Rattle.my_world.specs.World.{Back, DialCounts, Plans, SamePlans, WorldSeen}
+use Rattle.my_link.specs.World.{Back, DialCounts, Plans, SamePlans, WorldSeen}
 use Rattle.my_script.specs.declared.step.Step.{Step}
 use Rattle.my_steps.specs.declared.slot.Slot.{Slot}
 use Rattle.my_steps.specs.Dialing.{AreDialed, Course, has_dialed}

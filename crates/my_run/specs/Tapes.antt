@@ -9,7 +9,7 @@ use Rattle.my_script.specs.declared.transcript.Tape.{Tape}
 use Rattle.my_script.specs.declared.transcript.TapeCall.{TapeCall}
 use Rattle.my_steps.specs.Handle.{Handle, Absent, Dialing, Joined}
 use Rattle.my_client.specs.Kept.{Asked, Kept}
-use Rattle.my_world.specs.World.{Back}
+use Rattle.my_link.specs.World.{Back}
 
 -- a call that was cancelled has no answer
 abbrev pub answer_in : Said → Option (Result Answer Error)

@@ -3,9 +3,9 @@ use Rattle.std.specs.Prelude.{◌≡◌, ◌⊎◌, ◌&&◌, not, ℕ, List, []
 use Rattle.my_frame.specs.declared.limits.TheConstants.{MOST_INPUT}
 use Rattle.my_grammar.specs.declared.login.Login.{Login}
 use Rattle.my_opts.specs.Opts.{OptsView}
-use Rattle.my_world.specs.Plan.{chance_after, plans_after}
+use Rattle.my_link.specs.Plan.{chance_after, plans_after}
 use Rattle.my_script.specs.declared.step.Step.{Step}
-use Rattle.my_world.specs.declared.line.WorldLine.{WorldLine}
+use Rattle.my_link.specs.declared.line.WorldLine.{WorldLine}
 use Rattle.my_script.specs.declared.transcript.Transcript.{Transcript}
 use Rattle.my_run.specs.declared.tool.Report.{Report}
 use Rattle.my_run.specs.declared.tool.Status.{Status}
@@ -16,7 +16,7 @@ use Rattle.my_run.specs.Headline.{Headline}
 use Rattle.my_run.specs.Stopped.{Stopped}
 use Rattle.my_frame.specs.Sources.{SourceSeen}
 use Rattle.my_frame.specs.Sinks.{SinkSeen}
-use Rattle.my_world.specs.World.{Plans, WorldSeen}
+use Rattle.my_link.specs.World.{Plans, WorldSeen}
 use Rattle.my_steps.specs.Dialing.{Course, course_of}
 use Rattle.my_session.specs.Login.{login_of}
 use Rattle.my_script.specs.Script.{Script, Good, Bad, script_of}

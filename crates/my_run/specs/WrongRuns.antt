@@ -29,7 +29,7 @@ use Rattle.my_client.specs.Polls.{IsPolled}
 use Rattle.my_client.specs.Reads.{IsRead}
 use Rattle.my_link.specs.declared.dialer.DialItem.{DialItem}
 use Rattle.my_link.specs.declared.dialer.DialItem.TheVariants.{Wait, Fail}
-use Rattle.my_world.specs.World.{Back, Plans, WorldSeen, DialCounts, Chance, no_dials, drawn}
+use Rattle.my_link.specs.World.{Back, Plans, WorldSeen, DialCounts, Chance, no_dials, drawn}
 use Rattle.my_steps.specs.Dialing.{Course}
 use Rattle.my_steps.specs.Grows.{AreGrown, Line, statements_of}
 use Rattle.my_run.specs.declared.tool.Report.{Report}

@@ -9,17 +9,17 @@ ghost use Rattle.my_run.specs.Headline.{RunSoFar, RunsTo};
 ghost use Rattle.my_run.specs.Stopped.{HandedBack, RunStopped, StopsIn, one_link};
 ghost use Rattle.my_steps.specs.Slot.{handle_of};
 ghost use Rattle.my_run.specs.Tapes.{links_at, links_in, tape_view, tape_of, tape_at, tapes_in, with_links};
-ghost use Rattle.my_world.specs.World.{with_back};
+ghost use Rattle.my_link.specs.World.{with_back};
 
 use crate::beside::BesideEach;
 use crate::statements::statement_for;
 use crate::tape::tape_calls;
 use my_client::TapedConn;
 use my_frame::NoMemory;
+use my_link::World;
 use my_opts::Opts;
 use my_script::{NumberedStatements, Step, StepAnswer, Tape, Transcript};
 use my_steps::{Slot, run_step};
-use my_world::World;
 use std::alloc::Global;
 
 fn run_each<N: World>(

@@ -3,8 +3,8 @@ ghost use Rattle.std.specs.Prelude.{◌≡◌, ◌&&◌, not, ℕ, [], List, Som
 ghost use Rattle.std.specs.List.{list_all};
 ghost use Rattle.my_script.specs.Script.{may_stand};
 ghost use Rattle.my_steps.specs.Dialing.{course_of};
-ghost use Rattle.my_world.specs.Plan.{plans_after, chance_after};
-ghost use Rattle.my_world.specs.World.{SamePlans};
+ghost use Rattle.my_link.specs.Plan.{plans_after, chance_after};
+ghost use Rattle.my_link.specs.World.{SamePlans};
 ghost use Rattle.my_run.specs.Headline.{Headline};
 ghost use Rattle.my_run.specs.Stopped.{Stopped};
 ghost use Rattle.my_session.specs.Login.{login_of};
@@ -18,12 +18,12 @@ use crate::input::{Came, read_all};
 use crate::output::write_all;
 use crate::run::run_steps;
 use my_frame::{NoMemory, Sink, Source};
+use my_link::{World, WorldLine};
 use my_opts::Opts;
 use my_script::{
     BadLine, Command, Read, Script, Transcript, WordFault, read_command, read_script, read_word,
     text_of,
 };
-use my_world::{World, WorldLine};
 use std::alloc::Global;
 
 /// How a run ended, with its cause.

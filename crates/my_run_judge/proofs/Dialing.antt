@@ -7,8 +7,8 @@ use Rattle.my_run_judge.specs.declared.judging.Found.{Found}
 use Rattle.my_run_judge.specs.declared.judging.Found.TheVariants.{Right, Wrong}
 use Rattle.my_script.specs.declared.step.Step.{Step}
 use Rattle.my_script.specs.declared.transcript.StepAnswer.{StepAnswer}
-use Rattle.my_world.specs.declared.line.WorldLine.{WorldLine}
-use Rattle.my_world.specs.Plan.{all_given, dials_of, given_to}
+use Rattle.my_link.specs.declared.line.WorldLine.{WorldLine}
+use Rattle.my_link.specs.Plan.{all_given, dials_of, given_to}
 use Rattle.my_run_judge.specs.declared.plan.dials.DialSpot.{DialSpot}
 use Rattle.my_run_judge.specs.declared.plan.dials.DialSpot.TheVariants.{Ahead}
 use Rattle.my_run_judge.specs.Plan.Dials.{DialKept, DialsFound, LineDials, after_step, dials_now, items_after, left_by, spot_after}

@@ -9,7 +9,7 @@ use Rattle.my_run_judge.proofs.Numbers.{earlier_first, earlier_second, not_befor
 use Rattle.my_script.specs.declared.step.Step.{Step}
 use Rattle.my_script.specs.declared.transcript.StepAnswer.{StepAnswer}
 use Rattle.my_script.specs.declared.transcript.Tape.{Tape}
-use Rattle.my_world.specs.declared.line.WorldLine.{WorldLine}
+use Rattle.my_link.specs.declared.line.WorldLine.{WorldLine}
 use Rattle.my_run_judge.specs.Plan.Runs.{DialsAt, EachKept, EachNotBefore, LinkNotBefore, LinksFound, OneUnkept, PlansFound, RunFound, SomewhereUnkept, TapeFound}
 
 -- neither is before what isn't after the earlier one

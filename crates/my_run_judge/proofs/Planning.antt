@@ -6,8 +6,8 @@ use Rattle.my_link.specs.declared.link.ReadItem.TheVariants.{Bytes, Turn, Wait, 
 use Rattle.my_link.specs.declared.link.WriteItem.{WriteItem}
 use Rattle.my_link.specs.declared.link.WriteItem.TheVariants as puts
 use Rattle.my_link.specs.Spent.{spelled, fails_in, write_fails_in}
-use Rattle.my_world.specs.declared.line.WorldLine.{WorldLine}
-use Rattle.my_world.specs.Plan.{all_given, dripped, given_to, items_of, writes_of}
+use Rattle.my_link.specs.declared.line.WorldLine.{WorldLine}
+use Rattle.my_link.specs.Plan.{all_given, dripped, given_to, items_of, writes_of}
 use Rattle.my_run_judge.specs.Plan.Planned.{PlanSeen, before_end, has_end, no_plan, plan_on, plan_with, planned, with_bytes}
 
 -- each byte by itself

@@ -3,7 +3,7 @@ pub mod Cuts
 pub mod Standing
 use Rattle.std.proofs.Common.{◌≡◌, ◌+◌, ◌≤◌, ◌<◌, ℕ, suc, List, length, take, Option, Some, None, Bool, sym, ap, ◌∙◌, Bor, option_map, IfSome, arith}
 use Rattle.my_script.specs.declared.step.Step.{Step}
-use Rattle.my_world.specs.declared.line.WorldLine.{WorldLine}
+use Rattle.my_link.specs.declared.line.WorldLine.{WorldLine}
 use Rattle.my_script.specs.declared.reading.item.Item.{Item}
 use Rattle.my_script.specs.declared.reading.script.Sofar.{Sofar}
 use Rattle.my_script.specs.Cut.{first_of, rest_of, pieces_left}

@@ -6,7 +6,7 @@ use Rattle.my_script.specs.declared.step.Step.TheVariants as steps
 use Rattle.my_params.specs.declared.params.Params.{Params}
 use Rattle.my_params.specs.declared.params.Params.TheVariants.{Named, Positional}
 use Rattle.my_opts_parts.specs.TransactionOptions.{TxView}
-use Rattle.my_world.specs.declared.line.WorldLine.TheVariants as lines
+use Rattle.my_link.specs.declared.line.WorldLine.TheVariants as lines
 use Rattle.my_script.specs.declared.reading.item.Item.{Item}
 use Rattle.my_script.specs.declared.reading.item.Item.TheVariants.{Nothing, Plans, Steps, Wrong}
 use Rattle.my_script.specs.declared.reading.keyword.Keyword.{Keyword}

@@ -11,7 +11,7 @@ use Rattle.my_script.specs.declared.transcript.Outcome.{Outcome}
 use Rattle.my_script.specs.declared.transcript.Outcome.TheVariants.{Pending, Connected, Failed}
 use Rattle.my_script.specs.declared.transcript.Use.{Use}
 use Rattle.my_steps.specs.Grows.{Connects, Dials}
-use Rattle.my_world.specs.World.{Plans, SameLink}
+use Rattle.my_link.specs.World.{Plans, SameLink}
 use Rattle.my_steps.specs.Keeps.{IsStood, IsAwaited}
 use Rattle.my_client.specs.Kept.{Asked, Kept, first_asked, first_kept}
 use Rattle.my_link.specs.Looks.{Looks}

@@ -5,9 +5,9 @@ use Rattle.my_link.specs.declared.met.Met.{Met}
 use Rattle.my_script.specs.declared.step.Step.{Step}
 use Rattle.my_script.specs.declared.step.Step.TheVariants as steps
 use Rattle.my_script.specs.declared.transcript.Use.{Use}
-use Rattle.my_world.specs.World.{Back, DialCounts, Chance, WorldSeen, counted, drawn}
-use Rattle.my_world.specs.declared.line.WorldLine.TheVariants as lines
-use Rattle.my_world.specs.Plan.{chance_on}
+use Rattle.my_link.specs.World.{Back, DialCounts, Chance, WorldSeen, counted, drawn}
+use Rattle.my_link.specs.declared.line.WorldLine.TheVariants as lines
+use Rattle.my_link.specs.Plan.{chance_on}
 use Rattle.my_steps.specs.Grows.{Line, handles_after}
 use Rattle.my_steps.specs.Handle.{Handle, Absent, Dialing, Joined, at_number}
 

@@ -40,7 +40,7 @@ use Rattle.my_link.specs.declared.link.WriteItem.{WriteItem}
 use Rattle.my_link.specs.Looks.{Looks}
 use Rattle.my_link.specs.Outside.{no_counts}
 use Rattle.my_link.specs.declared.dialer.DialItem.{DialItem}
-use Rattle.my_world.specs.World.{Plans, HeldBy, FailedBy, GivenBy, IsFresh}
+use Rattle.my_link.specs.World.{Plans, HeldBy, FailedBy, GivenBy, IsFresh}
 
 -- the step names a number at which it finds nothing to do: it is refused, and changes nothing
 pub record IsRefused (h : Handle) (o : Outcome) (us : List Use) (t : Handle) : Type 0 where

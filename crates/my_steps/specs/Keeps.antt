@@ -6,7 +6,7 @@ use Rattle.my_steps.specs.declared.slot.Slot.TheVariants.{Gone, Held, There, End
 use Rattle.my_client.specs.declared.conn.TapedConn.{TapedConn}
 use Rattle.my_client.specs.Conn.{kept_of}
 use Rattle.my_client.specs.Stands.{Rests}
-use Rattle.my_world.specs.World.{Plans, SameFrom, SameLink}
+use Rattle.my_link.specs.World.{Plans, SameFrom, SameLink}
 
 -- a connection's session stands where the reading of its tape does, and its open call waits for its link
 abbrev pub StandsBy : {L : Type 0} → Login → TapedConn L → Type 0

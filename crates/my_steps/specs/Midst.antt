@@ -1,7 +1,7 @@
 -- What a step may have done by the time that memory ran out in it.
 use Rattle.std.specs.Prelude.{ℕ, ◌≡◌, ◌≢◌, zero, suc, List, [], ◌∷◌, Option, None, Some, Bool, true, false}
 use Rattle.my_link.specs.Looks.{Looks}
-use Rattle.my_world.specs.World.{Back, DialCounts, DialFailed, DialHeld, IsFresh, WorldSeen, with_back}
+use Rattle.my_link.specs.World.{Back, DialCounts, DialFailed, DialHeld, IsFresh, WorldSeen, with_back}
 use Rattle.my_script.specs.declared.step.Step.{Step}
 use Rattle.my_script.specs.declared.step.Step.TheVariants as steps
 use Rattle.my_script.specs.Streams.{target}

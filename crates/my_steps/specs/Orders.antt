@@ -3,8 +3,8 @@ use Rattle.std.specs.Prelude.{◌≡◌, Bool, true, false, List}
 use Rattle.my_grammar.specs.declared.login.Login.{Login}
 use Rattle.my_script.specs.declared.transcript.Outcome.{Outcome}
 use Rattle.my_script.specs.declared.transcript.Use.{Use}
-use Rattle.my_world.specs.Plan.{chance_on}
-use Rattle.my_world.specs.World.{Chance, Plans}
+use Rattle.my_link.specs.Plan.{chance_on}
+use Rattle.my_link.specs.World.{Chance, Plans}
 use Rattle.my_steps.specs.declared.step.Order.{Order}
 use Rattle.my_steps.specs.declared.step.Order.TheVariants.{Dial, Move, Visit}
 use Rattle.my_steps.specs.Dialing.{chance_dialed}

@@ -7,7 +7,7 @@ use Rattle.my_client.specs.declared.conn.TapedConn.{TapedConn}
 use Rattle.my_client.specs.Conn.{kept_of}
 use Rattle.my_link.specs.Looks.{Looks}
 use Rattle.my_link.specs.declared.dialer.DialItem.{DialItem}
-use Rattle.my_world.specs.World.{Plans}
+use Rattle.my_link.specs.World.{Plans}
 
 -- A connection whose dial failed has no tape, and one that couldn't connect isn't there any more. The items that are left for
 -- dials are the world's.

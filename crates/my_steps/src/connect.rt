@@ -2,7 +2,7 @@
 ghost use Rattle.std.specs.Prelude.{◌≡◌, ◌∷◌, [], suc, length, Some, true, IfErr, IfOk, OnOk};
 ghost use Rattle.my_reading.specs.Errors.{io_error};
 ghost use Rattle.my_session.specs.Login.{login_of};
-ghost use Rattle.my_world.specs.World.{IsFresh, SameBut, SamePlans, drawn};
+ghost use Rattle.my_link.specs.World.{IsFresh, SameBut, SamePlans, drawn};
 ghost use Rattle.my_client.specs.Kept.{first_asked, first_kept};
 ghost use Rattle.my_client.specs.Conn.{kept_of};
 ghost use Rattle.my_client.specs.Stands.{StandsAsked};
@@ -19,11 +19,10 @@ use crate::slot::{Slot, place};
 use my_client::{After, TapedConn, begin_over, drive};
 use my_frame::NoMemory;
 use my_handshake::server_version;
-use my_link::{Link, Met};
+use my_link::{DialStep, Link, Met, World};
 use my_opts::{Opts, Target};
 use my_reading::{Error, IoError, IoFault, IoKind};
 use my_script::{Outcome, Use};
-use my_world::{DialStep, World};
 use std::alloc::Global;
 
 fn dial_error() -> Error

@@ -3,8 +3,8 @@ ghost use Rattle.std.specs.Prelude.{◌≡◌, ◌≤◌, [], length, true, IfOk
 ghost use Rattle.std.specs.Option.{option_copied};
 ghost use Rattle.my_session.specs.Login.{login_of};
 ghost use Rattle.my_script.specs.Script.{may_stand};
-ghost use Rattle.my_world.specs.World.{SamePlans};
-ghost use Rattle.my_world.specs.Plan.{chance_on};
+ghost use Rattle.my_link.specs.World.{SamePlans};
+ghost use Rattle.my_link.specs.Plan.{chance_on};
 ghost use Rattle.my_steps.specs.Dialing.{DialsTo, chance_by, dial_met, has_dialed};
 ghost use Rattle.my_steps.specs.Did.{IsMoving, StepsOn, at_place, close_work, execute_work, found_work, order_of};
 ghost use Rattle.my_steps.specs.Orders.{Carries, MayCarry, chance_of, dials_by};
@@ -18,12 +18,12 @@ use crate::outcome::{StepResult, unused};
 use crate::slot::Slot;
 use crate::work::{Errand, Work, work_at};
 use my_frame::NoMemory;
+use my_link::{World, WorldLine};
 use my_opts::Opts;
 use my_params::Params;
 use my_reading::Call;
 use my_script::{Aim, Outcome, Step};
 use my_statements::Statement;
-use my_world::{World, WorldLine};
 use std::alloc::Global;
 
 // Does this where the step finds what it needs.

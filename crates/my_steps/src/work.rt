@@ -1,7 +1,7 @@
 //! What a step does at a connection's number.
 ghost use Rattle.std.specs.Prelude.{◌≡◌, length, Some, true, IfOk, OnOk};
 ghost use Rattle.my_session.specs.Login.{login_of};
-ghost use Rattle.my_world.specs.World.{SameBut};
+ghost use Rattle.my_link.specs.World.{SameBut};
 ghost use Rattle.my_steps.specs.Dialing.{DialsTo, chance_dialed, dial_met};
 ghost use Rattle.my_steps.specs.Did.{does_at, EachDid, DoesAt, StepsOn, is_poll, redials};
 ghost use Rattle.my_steps.specs.Slot.{HasLink, handle_at, handle_of, placed};
@@ -20,11 +20,10 @@ use crate::slot::{Slot, place, put};
 use crate::stream::{item_call, let_go, read_call};
 use my_client::TapedConn;
 use my_frame::NoMemory;
-use my_link::Link;
+use my_link::{Link, World};
 use my_opts::Opts;
 use my_reading::Call;
 use my_script::{Aim, Outcome};
-use my_world::World;
 use std::alloc::Global;
 use std::mem;
 

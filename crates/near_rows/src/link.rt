@@ -3,10 +3,9 @@
 use crate::parts::PARTS;
 use my_connect::{Client, Conn, Error};
 use my_frame::{Blob, NoMemory};
-use my_link::{DialStep, Dialer, MemLink, ReadyLink};
+use my_link::{DialStep, Dialer, MemLink, MemWorld, ReadyLink, World, WorldLine};
 use my_opts::Opts;
 use my_opts_parts::limits::LONGEST_URL;
-use my_world::{MemWorld, World, WorldLine};
 use std::alloc::Global;
 
 /// A client over a link in memory.

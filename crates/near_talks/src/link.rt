@@ -2,10 +2,9 @@
 
 use crate::words::{digits_of, field};
 use my_frame::{Blob, NoMemory};
-use my_link::MemLink;
+use my_link::{DialStep, Dialer, MemLink, MemWorld, World, WorldLine};
 use my_opts::Opts;
 use my_opts_parts::limits::LONGEST_URL;
-use my_world::{DialStep, Dialer, MemWorld, World, WorldLine};
 use std::alloc::Global;
 
 // The options of a connection for which the row gives no URL.

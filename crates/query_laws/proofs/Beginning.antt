@@ -13,8 +13,8 @@ use Rattle.my_client.specs.declared.tape.DoneCall.{DoneCall}
 use Rattle.my_client.specs.declared.tape.Said.TheVariants as says
 use Rattle.my_client.specs.Kept.{Kept, asked_by, asking, ended_by, nothing_kept}
 use Rattle.my_client.specs.Reads.{IsRead, tape_kept}
-use Rattle.my_line.specs.Stands.{StandsFor}
-use Rattle.my_line.specs.Waits.{Driven}
+use Rattle.my_client.specs.StandsFor.{StandsFor}
+use Rattle.my_client.specs.Waits.{Driven}
 use Rattle.my_session.specs.Login.{login_of}
 use Rattle.my_conn.specs.Conn.{ConnSeen}
 use Rattle.my_conn.specs.News.{Given, IsNew}

@@ -29,9 +29,9 @@ use Rattle.my_client.proofs.Reading.{rests_read}
 use Rattle.my_client.proofs.TapeRead.{ended_more, open_reading, reading_before, span_open}
 use Rattle.my_client.proofs.TapeRead.Lists.{between_end, one_read, read_one_more, spans_at_rest, spans_end, with_one}
 use Rattle.my_client.proofs.TapeRead.Stopping.{place_open, stop_open}
-use Rattle.my_line.proofs.Polled.{answer_comes}
-use Rattle.my_line.specs.Stands.{StandsFor, kind_kept}
-use Rattle.my_line.specs.Waits.{DriveRefused, Driven}
+use Rattle.my_client.proofs.Polled.{answer_comes}
+use Rattle.my_client.specs.StandsFor.{StandsFor, kind_kept}
+use Rattle.my_client.specs.Waits.{DriveRefused, Driven}
 use Rattle.my_conn.specs.Conn.{ConnSeen}
 use Rattle.my_conn.specs.Drives.{DriveIs, lost_result}
 use Rattle.my_session.specs.Sessions.{Seen}

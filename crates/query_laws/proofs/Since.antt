@@ -24,7 +24,7 @@ use Rattle.my_conn.specs.Conn.{ConnSeen}
 use Rattle.my_conn.specs.Drives.{DriveIs, WaitIs, lost_result, waited_by}
 use Rattle.my_conn.specs.declared.drive.NextAnswer.TheVariants.{Row, SetEnd, NoSet}
 use Rattle.my_session.specs.Fits.{may_be, may_lack_sets, prepares, reads, resets}
-use Rattle.my_line.specs.Stands.{StandsFor}
+use Rattle.my_client.specs.StandsFor.{StandsFor}
 use Rattle.query_laws.specs.Stood.{Did}
 use Rattle.query_laws.proofs.Driving.{Stepped, stepped}
 

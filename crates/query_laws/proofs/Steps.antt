@@ -19,7 +19,7 @@ use Rattle.my_conn.specs.Answers.{done_of, next_of}
 use Rattle.my_conn.specs.Conn.{ConnSeen}
 use Rattle.my_conn.specs.Drives.{DoneIs, DriveIs, NextIs, PrepareIs}
 use Rattle.my_conn.specs.declared.drive.NextAnswer.TheVariants.{Row, SetEnd, NoSet}
-use Rattle.my_line.specs.Stands.{StandsFor}
+use Rattle.my_client.specs.StandsFor.{StandsFor}
 use Rattle.my_client.specs.Kept.{Kept}
 use Rattle.history_laws.specs.Fronts.{Set}
 use Rattle.my_query.specs.Reads.{ReadsEnd, ReadsRows}

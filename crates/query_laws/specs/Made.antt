@@ -6,7 +6,7 @@ use Rattle.my_reading.specs.Endings.{IsTape}
 use Rattle.my_session.specs.Login.{login_of}
 use Rattle.my_client.specs.Kept.{Kept}
 use Rattle.my_client.specs.Reads.{tape_kept}
-use Rattle.my_line.specs.Stands.{StandsFor}
+use Rattle.my_client.specs.StandsFor.{StandsFor}
 use Rattle.my_conn.specs.Conn.{ConnSeen}
 use Rattle.my_conn.specs.News.{Given, IsNew}
 

@@ -5,7 +5,7 @@ use Rattle.my_grammar.specs.declared.login.Login.{Login}
 use Rattle.my_reading.specs.Endings.{IsTape}
 use Rattle.my_client.specs.Kept.{Kept}
 use Rattle.my_client.specs.Reads.{tape_kept}
-use Rattle.my_line.specs.Stands.{StandsFor}
+use Rattle.my_client.specs.StandsFor.{StandsFor}
 use Rattle.my_conn.specs.Conn.{ConnSeen}
 
 -- After what it did before there is what it did since: bytes more were taken. Where the reading accepted the tape before, it accepts that

@@ -1,9 +1,11 @@
 //! A world that has a server in memory at one host.
 
 use my_frame::{NoMemory, SourceStep};
-use my_link::{AfterConnect, AfterStep, Aid, GlobalHandler, MemLink, Opening, ReadyLink};
+use my_link::{
+    AfterConnect, AfterStep, Aid, DialStep, Dialer, GlobalHandler, MemLink, MemWorld, Opening,
+    ReadyLink, World, WorldLine,
+};
 use my_opts_parts::Target;
-use my_world::{DialStep, Dialer, MemWorld, World, WorldLine};
 use std::alloc::Global;
 
 /// A world in memory, whose links are always ready. Only this host and port are there; other dials fail.

@@ -18,10 +18,10 @@ use Rattle.my_client.specs.Kept.{Kept, asking, made_of, told_by}
 use Rattle.my_client.specs.Made.{has_closed}
 use Rattle.my_client.proofs.Resting.{stands_closed}
 use Rattle.my_client.specs.Polls.{moved_by}
-use Rattle.my_line.specs.Stands.{StandsFor}
-use Rattle.my_line.specs.Waits.{DriveRefused, Driven, said_in}
-use Rattle.my_line.proofs.Polled.{moved_calls}
-use Rattle.my_line.proofs.Standing.{made_more}
+use Rattle.my_client.specs.StandsFor.{StandsFor}
+use Rattle.my_client.specs.Waits.{DriveRefused, Driven, said_in}
+use Rattle.my_client.proofs.Polled.{moved_calls}
+use Rattle.my_client.proofs.Standing.{made_more}
 use Rattle.my_conn.specs.Conn.{ConnSeen, Standing}
 use Rattle.my_conn.specs.Drives.{DriveIs, WaitIs, lost_result, waited_by}
 use Rattle.result_laws.specs.Closing.{ClosesBy, RestsAt, closes, closes_in, is_closed}

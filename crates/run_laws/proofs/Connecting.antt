@@ -8,7 +8,7 @@ use Rattle.my_client.specs.declared.tape.DoneCall.{DoneCall}
 use Rattle.my_client.specs.declared.tape.Said.{Said}
 use Rattle.my_client.specs.Kept.{Asked, Kept, asking, ended_by}
 use Rattle.my_client.specs.Reads.{calls_kept}
-use Rattle.my_world.specs.World.{Plans}
+use Rattle.my_link.specs.World.{Plans}
 use Rattle.my_steps.specs.Grows.{Line, AreGrown, handles_after}
 use Rattle.my_steps.specs.Handle.{Handle, at_number}
 use Rattle.run_laws.proofs.Growing.{HasAt, AllHave, at_has, grown_keeps}

@@ -30,7 +30,7 @@ use Rattle.my_client.specs.declared.poll.After.TheVariants as after
 use Rattle.my_client.specs.declared.tape.Said.{Said}
 use Rattle.my_client.specs.Ends.{kept_after}
 use Rattle.my_client.specs.Kept.{Asked, Kept, made_of, asking, asked_by, ended_by, first_asked, first_kept}
-use Rattle.my_world.specs.World.{Plans}
+use Rattle.my_link.specs.World.{Plans}
 use Rattle.my_client.specs.Polls.{IsPolled, moved_by}
 use Rattle.my_client.proofs.Moving.{all_pending}
 use Rattle.my_run.proofs.Polls.{all_calls, all_sent, all_taken}

@@ -11,7 +11,7 @@ use Rattle.my_client.specs.declared.tape.DoneCall.{DoneCall}
 use Rattle.my_client.specs.declared.tape.Said.{Said}
 use Rattle.my_client.specs.Kept.{Asked, Kept, asking, ended_by, first_kept, told_by}
 use Rattle.my_client.specs.Reads.{calls_kept, tape_kept}
-use Rattle.my_world.specs.World.{Plans}
+use Rattle.my_link.specs.World.{Plans}
 use Rattle.my_steps.specs.Grows.{Line, AreGrown, handles_after}
 use Rattle.my_steps.specs.Handle.{at_number}
 use Rattle.run_laws.proofs.Connecting.{both, left_of, right_of}

@@ -7,7 +7,7 @@ use Rattle.my_reading.specs.Place.{Place, first_place}
 use Rattle.my_reading.specs.Reading.{read_calls, reading}
 use Rattle.my_reading.specs.Tape.{Tape, TapeCall, spans_from}
 use Rattle.my_client.specs.Reads.{calls_kept, tape_kept}
-use Rattle.my_world.specs.World.{Plans}
+use Rattle.my_link.specs.World.{Plans}
 use Rattle.my_steps.specs.Grows.{AreGrown, Line, handles_after}
 use Rattle.my_steps.specs.Handle.{Handle, Absent, Dialing, Joined, at_number}
 use Rattle.my_run.specs.Headline.{EachExplained, IsExplained}

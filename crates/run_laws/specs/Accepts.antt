@@ -4,7 +4,7 @@ use Rattle.my_grammar.specs.declared.login.Login.{Login}
 use Rattle.my_script.specs.declared.step.Step.{Step}
 use Rattle.my_script.specs.declared.transcript.StepAnswer.{StepAnswer}
 use Rattle.my_script.specs.declared.transcript.Tape.{Tape}
-use Rattle.my_world.specs.World.{Plans}
+use Rattle.my_link.specs.World.{Plans}
 use Rattle.my_steps.specs.Dialing.{Course}
 use Rattle.my_run.specs.Headline.{Headline}
 use Rattle.my_run_judge.specs.Transcripts.{AreRight, IsFirstWrong}

@@ -6,13 +6,13 @@ use Rattle.my_link.specs.Planned.{PlannedItems, items_at}
 use Rattle.my_script.specs.declared.step.Step.{Step}
 use Rattle.my_script.specs.declared.transcript.StepAnswer.{StepAnswer}
 use Rattle.my_script.specs.declared.transcript.Tape.{Tape}
-use Rattle.my_world.specs.declared.line.WorldLine.{WorldLine}
-use Rattle.my_world.specs.declared.memory.dials.PlannedDial.{PlannedDial}
-use Rattle.my_world.specs.MemDials.{dials_at}
-use Rattle.my_world.specs.MemWorld.{world_of}
-use Rattle.my_world.specs.declared.memory.EndedLink.{EndedLink}
-use Rattle.my_world.specs.Plan.{all_given, dials_of, items_of, writes_of}
-use Rattle.my_world.specs.World.{Plans, DialCounts}
+use Rattle.my_link.specs.declared.line.WorldLine.{WorldLine}
+use Rattle.my_link.specs.declared.mem_world.dials.PlannedDial.{PlannedDial}
+use Rattle.my_link.specs.MemDials.{dials_at}
+use Rattle.my_link.specs.MemWorld.{world_of}
+use Rattle.my_link.specs.declared.mem_world.EndedLink.{EndedLink}
+use Rattle.my_link.specs.Plan.{all_given, dials_of, items_of, writes_of}
+use Rattle.my_link.specs.World.{Plans, DialCounts}
 use Rattle.my_steps.specs.Dialing.{Course}
 use Rattle.my_run.specs.Headline.{Headline}
 use Rattle.my_run.specs.Tool.{plans_with}

@@ -17,7 +17,7 @@ use Rattle.my_script.specs.declared.transcript.Outcome.TheVariants.{Done, Pendin
 use Rattle.my_script.specs.declared.transcript.StepAnswer.{StepAnswer}
 use Rattle.my_script.specs.declared.transcript.Tape.{Tape}
 use Rattle.my_script.specs.declared.transcript.Use.{Use}
-use Rattle.my_world.specs.World.{Plans}
+use Rattle.my_link.specs.World.{Plans}
 use Rattle.my_steps.specs.Dialing.{Course}
 use Rattle.my_run.specs.Headline.{Headline}
 use Rattle.reading_laws.specs.Bytes.{all_sent, all_taken, calls_from}

@@ -7,7 +7,7 @@ use Rattle.my_script.specs.declared.step.Step.{Step}
 use Rattle.my_script.specs.declared.transcript.StepAnswer.{StepAnswer}
 use Rattle.my_script.specs.declared.transcript.Tape.{Tape}
 use Rattle.my_client.specs.Reads.{tape_kept}
-use Rattle.my_world.specs.World.{Plans}
+use Rattle.my_link.specs.World.{Plans}
 use Rattle.my_steps.specs.Dialing.{Course}
 use Rattle.my_steps.specs.Grows.{Line}
 use Rattle.my_steps.specs.Handle.{Handle, Absent, Dialing, Joined, at_number}

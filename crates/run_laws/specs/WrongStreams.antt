@@ -13,7 +13,7 @@ use Rattle.my_script.specs.declared.transcript.StepAnswer.{StepAnswer}
 use Rattle.my_script.specs.declared.transcript.Tape.{Tape}
 use Rattle.my_script.specs.declared.transcript.TapeCall.{TapeCall}
 use Rattle.my_script.specs.declared.transcript.Use.{Use}
-use Rattle.my_world.specs.World.{Plans}
+use Rattle.my_link.specs.World.{Plans}
 use Rattle.my_steps.specs.Dialing.{Course}
 use Rattle.my_run.specs.Headline.{AnswerView, Headline, answer_view}
 use Rattle.my_run.specs.Tapes.{TapeView, tape_view}

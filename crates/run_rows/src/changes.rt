@@ -1,9 +1,9 @@
 //! Changes of a run, each of which is made, judged and undone.
 
 use crate::judged::{Counts, Run};
+use my_link::WorldLine;
 use my_reading::{Answer, Error};
 use my_script::{Outcome, Script, StepAnswer, Tape, TapeCall};
-use my_world::WorldLine;
 use std::alloc::Global;
 use std::mem;
 

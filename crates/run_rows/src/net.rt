@@ -2,12 +2,11 @@
 
 use my_frame::{Blob, Listed, NoMemory, SourceStep, Text};
 use my_link::{
-    AfterStep, Aid, CheckStep, Link, MemLink, Opening, ReadItem, ReadStep, ReadyLink, WriteItem,
-    WriteStep, Writes, read_blocking,
+    AfterStep, Aid, CheckStep, DialStep, Dialer, Link, MemLink, MemWorld, Opening, ReadItem,
+    ReadStep, ReadyLink, World, WriteItem, WriteStep, Writes, read_blocking,
 };
 use my_net::{Stream, StreamLink, TcpWorld};
 use my_opts_parts::Target;
-use my_world::{DialStep, Dialer, MemWorld, World};
 use std::alloc::{AllocError, Global};
 use std::io::{ErrorKind, Read, Write};
 use std::net::{IpAddr, Ipv4Addr, TcpListener};

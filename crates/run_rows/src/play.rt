@@ -3,9 +3,9 @@
 use crate::judged::fault_of;
 use crate::text::{cut, field, marked, number};
 use my_frame::{MemSink, MemSource, NoMemory, Source};
+use my_link::{MemWorld, World};
 use my_run::{Report, Status, run_tool};
 use my_script::BadLine;
-use my_world::{MemWorld, World};
 use std::alloc::{AllocError, Global};
 use std::str;
 

@@ -2,7 +2,7 @@
 
 use crate::play::{PLAIN, ends};
 use my_frame::{MemSink, NoMemory, Source, SourceStep};
-use my_world::MemWorld;
+use my_link::MemWorld;
 use std::alloc::Global;
 use std::test::Fail;
 

@@ -29,7 +29,7 @@ use Rattle.my_script.specs.declared.transcript.Use.{Use}
 use Rattle.my_script.specs.Numbered.{named_statement, statement_named}
 use Rattle.my_script.specs.Streams.{is_skip, target}
 use Rattle.my_client.specs.Kept.{Asked, Kept, asking, asked_by}
-use Rattle.my_world.specs.World.{Plans, HeldBy, IsFresh}
+use Rattle.my_link.specs.World.{Plans, HeldBy, IsFresh}
 use Rattle.my_client.specs.Polls.{IsPolled}
 use Rattle.my_steps.specs.Grows.{AreGrown, Line, handles_after, aim_at, is_found, statements_of, IsRefused, OnConnection, PolledOnce, IsClosed, Begins, BeginsOn, Calls, ConnectShows, Connects, HasPlan, IsNew, Dials, Holds, Fails, Links, Gathers, GathersOn, Collects, CollectsOn, CollectsAt, PollsOn, PollsCall, Then, Skips, Follows, Reads, ReadsOn, ReadsAt, Where, Items, ItemsOn, ItemsAt, LetsGoWith, LetsGo, ExecutesAt, ClosesAt, GoesOnWith, GoesOn, CancelsWith, Cancels, TellsWith, TellsFields, At, StepGrows, is_done, has_taken}
 use Rattle.my_steps.specs.Handle.{Handle, Absent, Dialing, Joined, at_number, put_at}

@@ -10,7 +10,7 @@ use Rattle.my_steps.specs.declared.slot.Slot.TheVariants.{Gone, Held, There, End
 use Rattle.my_steps.specs.Slot.{handle_of, handle_with, handles_from}
 use Rattle.my_link.specs.Looks.{Looks}
 use Rattle.my_steps.specs.Handle.{Handle}
-use Rattle.my_world.specs.World.{Back}
+use Rattle.my_link.specs.World.{Back}
 use Rattle.my_run.specs.Tapes.{all_in, links_at, tape_at, tape_call, with_links}
 
 -- a call goes from the calls to the tape, which is in reverse order

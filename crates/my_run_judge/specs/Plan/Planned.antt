@@ -4,8 +4,8 @@ use Rattle.my_link.specs.declared.link.ReadItem.{ReadItem}
 use Rattle.my_link.specs.declared.link.ReadItem.TheVariants.{Bytes, Turn, Wait, Fail, End}
 use Rattle.my_link.specs.declared.link.WriteItem.{WriteItem}
 use Rattle.my_link.specs.Spent.{spelled, fails_in, write_fails_in}
-use Rattle.my_world.specs.declared.line.WorldLine.{WorldLine}
-use Rattle.my_world.specs.Plan.{all_given, given_to, items_of, writes_of}
+use Rattle.my_link.specs.declared.line.WorldLine.{WorldLine}
+use Rattle.my_link.specs.Plan.{all_given, given_to, items_of, writes_of}
 
 -- a link that ended gives nothing else
 abbrev pub before_end : List ReadItem → List ReadItem

@@ -7,9 +7,9 @@ use Rattle.my_run_judge.specs.Transcripts.{AreRight, IsFoundIn, IsLeastAt, IsNot
 use Rattle.my_script.specs.declared.step.Step.{Step}
 use Rattle.my_script.specs.declared.transcript.StepAnswer.{StepAnswer}
 use Rattle.my_script.specs.declared.transcript.Tape.{Tape}
-use Rattle.my_world.specs.declared.line.WorldLine.{WorldLine}
+use Rattle.my_link.specs.declared.line.WorldLine.{WorldLine}
 use Rattle.my_run_judge.specs.Plan.Left.{first_left}
-use Rattle.my_world.specs.Plan.{all_given, dials_of}
+use Rattle.my_link.specs.Plan.{all_given, dials_of}
 use Rattle.my_run_judge.specs.Plan.Dials.{DialsFound}
 use Rattle.my_run_judge.specs.declared.plan.dials.DialSpot.TheVariants.{Ahead}
 use Rattle.my_run_judge.specs.Plan.Lines.{LinkFound}

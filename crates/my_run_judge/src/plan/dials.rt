@@ -2,7 +2,7 @@
 
 ghost use Rattle.std.specs.Prelude.{◌≡◌, ◌++◌, IfOk, OnOk};
 ghost use Rattle.std.specs.Bool.{Decides};
-ghost use Rattle.my_world.specs.Plan.{all_given, dials_of, given_to};
+ghost use Rattle.my_link.specs.Plan.{all_given, dials_of, given_to};
 ghost use Rattle.my_run_judge.specs.Plan.Dials.{
   DialKept,
   DialsFound,
@@ -17,9 +17,8 @@ ghost use Rattle.my_run_judge.specs.Plan.Dials.{
 
 use crate::judging::Found;
 use my_frame::NoMemory;
-use my_link::{DialItem, Met};
+use my_link::{DialItem, Met, WorldLine};
 use my_script::{Step, StepAnswer, Use};
-use my_world::WorldLine;
 use std::alloc::Global;
 
 /// Where the lines so far are in the dials of a number.

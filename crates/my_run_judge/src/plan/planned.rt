@@ -2,10 +2,10 @@
 
 ghost use Rattle.std.specs.Prelude.{◌≡◌, ◌≤◌, ◌+◌, ◌<◌, ◌^◌, [], false, IfOk, OnOk};
 ghost use Rattle.my_run_judge.specs.Plan.Planned.{no_plan, plan_on, plan_with, planned, with_bytes};
-ghost use Rattle.my_world.specs.Plan.{items_of, packet_of, writes_of};
+ghost use Rattle.my_link.specs.Plan.{items_of, packet_of, writes_of};
 
 use my_frame::NoMemory;
-use my_world::WorldLine;
+use my_link::WorldLine;
 use std::alloc::Global;
 use std::marker::Model;
 

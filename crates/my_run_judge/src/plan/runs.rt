@@ -12,8 +12,8 @@ use crate::plan::planned::plan_of;
 use crate::transcript::{dialed_in, earlier, judge_transcript};
 use my_frame::NoMemory;
 use my_grammar::Login;
+use my_link::WorldLine;
 use my_script::{Step, StepAnswer, Tape};
-use my_world::WorldLine;
 use std::alloc::Global;
 
 fn judge_number(

@@ -3,7 +3,7 @@ use Rattle.std.proofs.Common.{◌≡◌, ◌+◌, ◌==◌, ℕ, List, [], ◌�
 use Rattle.std.specs.List.{slice_split}
 use Rattle.my_script.specs.declared.step.Step.{Step}
 use Rattle.my_script.specs.declared.step.Step.TheVariants as steps
-use Rattle.my_world.specs.declared.line.WorldLine.{WorldLine}
+use Rattle.my_link.specs.declared.line.WorldLine.{WorldLine}
 use Rattle.my_script.specs.declared.reading.item.Item.{Item}
 use Rattle.my_script.specs.declared.reading.item.Item.TheVariants.{Nothing, Plans, Steps, Wrong}
 use Rattle.my_script.specs.declared.reading.script.Sofar.{Sofar}

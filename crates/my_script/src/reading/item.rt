@@ -1,7 +1,7 @@
 //! A line of a script, as it was read.
 
 use crate::Step;
-use my_world::WorldLine;
+use my_link::WorldLine;
 
 /// What a line says.
 #[derive(Drop)]

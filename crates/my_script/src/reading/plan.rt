@@ -7,7 +7,7 @@ use super::item::Item;
 use super::keyword::Keyword;
 use super::number::{bytes, number, number_to};
 use my_frame::{Blob, NoMemory};
-use my_world::WorldLine;
+use my_link::WorldLine;
 use std::alloc::Global;
 
 /// The largest number of a link in a world's lines.

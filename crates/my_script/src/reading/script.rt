@@ -7,7 +7,7 @@ use super::item::Item;
 use super::line::read_line;
 use crate::Step;
 use my_frame::{Blob, NoMemory};
-use my_world::WorldLine;
+use my_link::WorldLine;
 use std::alloc::Global;
 
 /// How many `conn` lines read.

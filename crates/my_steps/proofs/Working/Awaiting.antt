@@ -2,7 +2,7 @@
 use Rattle.std.proofs.Common.{ℕ, ◌≡◌, ◌≢◌, ◌+◌, ◌<◌, ◌≤◌, zero, suc, List, [], ◌∷◌, ◌++◌, length, get_or, slice_set, Option, refl, sym, ap, ◌∙◌, subst, arith}
 use Rattle.my_link.specs.Looks.{Looks}
 use Rattle.my_link.specs.declared.dialer.DialItem.{DialItem}
-use Rattle.my_world.specs.World.{Plans, SameAt, SameBut, SameFrom, SameLink}
+use Rattle.my_link.specs.World.{Plans, SameAt, SameBut, SameFrom, SameLink}
 use Rattle.my_steps.specs.declared.slot.Slot.{Slot}
 use Rattle.my_steps.specs.declared.slot.Slot.TheVariants.{Gone, Held, There, Ended}
 use Rattle.my_steps.specs.Dialing.{is_dialing}

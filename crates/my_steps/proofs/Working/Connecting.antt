@@ -24,7 +24,7 @@ use Rattle.my_steps.specs.Did.{Stepped}
 use Rattle.my_client.specs.Drives.{Drives}
 use Rattle.my_steps.specs.Grows.{ConnectShows, Connects, HasPlan, IsNew, Dials, Holds, Fails, Links, DialsNext}
 use Rattle.my_client.specs.Kept.{Asked, Kept, first_asked, first_kept}
-use Rattle.my_world.specs.World.{Plans, SameAt, SameBut, SameLink, HeldBy, FailedBy, GivenBy, IsFresh, DialCounts}
+use Rattle.my_link.specs.World.{Plans, SameAt, SameBut, SameLink, HeldBy, FailedBy, GivenBy, IsFresh, DialCounts}
 use Rattle.my_steps.specs.Keeps.{StandsBy, IsStood, AreStood, AreAwaited}
 use Rattle.my_link.specs.Looks.{Looks}
 use Rattle.my_handshake.specs.Version.{version_of}

@@ -2,7 +2,7 @@
 use Rattle.std.proofs.Common.{ℕ, ◌≡◌, ◌≢◌, ◌<◌, zero, suc, List, [], ◌∷◌, ◌++◌, ◌&&◌, length, get_or, slice_set, Option, None, Some, Bool, true, false, Result, Ok, Err, OnOk, OnErr, refl, sym, ap, ◌∙◌, subst, arith}
 use Rattle.my_statements.specs.Prepared.{StatementView}
 use Rattle.my_link.specs.Looks.{Looks}
-use Rattle.my_world.specs.World.{Back, DialCounts, IsFresh, WorldSeen, with_back}
+use Rattle.my_link.specs.World.{Back, DialCounts, IsFresh, WorldSeen, with_back}
 use Rattle.my_client.specs.declared.conn.TapedConn.{TapedConn}
 use Rattle.my_script.specs.declared.aim.Aim.{Aim}
 use Rattle.my_script.specs.declared.step.Step.{Step}

@@ -4,7 +4,7 @@ use Rattle.my_grammar.specs.declared.login.Login.{Login}
 use Rattle.my_steps.specs.declared.slot.Slot.{Slot}
 use Rattle.my_script.specs.declared.transcript.Outcome.{Outcome}
 use Rattle.my_script.specs.declared.transcript.Use.{Use}
-use Rattle.my_world.specs.World.{Plans, SameBut}
+use Rattle.my_link.specs.World.{Plans, SameBut}
 use Rattle.my_steps.specs.declared.work.Work.{Work}
 use Rattle.my_steps.specs.Did.{DidAt, Stepped, is_poll, redials}
 use Rattle.my_steps.specs.Grows.{At}

@@ -4,10 +4,10 @@ use Rattle.std.proofs.lemmas.List.{append-nil}
 use Rattle.my_statements.specs.Prepared.{StatementView}
 use Rattle.my_grammar.specs.declared.login.Login.{Login}
 use Rattle.my_link.specs.Looks.{Looks}
-use Rattle.my_world.specs.declared.line.WorldLine.{WorldLine}
-use Rattle.my_world.specs.declared.line.WorldLine.TheVariants as lines
-use Rattle.my_world.specs.Plan.{plans_on}
-use Rattle.my_world.specs.World.{Plans, SamePlans, Chance, DialCounts}
+use Rattle.my_link.specs.declared.line.WorldLine.{WorldLine}
+use Rattle.my_link.specs.declared.line.WorldLine.TheVariants as lines
+use Rattle.my_link.specs.Plan.{plans_on}
+use Rattle.my_link.specs.World.{Plans, SamePlans, Chance, DialCounts}
 use Rattle.my_script.specs.Script.{may_stand}
 use Rattle.my_script.specs.declared.aim.Aim.{Aim}
 use Rattle.my_script.specs.declared.step.Step.{Step}

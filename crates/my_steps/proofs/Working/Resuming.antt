@@ -9,7 +9,7 @@ use Rattle.my_script.specs.declared.transcript.Outcome.{Outcome}
 use Rattle.my_script.specs.declared.transcript.Outcome.TheVariants.{NoSuchHandle}
 use Rattle.my_script.specs.declared.transcript.Use.{Use}
 use Rattle.my_script.specs.Streams.{is_skip}
-use Rattle.my_world.specs.World.{Plans, SameLink}
+use Rattle.my_link.specs.World.{Plans, SameLink}
 use Rattle.my_client.specs.Kept.{Asked}
 use Rattle.my_client.specs.declared.conn.TapedConn.{TapedConn}
 use Rattle.my_client.specs.Conn.{kept_of}

@@ -18,7 +18,7 @@ use Rattle.my_script.specs.declared.transcript.Use.{Use}
 use Rattle.my_run_judge.specs.declared.act.Status.TheVariants as status
 use Rattle.my_client.specs.Kept.{Kept}
 use Rattle.my_client.specs.Reads.{calls_kept, tape_kept}
-use Rattle.my_world.specs.World.{Plans}
+use Rattle.my_link.specs.World.{Plans}
 use Rattle.my_steps.specs.Grows.{AreGrown, Line, StepGrows, handles_after}
 use Rattle.my_steps.specs.Handle.{Handle, Absent, Dialing, Joined, at_number}
 use Rattle.my_run.specs.Headline.{EachExplained, IsExplained, answers_of, steps_of}

@@ -35,7 +35,7 @@ use Rattle.my_run_judge.specs.declared.act.Status.{Status}
 use Rattle.my_run_judge.specs.declared.act.Status.TheVariants as status
 use Rattle.my_run_judge.specs.Acts.{act_of, after_cancel, connecting, dialed, gathered, gathering, passed, polled}
 use Rattle.my_client.specs.declared.poll.After.{After}
-use Rattle.my_world.specs.World.{Plans}
+use Rattle.my_link.specs.World.{Plans}
 use Rattle.my_client.specs.declared.poll.After.TheVariants as after
 use Rattle.my_client.specs.declared.tape.DoneCall.{DoneCall}
 use Rattle.my_client.specs.declared.tape.Said.TheVariants as says

@@ -23,7 +23,7 @@ use Rattle.my_run_judge.specs.declared.act.Status.{Status}
 use Rattle.my_run_judge.specs.declared.act.Status.TheVariants as status
 use Rattle.my_run_judge.specs.Acts.{act_ahead, act_here, act_of, act_there, act_with, dialed, is_missing, is_unprepared, moved, moves_world, refused}
 use Rattle.my_client.specs.Kept.{Asked, nothing_kept}
-use Rattle.my_world.specs.World.{Plans}
+use Rattle.my_link.specs.World.{Plans}
 use Rattle.my_value.specs.RowParts.{RowParts}
 use Rattle.my_steps.specs.Grows.{At, Calls, Dials, DialsNext, IsRefused, ItemsAt, LetsGo, Misses, Moves, StepGrows, Where}
 use Rattle.my_steps.specs.Handle.{Handle, Absent, Dialing, Joined, at_number, put_at}

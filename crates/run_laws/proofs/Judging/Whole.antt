@@ -19,7 +19,7 @@ use Rattle.my_client.specs.Kept.{Asked, Kept, nothing_kept}
 use Rattle.my_client.specs.Reads.{calls_kept, tape_kept}
 use Rattle.my_judge.specs.Reads.{read_of}
 use Rattle.my_judge.specs.Settled.{settled}
-use Rattle.my_world.specs.World.{Plans}
+use Rattle.my_link.specs.World.{Plans}
 use Rattle.my_steps.specs.Grows.{AreGrown, Line, StepGrows, aim_at, beside_of, handles_after, is_found, statements_of}
 use Rattle.my_steps.specs.Handle.{Handle, Absent, Dialing, Joined, at_number}
 use Rattle.my_run.specs.Headline.{AnswerView, EachExplained, answer_view, answers_of, steps_of}

@@ -17,9 +17,9 @@ use Rattle.my_script.specs.declared.step.Step.TheVariants as steps
 use Rattle.my_script.specs.declared.transcript.Outcome.{Outcome}
 use Rattle.my_script.specs.declared.transcript.StepAnswer.{StepAnswer}
 use Rattle.my_script.specs.declared.transcript.Use.{Use}
-use Rattle.my_world.specs.declared.line.WorldLine.{WorldLine}
-use Rattle.my_world.specs.Plan.{all_given, dials_of}
-use Rattle.my_world.specs.World.{Plans, HeldBy, FailedBy, GivenBy}
+use Rattle.my_link.specs.declared.line.WorldLine.{WorldLine}
+use Rattle.my_link.specs.Plan.{all_given, dials_of}
+use Rattle.my_link.specs.World.{Plans, HeldBy, FailedBy, GivenBy}
 use Rattle.my_steps.specs.Grows.{At, AreGrown, Calls, Dials, Holds, Fails, Links, ClosesAt, ExecutesAt, GoesOn, Line, StepGrows, ItemsAt, LetsGo, Where, handles_after}
 use Rattle.my_steps.specs.Handle.{Handle, Dialing, at_number}
 use Rattle.my_run.specs.Headline.{AnswerView, answer_view, answers_of, steps_of}

@@ -12,9 +12,9 @@ use Rattle.my_client.specs.Kept.{Kept}
 use Rattle.my_script.specs.declared.step.Step.{Step}
 use Rattle.my_script.specs.declared.transcript.StepAnswer.{StepAnswer}
 use Rattle.my_script.specs.declared.transcript.Tape.{Tape}
-use Rattle.my_world.specs.declared.line.WorldLine.{WorldLine}
-use Rattle.my_world.specs.Plan.{all_given, dials_of, items_of, writes_of}
-use Rattle.my_world.specs.World.{Plans}
+use Rattle.my_link.specs.declared.line.WorldLine.{WorldLine}
+use Rattle.my_link.specs.Plan.{all_given, dials_of, items_of, writes_of}
+use Rattle.my_link.specs.World.{Plans}
 use Rattle.my_steps.specs.Grows.{AreGrown, Line, handles_after}
 use Rattle.my_steps.specs.Handle.{Handle, Absent, Dialing, Joined, at_number}
 use Rattle.my_run.specs.Headline.{AnswerView, answer_view, answers_of}

@@ -20,7 +20,7 @@ use Rattle.my_script.specs.declared.aim.Aim.TheVariants as aims
 use Rattle.my_script.specs.declared.transcript.Outcome.{Outcome}
 use Rattle.my_script.specs.declared.transcript.Use.{Use}
 use Rattle.my_script.specs.Streams.{is_skip}
-use Rattle.my_world.specs.World.{Plans}
+use Rattle.my_link.specs.World.{Plans}
 use Rattle.my_client.specs.Kept.{Asked, Kept, asking, asked_by, first_asked, first_kept}
 use Rattle.my_steps.specs.Grows.{IsRefused, OnConnection, PolledOnce, IsClosed, Begins, BeginsOn, Calls, ConnectShows, Connects, HasPlan, Gathers, GathersOn, Collects, CollectsOn, CollectsAt, PollsOn, PollsCall, Then, Skips, Follows, Reads, ReadsOn, ReadsAt, Where, Items, ItemsOn, ItemsAt, LetsGoWith, LetsGo, ExecutesAt, ClosesAt, GoesOnWith, GoesOn, CancelsWith, Cancels, TellsWith, TellsFields, is_done, has_taken}
 use Rattle.my_steps.specs.Grows as grows

@@ -4,7 +4,7 @@ use Rattle.my_statements.specs.Prepared.{StatementView}
 use Rattle.my_grammar.specs.declared.login.Login.{Login}
 use Rattle.my_script.specs.declared.aim.Aim.{Aim}
 use Rattle.my_script.specs.declared.step.Step.{Step}
-use Rattle.my_world.specs.World.{Plans}
+use Rattle.my_link.specs.World.{Plans}
 use Rattle.my_steps.specs.Grows.{Line, StepGrows, AreGrown, handles_after}
 use Rattle.my_steps.specs.Handle.{Handle}
 use Rattle.my_run.specs.Headline.{AnswerView, steps_of, answers_of}

@@ -44,7 +44,7 @@ use Rattle.my_client.specs.declared.tape.Said.{Said}
 use Rattle.my_client.specs.declared.tape.Said.TheVariants as says
 use Rattle.my_client.specs.Kept.{Asked, Kept, nothing_kept, told_by, made_of, asking, asked_by, ended_by, first_asked, first_kept}
 use Rattle.my_client.specs.Reads.{calls_kept, facts_kept, place_kept, tape_kept}
-use Rattle.my_world.specs.World.{Plans}
+use Rattle.my_link.specs.World.{Plans}
 use Rattle.my_steps.specs.Dialing.{Course}
 use Rattle.my_steps.specs.Grows.{Begins, BeginsOn, Calls, Where, Connects, ConnectShows, Dials, Holds, Fails, Links, PolledOnce, Reads, ReadsAt, ReadsOn, StepGrows, TellsFields, TellsWith, answer_shown, shown, handles_after}
 use Rattle.my_steps.specs.Handle.{Handle, Joined, at_number, put_at}

@@ -1,4 +1,4 @@
-use Rattle.my_line.specs.Calls.{MayPoll}
+use Rattle.my_client.specs.Calls.{MayPoll}
 use Rattle.client_rows.proofs.polls.play.Given as goal
 
 abbrev pub invariant-polls : goal.invariant-polls

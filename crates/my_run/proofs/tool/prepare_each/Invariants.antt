@@ -1,6 +1,6 @@
 use Rattle.std.proofs.Common.{◌≡◌, true, drop}
-use Rattle.my_world.specs.Plan.{plans_after, chance_after}
-use Rattle.my_world.specs.World.{SamePlans}
+use Rattle.my_link.specs.Plan.{plans_after, chance_after}
+use Rattle.my_link.specs.World.{SamePlans}
 use Rattle.my_run.proofs.tool.prepare_each.Given as goal
 
 abbrev pub invariant-loop-line : goal.invariant-loop-line

@@ -7,7 +7,7 @@ use Rattle.my_steps.specs.Dialing.{course_of}
 use Rattle.my_run.specs.Tool.{course_with, plans_with}
 use Rattle.my_run.proofs.Runs.{stands_more}
 use Rattle.my_run.specs.Stopped.{Stopped}
-use Rattle.my_world.specs.declared.line.WorldLine.{WorldLine}
+use Rattle.my_link.specs.declared.line.WorldLine.{WorldLine}
 use Rattle.my_run.proofs.Stopping.{all_done, err_at, not_begun, stopped_as}
 use Rattle.my_run.proofs.tool.run_script.Goals as goal
 

@@ -1,6 +1,6 @@
 use Rattle.std.proofs.Common.{Some, true, sym, subst, ◌∙◌, refl, rules}
 use Rattle.my_session.specs.Login.{login_of}
-use Rattle.my_world.specs.World.{WorldSeen}
+use Rattle.my_link.specs.World.{WorldSeen}
 use Rattle.my_steps.specs.Connecting.{Dialed}
 use Rattle.my_steps.specs.Dialing.{DialsTo, dial_met}
 use Rattle.my_steps.specs.Midst.{Faulted, Waited}

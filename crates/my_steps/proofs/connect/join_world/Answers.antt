@@ -1,5 +1,5 @@
 use Rattle.std.proofs.Common.{sym, subst, refl}
-use Rattle.my_world.specs.World.{IsFresh}
+use Rattle.my_link.specs.World.{IsFresh}
 use Rattle.my_steps.specs.Midst.{Kept}
 use Rattle.my_steps.proofs.Working.Midst.{hung}
 use Rattle.my_steps.proofs.connect.join_world.Goals as goal

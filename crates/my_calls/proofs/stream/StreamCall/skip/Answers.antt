@@ -1,5 +1,5 @@
 use Rattle.std.proofs.Common.{Err, refl, sym, subst}
-use Rattle.my_packets.specs.declared.poll.Poll.TheVariants as polls
+use Rattle.my_link.specs.declared.poll.Poll.TheVariants as polls
 use Rattle.my_client.specs.declared.poll.After.{After}
 use Rattle.my_calls.specs.Streams.{SkipEnds}
 use Rattle.my_calls.proofs.stream.StreamCall.skip.Goals as goal

@@ -1,8 +1,8 @@
 use Rattle.std.proofs.Common.{ℕ, ◌≡◌, ◌+◌, None, Ok, Err, refl, sym, ap, ◌∙◌, subst, arith}
 use Rattle.my_link.specs.declared.met.Met.{Met}
 use Rattle.my_client.specs.declared.poll.After.{After}
-use Rattle.my_line.specs.Calls.{pending_after}
-use Rattle.my_line.proofs.Waiting.{Results}
+use Rattle.my_client.specs.Calls.{pending_after}
+use Rattle.my_client.proofs.Waiting.{Results}
 use Rattle.my_conn.specs.Calls.{CallIs}
 use Rattle.my_conn.specs.Conn.{ConnSeen}
 use Rattle.my_conn.proofs.Driving.{DriveSoFar, drive_is, drive_long, goes_on}

@@ -1,7 +1,7 @@
 use Rattle.std.proofs.Common.{◌+◌, ◌-◌, ◌<◌}
 use Rattle.my_frame.specs.declared.limits.TheConstants.{MOST_TAKEN}
-use Rattle.my_line.specs.Calls.{MayPoll}
-use Rattle.my_line.specs.declared.handshake.TheConstants.{TOO_LONG}
+use Rattle.my_client.specs.Calls.{MayPoll}
+use Rattle.my_client.specs.declared.handshake.TheConstants.{TOO_LONG}
 use Rattle.my_conn.proofs.Driving.{DriveSoFar}
 use Rattle.my_conn.proofs.conn.Conn.drive.Given as goal
 

@@ -1,6 +1,6 @@
 use Rattle.std.proofs.Common.{inl, refl, subst}
 use Rattle.my_session.specs.Login.{login_of}
-use Rattle.my_line.specs.Waits.{IsShaken, WhyUnmade}
+use Rattle.my_client.specs.Waits.{IsShaken, WhyUnmade}
 use Rattle.my_conn.specs.News.{Given, IsFirst, given_by}
 use Rattle.my_conn.proofs.Making.{begun_connects, new_is, unread_first}
 use Rattle.my_conn.proofs.conn.Conn.new.Goals as goal

@@ -1,6 +1,6 @@
 use Rattle.std.proofs.Common.{sym, subst}
-use Rattle.my_line.specs.Calls.{MayPoll}
-use Rattle.my_line.proofs.Standing.{may_start}
+use Rattle.my_client.specs.Calls.{MayPoll}
+use Rattle.my_client.proofs.Standing.{may_start}
 use Rattle.my_conn.specs.Conn.{ConnSeen}
 use Rattle.my_conn.proofs.Standing.{call_is, sound, sound_after}
 use Rattle.my_conn.proofs.conn.Conn.poll_call.Goals as goal

@@ -2,7 +2,7 @@ use Rattle.std.proofs.Common.{Option, is_some, sym, ap, ◌∙◌, subst}
 use Rattle.my_session.specs.Login.{login_of}
 use Rattle.my_client.specs.declared.tape.Tape.{Tape}
 use Rattle.my_client.specs.Kept.{first_asked, first_kept}
-use Rattle.my_line.specs.Makes.{ConnectsFor}
+use Rattle.my_client.specs.Makes.{ConnectsFor}
 use Rattle.my_conn.proofs.Making.{keeps_by, kept_connects, making_begins}
 use Rattle.my_conn.proofs.connecting.Connecting.new.Goals as goal
 

@@ -1,5 +1,5 @@
 use Rattle.std.proofs.Common.{inl, inr, refl}
-use Rattle.my_line.specs.declared.making.MakeStep.TheVariants as steps
+use Rattle.my_client.specs.declared.making.MakeStep.TheVariants as steps
 use Rattle.my_conn.proofs.Making.{making_on, making_stands, step_so}
 use Rattle.my_conn.proofs.connecting.Connecting.poll.Goals as goal
 

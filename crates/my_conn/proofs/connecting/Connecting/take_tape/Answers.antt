@@ -1,6 +1,6 @@
 use Rattle.std.proofs.Common.{Option, sym, subst}
 use Rattle.my_client.specs.declared.tape.Tape.{Tape}
-use Rattle.my_line.specs.Makes.{IsMaking}
+use Rattle.my_client.specs.Makes.{IsMaking}
 use Rattle.my_conn.proofs.Making.{making_untaped}
 use Rattle.my_conn.proofs.connecting.Connecting.take_tape.Goals as goal
 
