@@ -1,13 +1,12 @@
 -- What a line may do at a connection, by its step, its outcome and how many uses it has.
 use Rattle.std.specs.Prelude.{◌+◌, ◌-◌, ◌==◌, ℕ, nat_lt, Option, Some, None, Bool, true, false, if◌then◌else◌}
-use Rattle.my_params.specs.declared.params.Params.{Params}
 use Rattle.my_statements.specs.Prepared.{StatementView}
 use Rattle.my_reading.specs.declared.call.Call.{Call}
-use Rattle.my_reading.specs.declared.call.Call.TheVariants as calls
 use Rattle.my_script.specs.declared.aim.Aim.{Aim}
 use Rattle.my_script.specs.declared.aim.Aim.TheVariants as aims
 use Rattle.my_script.specs.declared.step.Step.{Step}
 use Rattle.my_script.specs.declared.step.Step.TheVariants as steps
+use Rattle.my_script.specs.Actions.{action_of, first_call}
 use Rattle.my_script.specs.Streams.{target}
 use Rattle.my_script.specs.declared.transcript.Outcome.{Outcome}
 use Rattle.my_script.specs.declared.transcript.Outcome.TheVariants.{Done, Pending, SetEnd, NoSet, Row, Rows, Prepared, Flag, Fields, Connected, Failed, NoSuchHandle}
@@ -263,49 +262,7 @@ act_with found prepared aim status n next base step outcome uses =
     else if is_unprepared n prepared step then refused status outcome uses
     else act_of aim status n next base step outcome uses
 
--- the call that takes a set, or reads its rows, or the one that passes over the rest of an earlier one first
-abbrev pub next_call : Aim → Call
-next_call aims.Take = calls.TakeSet
-next_call aims.Row = calls.NextRow
-next_call aims.Rows = calls.NextRow
-
-abbrev pub reading_call : Bool → Aim → Call
-reading_call true aim = calls.SkipTaken
-reading_call false aim = next_call aim
-
--- the call that executes a statement, or closes it, where it is there
-abbrev pub executing_call : Option StatementView → Params → Option Call
-executing_call None params = None
-executing_call (Some statement) params = Some (calls.Execute statement params)
-
-abbrev pub closing_call : Option StatementView → Option Call
-closing_call None = None
-closing_call (Some statement) = Some (calls.CloseStmt statement.inner.id)
-
 -- the call that a step begins, where a stream took the set that is read, or whose end is left, or none did, and with the
 -- statement that the step names
 abbrev pub begun_by : Bool → Option StatementView → Step → Option Call
-begun_by taken named steps.Conn = Some calls.Connect
-begun_by taken named (steps.Query n text) = Some (calls.Query text)
-begun_by taken named (steps.Prepare n text) = Some (calls.Prepare text)
-begun_by taken named (steps.Execute n number params) = executing_call named params
-begun_by taken named (steps.CloseStatement n number) = closing_call named
-begun_by taken named (steps.Next n) = Some (reading_call taken aims.Row)
-begun_by taken named (steps.Collect n) = Some (reading_call taken aims.Rows)
-begun_by taken named (steps.Stream n) = Some (reading_call taken aims.Take)
-begun_by taken named (steps.Item n) = Some calls.NextRow
-begun_by taken named (steps.Unstream n) = None
-begun_by taken named (steps.Drop n) = Some calls.DropResult
-begun_by taken named (steps.Ping n) = Some calls.Ping
-begun_by taken named (steps.Reset n) = Some calls.Reset
-begun_by taken named (steps.User n change) = Some (calls.ChangeUser change)
-begun_by taken named (steps.Begin n opts) = Some (calls.Begin opts)
-begun_by taken named (steps.Commit n) = Some calls.Commit
-begun_by taken named (steps.Rollback n) = Some calls.Rollback
-begun_by taken named (steps.ForgetTransaction n) = Some calls.ForgetTransaction
-begun_by taken named (steps.Quit n) = Some calls.Quit
-begun_by taken named (steps.Fields n) = None
-begun_by taken named (steps.Poll n) = None
-begun_by taken named (steps.Cancel n) = None
-begun_by taken named (steps.Advance by) = None
-begun_by taken named (steps.Random word) = None
+begun_by taken named step = first_call taken (action_of true aims.Row named step)

@@ -35,7 +35,8 @@ use Rattle.my_run_judge.specs.declared.act.Ground.{Ground}
 use Rattle.my_run_judge.specs.declared.act.Status.{Status}
 use Rattle.my_run_judge.specs.declared.act.Status.TheVariants.{Absent, Dialing, Open, Gathers}
 use Rattle.my_run_judge.specs.declared.walk.Spot.{Spot}
-use Rattle.my_run_judge.specs.Acts.{act_with, begun_by, ground_of, next_call}
+use Rattle.my_script.specs.Actions.{next_call}
+use Rattle.my_run_judge.specs.Acts.{act_with, begun_by, ground_of}
 use Rattle.my_run_judge.specs.Walks.{Walk, with_status, with_taken, IsEnded, ended}
 
 -- the call is this one, where the line begins one

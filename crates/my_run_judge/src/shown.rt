@@ -1,11 +1,12 @@
 //! What a line shows of calls, and what the tape says of them.
 
-ghost use Rattle.std.specs.Prelude.{◌≡◌, None, Some};
+ghost use Rattle.std.specs.Prelude.{◌≡◌, Bool, None, Some};
 ghost use Rattle.std.specs.Bool.{Decides};
 ghost use Rattle.std.specs.Option.{option_copied};
 ghost use Rattle.my_reading.specs.Calls.{kind_of};
 ghost use Rattle.my_script.specs.Streams.{is_skip};
-ghost use Rattle.my_run_judge.specs.Acts.{begun_by, closing_call, executing_call, next_call, reading_call};
+ghost use Rattle.my_script.specs.Actions.{close_work, execute_work, next_call, reading_call, work_call};
+ghost use Rattle.my_run_judge.specs.Acts.{begun_by};
 ghost use Rattle.my_run_judge.specs.Lines.{
   IsBegun,
   IsCallOf,
@@ -66,7 +67,8 @@ fn is_execution(statement: &Statement, params: &Params, call: &Call) -> bool
 
 // Whether the call executes this statement, where it is there.
 fn is_executed(named: Option<&Statement>, params: &Params, call: &Call) -> bool
-    ensures { Decides result (IsCallOf (executing_call (option_copied named.entry) params.now) call.now) }
+    ensures { (taken : Bool) → Decides result (
+        IsCallOf (work_call taken (execute_work (option_copied named.entry) params.now)) call.now) }
 {
     match named {
         Some(statement) => is_execution(statement, params, call),
@@ -85,7 +87,8 @@ fn is_close(id: u32, call: &Call) -> bool
 
 // Whether the call closes this statement, where it is there.
 fn is_closed(named: Option<&Statement>, call: &Call) -> bool
-    ensures { Decides result (IsCallOf (closing_call (option_copied named.entry)) call.now) }
+    ensures { (taken : Bool) → Decides result (
+        IsCallOf (work_call taken (close_work (option_copied named.entry))) call.now) }
 {
     match named {
         Some(statement) => is_close(statement.id(), call),

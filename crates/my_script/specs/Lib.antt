@@ -1,6 +1,7 @@
 pub mod Cut
 pub mod Streams
 pub mod Aims
+pub mod Actions
 pub mod Transactions
 pub mod Beside
 pub mod Numbered

@@ -2,6 +2,7 @@
 //! plan, and what its steps came to with the text of it.
 #![tactic(auto)]
 
+mod action;
 mod aim;
 mod beside;
 mod reading;
@@ -13,6 +14,7 @@ mod transaction;
 mod transcript;
 mod words;
 
+pub use action::{Action, Work};
 pub use aim::Aim;
 pub use beside::Beside;
 pub use reading::script::{BadLine, Read, Script, read_script};

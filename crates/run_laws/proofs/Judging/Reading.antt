@@ -34,7 +34,8 @@ use Rattle.my_run_judge.specs.declared.act.Act.TheVariants.{Wrong, Skips as Skip
 use Rattle.my_run_judge.specs.declared.act.Ground.{Ground}
 use Rattle.my_run_judge.specs.declared.act.Status.{Status}
 use Rattle.my_run_judge.specs.declared.act.Status.TheVariants as status
-use Rattle.my_run_judge.specs.Acts.{act_of, after_passing, at_dialing, at_gathering, at_idle, at_open, begun_by, closed_at_once, follows, gathered, gathering, ground_of, next_call, passed, passes, passing, polled, reading_call, reads, taking}
+use Rattle.my_script.specs.Actions.{next_call, reading_call}
+use Rattle.my_run_judge.specs.Acts.{act_of, after_passing, at_dialing, at_gathering, at_idle, at_open, begun_by, closed_at_once, follows, gathered, gathering, ground_of, passed, passes, passing, polled, reads, taking}
 use Rattle.my_client.specs.declared.poll.After.{After}
 use Rattle.my_client.specs.declared.poll.After.TheVariants as after
 use Rattle.my_client.specs.declared.tape.Said.TheVariants as says
