@@ -22,6 +22,8 @@ use Rattle.my_reading.specs.declared.error.IoKind.TheVariants.{Dial, Link}
 use Rattle.my_reading.specs.Errors.{connection_closed, io_error}
 use Rattle.my_client.specs.Made.{has_closed}
 use Rattle.my_session.specs.Sessions.{is_refused}
+use Rattle.my_script.specs.declared.action.Work.TheVariants as works
+use Rattle.my_script.specs.Actions.{execute_work, found_work}
 use Rattle.my_script.specs.declared.step.Step.{Step}
 use Rattle.my_script.specs.declared.step.Step.TheVariants as steps
 use Rattle.my_script.specs.declared.transcript.Outcome.{Outcome}
@@ -54,7 +56,7 @@ use Rattle.my_script.specs.Numbered.{named_statement, statement_named, statement
 use Rattle.my_script.specs.declared.beside.Beside.{Beside}
 use Rattle.my_script.specs.Beside.{beside_after, beside_by, finds}
 use Rattle.my_script.specs.Streams.{target}
-use Rattle.my_steps.specs.Grows.{Line, beside_of, handles_after, aim_at, is_found, statements_of, AreGrown, StepGrows, Where, ExecutesAt, DialsNext, HasPlan, Dials, Holds, Fails, Links, ConnectShows, Connects, PolledOnce, Begins, BeginsOn, Calls, At, shown}
+use Rattle.my_steps.specs.Grows.{Line, beside_of, handles_after, aim_at, is_found, statements_of, AreGrown, StepGrows, DialsNext, HasPlan, Dials, Holds, Fails, Links, ConnectShows, Connects, PolledOnce, Begins, BeginsOn, Calls, At, shown, WorkAt}
 use Rattle.my_steps.specs.Handle.{Handle, Absent, Dialing, Joined, at_number, put_at}
 use Rattle.my_run.specs.Headline.{AnswerView, answer_view, steps_of, answers_of, Headline, IsExplained}
 use Rattle.my_script.specs.declared.reading.script.BadLine.{BadLine}
@@ -616,9 +618,9 @@ past_none (x ∷ xs) (suc number) h = past_none xs number (omega (arith, h))
 -- there an execution is refused
 not_executed : (login : Login) (plans : Plans) (ls : List Line) (l : Line) (n number : ℕ) (params : Params) → l.step ≡ steps.Execute n number params → statement_at (statements_of ls) number ≡ None → AreGrown login plans (l ∷ ls) → l.outcome ≡ NoSuchHandle
 not_executed login plans ls l n number params is none w =
-    let at : At n (ExecutesAt (statement_at (statements_of ls) number) login n params) (handles_after ls) l.outcome l.uses l.handles =
+    let at : At n (WorkAt login plans n (execute_work (statement_at (statements_of ls) number) params)) (handles_after ls) l.outcome l.uses l.handles =
     subst (λ (s : Step). StepGrows login plans (is_found (target s) s ls) (aim_at (target s) ls) (statement_named (named_statement s) (statements_of ls)) (handles_after ls) s l.outcome l.uses l.handles) is w.0.answer in
-    (subst (λ (q : Option StatementView). ExecutesAt q login n params (at_number (handles_after ls) n) l.outcome l.uses at.made) none at.does).outcome
+    (subst (λ (q : Option StatementView). WorkAt login plans n (execute_work q params) (at_number (handles_after ls) n) l.outcome l.uses at.made) none at.does).outcome
 
 pub no_closed_execution : NoClosedExecution
 no_closed_execution login plans ls l m n k number params closes done is shown w =
@@ -638,6 +640,6 @@ no_forgotten_rollback login plans ls l m n forgets done is shown w =
     ap (λ (s : Step). beside_by n (beside_of n ls) s m.outcome) forgets ∙ ap (λ (o : Outcome). beside_by n (beside_of n ls) (steps.ForgetTransaction n) o) done in
     let gone : is_found (Some n) (steps.Rollback n) (m ∷ ls) ≡ false =
     ap (λ (b : Beside). finds b (steps.Rollback n)) made ∙ ap (λ (b : Bool). finds (if b then beside_after (beside_of n ls) (steps.ForgetTransaction n) outcomes.Done else beside_of n ls) (steps.Rollback n)) here in
-    let at : At n (Where (is_found (Some n) (steps.Rollback n) (m ∷ ls)) (Calls login n Rollback)) m.handles l.outcome l.uses l.handles =
+    let at : At n (WorkAt login plans n (found_work (is_found (Some n) (steps.Rollback n) (m ∷ ls)) (works.Begin Rollback))) m.handles l.outcome l.uses l.handles =
     subst (λ (s : Step). StepGrows login plans (is_found (target s) s (m ∷ ls)) (aim_at (target s) (m ∷ ls)) (statement_named (named_statement s) (statements_of (m ∷ ls))) m.handles s l.outcome l.uses l.handles) is w.0.answer in
-    shown (subst (λ (b : Bool). Where b (Calls login n Rollback) (at_number m.handles n) l.outcome l.uses at.made) gone at.does).outcome
+    shown (subst (λ (b : Bool). WorkAt login plans n (found_work b (works.Begin Rollback)) (at_number m.handles n) l.outcome l.uses at.made) gone at.does).outcome

@@ -2,13 +2,12 @@
 use Rattle.std.specs.Prelude.{ℕ, ◌≡◌, ◌+◌, List, [], ◌∷◌, ◌++◌, length, Option, Some, None, Bool, true, false, not, ◌&&◌, unwrap_or}
 use Rattle.my_handshake.specs.Version.{version_of}
 use Rattle.my_value.specs.RowParts.{RowParts}
-use Rattle.my_params.specs.declared.params.Params.{Params}
 use Rattle.my_statements.specs.Prepared.{StatementView}
 use Rattle.my_grammar.specs.declared.login.Login.{Login}
 use Rattle.my_reading.specs.declared.answer.Answer.{Answer}
 use Rattle.my_reading.specs.declared.answer.Answer.TheVariants as answers
 use Rattle.my_reading.specs.declared.call.Call.{Call}
-use Rattle.my_reading.specs.declared.call.Call.TheVariants.{Query, Prepare, Execute, CloseStmt, NextRow, DropResult, TakeSet, SkipTaken, Ping, Reset, ChangeUser, Begin, Commit, Rollback, ForgetTransaction, Quit}
+use Rattle.my_reading.specs.declared.call.Call.TheVariants.{NextRow, TakeSet, SkipTaken}
 use Rattle.my_reading.specs.Calls.{kind_of, is_connect}
 use Rattle.my_reading.specs.Endings.{closes_cancelled}
 use Rattle.my_reading.specs.Errors.{connection_closed, io_error}
@@ -18,12 +17,17 @@ use Rattle.my_session.specs.Sessions.{is_refused}
 use Rattle.my_reading.specs.declared.error.IoKind.TheVariants.{Dial}
 use Rattle.my_client.specs.declared.poll.After.{After}
 use Rattle.my_client.specs.declared.poll.After.TheVariants as after
+use Rattle.my_script.specs.declared.action.Action.{Action}
+use Rattle.my_script.specs.declared.action.Action.TheVariants as actions
+use Rattle.my_script.specs.declared.action.Work.{Work}
+use Rattle.my_script.specs.declared.action.Work.TheVariants as works
 use Rattle.my_script.specs.declared.aim.Aim.{Aim}
 use Rattle.my_script.specs.declared.aim.Aim.TheVariants as aims
 use Rattle.my_script.specs.declared.step.Step.{Step}
 use Rattle.my_script.specs.declared.step.Step.TheVariants as steps
 use Rattle.my_script.specs.declared.beside.Beside.{Beside}
 use Rattle.my_script.specs.Beside.{beside_by, finds, nothing_beside}
+use Rattle.my_script.specs.Actions.{action_of}
 use Rattle.my_script.specs.Streams.{is_skip, target}
 use Rattle.my_script.specs.Numbered.{named_statement, statement_named, statements_by}
 use Rattle.my_client.specs.declared.tape.Said.TheVariants as says
@@ -248,12 +252,6 @@ ReadsAt aim login n h o us t = OnConnection (λ k. ReadsOn k.pending aim login n
 abbrev pub Misses : Handle → Outcome → List Use → Handle → Type 0
 Misses h o us t = IsRefused h o us t
 
--- a step does this where it finds its stream or its transaction
-abbrev pub Where : Bool → (Handle → Outcome → List Use → Handle → Type 0) → Handle → Outcome → List Use → Handle
-    → Type 0
-Where true R = R
-Where false R = Misses
-
 -- a step shows this at once, and the connection is what it was
 pub record IsTold (told : Outcome) (k : Kept) (x : Looks) (o : Outcome) (us : List Use) (t : Handle) : Type 0 where
   pub outcome : o ≡ told
@@ -279,15 +277,6 @@ LetsGoWith (Some a) k x o us t = IsRefused (Joined true k x) o us t
 
 abbrev pub LetsGo : Handle → Outcome → List Use → Handle → Type 0
 LetsGo h o us t = OnConnection (λ k. LetsGoWith k.pending k) h o us t
-
--- A statement is executed, or closed by its id, where the step names one that is there.
-abbrev pub ExecutesAt : Option StatementView → Login → ℕ → Params → Handle → Outcome → List Use → Handle → Type 0
-ExecutesAt (Some s) login n params = Calls login n (Execute s params)
-ExecutesAt None login n params = Misses
-
-abbrev pub ClosesAt : Option StatementView → Login → ℕ → Handle → Outcome → List Use → Handle → Type 0
-ClosesAt (Some s) login n = Calls login n (CloseStmt s.inner.id)
-ClosesAt None login n = Misses
 
 -- a call that gathers no rows is polled; where it passes over a set's rest, what its step is for is done then
 abbrev pub PollsCall : Bool → Aim → Login → ℕ → Asked → Kept → Looks → Outcome → List Use → Handle → Type 0
@@ -365,39 +354,28 @@ pub record Moves (hs : List Handle) (o : Outcome) (us : List Use) (ts : List Han
   pub uses : us ≡ []
   pub same : ts ≡ hs
 
--- by the step, over what the earlier steps and their answers made of the numbers: whether the step finds its stream or its
--- transaction at the one that it names, the aim of the call that is open there, and the statement that it names
+-- what work at number n shows, and what it leaves there, in a world that told these plans
+abbrev pub WorkAt : Login → Plans → ℕ → Work → Handle → Outcome → List Use → Handle → Type 0
+WorkAt login plans n (works.Begin call) = Calls login n call
+WorkAt login plans n (works.Read aim) = ReadsAt aim login n
+WorkAt login plans n works.Item = ItemsAt login n
+WorkAt login plans n works.LetGo = LetsGo
+WorkAt login plans n works.Miss = Misses
+WorkAt login plans n works.Fields = TellsFields login
+WorkAt login plans n (works.Poll aim) = GoesOn login plans aim n
+WorkAt login plans n works.Cancel = Cancels login
+
+-- by what a step does, over what the earlier steps and their answers made of the numbers
+abbrev pub ActionGrows : Login → Plans → Action → List Handle → Outcome → List Use → List Handle → Type 0
+ActionGrows login plans actions.Dial hs o us ts = DialsNext login plans hs o us ts
+ActionGrows login plans (actions.Move line) hs o us ts = Moves hs o us ts
+ActionGrows login plans (actions.Visit n work) hs o us ts = At n (WorkAt login plans n work) hs o us ts
+
+-- by the step: whether it finds its stream or its transaction at the number that it names, the aim of the call that is
+-- open there, and the statement that it names say what it does
 abbrev pub StepGrows : Login → Plans → Bool → Aim → Option StatementView → List Handle → Step → Outcome → List Use
     → List Handle → Type 0
-StepGrows login plans found aim named hs steps.Conn o us ts = DialsNext login plans hs o us ts
-StepGrows login plans found aim named hs (steps.Query n text) o us ts = At n (Calls login n (Query text)) hs o us ts
-StepGrows login plans found aim named hs (steps.Prepare n text) o us ts = At n (Calls login n (Prepare text)) hs o us ts
-StepGrows login plans found aim named hs (steps.Execute n number params) o us ts =
-    At n (ExecutesAt named login n params) hs o us ts
-StepGrows login plans found aim named hs (steps.CloseStatement n number) o us ts =
-    At n (ClosesAt named login n) hs o us ts
-StepGrows login plans found aim named hs (steps.Next n) o us ts = At n (ReadsAt aims.Row login n) hs o us ts
-StepGrows login plans found aim named hs (steps.Collect n) o us ts = At n (ReadsAt aims.Rows login n) hs o us ts
-StepGrows login plans found aim named hs (steps.Drop n) o us ts = At n (Calls login n DropResult) hs o us ts
-StepGrows login plans found aim named hs (steps.Ping n) o us ts = At n (Calls login n Ping) hs o us ts
-StepGrows login plans found aim named hs (steps.Reset n) o us ts = At n (Calls login n Reset) hs o us ts
-StepGrows login plans found aim named hs (steps.User n change) o us ts =
-    At n (Calls login n (ChangeUser change)) hs o us ts
-StepGrows login plans found aim named hs (steps.Begin n opts) o us ts = At n (Calls login n (Begin opts)) hs o us ts
-StepGrows login plans found aim named hs (steps.Commit n) o us ts = At n (Where found (Calls login n Commit)) hs o us ts
-StepGrows login plans found aim named hs (steps.Rollback n) o us ts =
-    At n (Where found (Calls login n Rollback)) hs o us ts
-StepGrows login plans found aim named hs (steps.ForgetTransaction n) o us ts =
-    At n (Where found (Calls login n ForgetTransaction)) hs o us ts
-StepGrows login plans found aim named hs (steps.Quit n) o us ts = At n (Calls login n Quit) hs o us ts
-StepGrows login plans found aim named hs (steps.Stream n) o us ts = At n (ReadsAt aims.Take login n) hs o us ts
-StepGrows login plans found aim named hs (steps.Item n) o us ts = At n (Where found (ItemsAt login n)) hs o us ts
-StepGrows login plans found aim named hs (steps.Unstream n) o us ts = At n (Where found LetsGo) hs o us ts
-StepGrows login plans found aim named hs (steps.Fields n) o us ts = At n (TellsFields login) hs o us ts
-StepGrows login plans found aim named hs (steps.Poll n) o us ts = At n (GoesOn login plans aim n) hs o us ts
-StepGrows login plans found aim named hs (steps.Cancel n) o us ts = At n (Cancels login) hs o us ts
-StepGrows login plans found aim named hs (steps.Advance by) o us ts = Moves hs o us ts
-StepGrows login plans found aim named hs (steps.Random word) o us ts = Moves hs o us ts
+StepGrows login plans found aim named hs step o us ts = ActionGrows login plans (action_of found aim named step) hs o us ts
 
 -- a step, its answer, and what the numbers stand for then
 pub record Line : Type 0 where

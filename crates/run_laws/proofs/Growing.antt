@@ -17,6 +17,11 @@ use Rattle.my_reading.specs.declared.call.Call.TheVariants as calls
 use Rattle.my_reading.specs.Calls.{kind_of, is_connect}
 use Rattle.my_client.specs.Made.{has_closed}
 use Rattle.my_session.specs.Sessions.{is_refused}
+use Rattle.my_script.specs.declared.action.Action.{Action}
+use Rattle.my_script.specs.declared.action.Action.TheVariants as actions
+use Rattle.my_script.specs.declared.action.Work.{Work}
+use Rattle.my_script.specs.declared.action.Work.TheVariants as works
+use Rattle.my_script.specs.Actions.{action_of, close_work, execute_work, found_work}
 use Rattle.my_script.specs.declared.aim.Aim.{Aim}
 use Rattle.my_script.specs.declared.aim.Aim.TheVariants as aims
 use Rattle.my_script.specs.declared.step.Step.{Step}
@@ -34,7 +39,7 @@ use Rattle.my_link.specs.World.{Plans}
 use Rattle.my_client.specs.Polls.{IsPolled, moved_by}
 use Rattle.my_client.proofs.Moving.{all_pending}
 use Rattle.my_run.proofs.Polls.{all_calls, all_sent, all_taken}
-use Rattle.my_steps.specs.Grows.{Line, aim_at, IsRefused, OnConnection, PolledOnce, IsClosed, Begins, BeginsOn, Calls, ConnectShows, Connects, Dials, Holds, Fails, Links, Gathers, GathersOn, Collects, CollectsOn, CollectsAt, PollsOn, PollsCall, Then, Skips, Follows, Reads, ReadsOn, ReadsAt, Where, Items, ItemsOn, ItemsAt, LetsGoWith, LetsGo, ExecutesAt, ClosesAt, GoesOnWith, GoesOn, CancelsWith, Cancels, TellsWith, TellsFields, At, StepGrows, AreGrown, gathered, next_asked, handles_after, is_done, is_found, statements_of, has_taken}
+use Rattle.my_steps.specs.Grows.{Line, aim_at, IsRefused, OnConnection, PolledOnce, IsClosed, Begins, BeginsOn, Calls, ConnectShows, Connects, Dials, Holds, Fails, Links, Gathers, GathersOn, Collects, CollectsOn, CollectsAt, PollsOn, PollsCall, Then, Skips, Follows, Reads, ReadsOn, ReadsAt, Items, ItemsOn, ItemsAt, LetsGoWith, LetsGo, GoesOnWith, GoesOn, CancelsWith, Cancels, TellsWith, TellsFields, At, StepGrows, AreGrown, gathered, next_asked, handles_after, is_done, is_found, statements_of, has_taken, WorkAt, ActionGrows}
 use Rattle.my_steps.specs.Handle.{Handle, Absent, Dialing, Joined, at_number, put_at}
 
 -- what is at a number has the property
@@ -46,6 +51,54 @@ HasAt P (Joined there k x) = P k
 abbrev pub AllHave : (Kept → Type 0) → List Handle → Type 0
 AllHave P [] = Unit {0}
 AllHave P (h ∷ hs) = HasAt P h × AllHave P hs
+
+-- no step begins a handshake
+abbrev pub IsPlain : Work → Type 0
+IsPlain (works.Begin call) = is_connect (kind_of call) ≡ false
+IsPlain work = Unit {0}
+
+abbrev pub PlainAction : Action → Type 0
+PlainAction actions.Dial = Unit {0}
+PlainAction (actions.Move line) = Unit {0}
+PlainAction (actions.Visit n work) = IsPlain work
+
+found_plain : (found : Bool) (work : Work) → IsPlain work → IsPlain (found_work found work)
+found_plain true work p = p
+found_plain false work p = tt
+
+execute_plain : (named : Option StatementView) (params : Params) → IsPlain (execute_work named params)
+execute_plain None params = tt
+execute_plain (Some s) params = refl
+
+close_plain : (named : Option StatementView) → IsPlain (close_work named)
+close_plain None = tt
+close_plain (Some s) = refl
+
+pub are_plain : (found : Bool) (aim : Aim) (named : Option StatementView) (step : Step) → PlainAction (action_of found aim named step)
+are_plain found aim named steps.Conn = tt
+are_plain found aim named (steps.Query n text) = refl
+are_plain found aim named (steps.Prepare n text) = refl
+are_plain found aim named (steps.Execute n number params) = execute_plain named params
+are_plain found aim named (steps.CloseStatement n number) = close_plain named
+are_plain found aim named (steps.Next n) = tt
+are_plain found aim named (steps.Collect n) = tt
+are_plain found aim named (steps.Stream n) = tt
+are_plain found aim named (steps.Item n) = found_plain found works.Item tt
+are_plain found aim named (steps.Unstream n) = found_plain found works.LetGo tt
+are_plain found aim named (steps.Drop n) = refl
+are_plain found aim named (steps.Ping n) = refl
+are_plain found aim named (steps.Reset n) = refl
+are_plain found aim named (steps.User n change) = refl
+are_plain found aim named (steps.Begin n opts) = refl
+are_plain found aim named (steps.Commit n) = found_plain found (works.Begin calls.Commit) refl
+are_plain found aim named (steps.Rollback n) = found_plain found (works.Begin calls.Rollback) refl
+are_plain found aim named (steps.ForgetTransaction n) = found_plain found (works.Begin calls.ForgetTransaction) refl
+are_plain found aim named (steps.Quit n) = refl
+are_plain found aim named (steps.Fields n) = tt
+are_plain found aim named (steps.Poll n) = tt
+are_plain found aim named (steps.Cancel n) = tt
+are_plain found aim named (steps.Advance by) = tt
+are_plain found aim named (steps.Random word) = tt
 
 module _ (P : Kept → Type 0)
     (begun : (k : Kept) (call : Call) (rows : Option (List RowParts)) → k.pending ≡ None → is_connect (kind_of call) ≡ false → P k → P (asking k call rows))
@@ -157,11 +210,6 @@ module _ (P : Kept → Type 0)
     reads_keeps : (aim : Aim) (n : ℕ) (o : Outcome) (us : List Use) (h t : Handle) → HasAt P h → ReadsAt aim login n h o us t → HasAt P t
     reads_keeps aim n o us h t = on_keeps (λ k. ReadsOn k.pending aim login n k) o us h t (λ k x. reads_on k.pending aim n k x o us t)
 
-    -- what a step does where it finds what it needs
-    where_keeps : (b : Bool) (R : Handle → Outcome → List Use → Handle → Type 0) (o : Outcome) (us : List Use) → ((h t : Handle) → HasAt P h → R h o us t → HasAt P t) → (h t : Handle) → HasAt P h → Where b R h o us t → HasAt P t
-    where_keeps true R o us does h t w r = does h t w r
-    where_keeps false R o us does h t w r = refused_keeps h o us t w r
-
     -- an item
     items_by : (b : Bool) (n : ℕ) (k : Kept) (x : Looks) (o : Outcome) (us : List Use) (t : Handle) → P k → Items b login n k x o us t → HasAt P t
     items_by true n k x o us t w r = calls_keeps n calls.NextRow o us (Joined true k x) t refl w r
@@ -180,14 +228,6 @@ module _ (P : Kept → Type 0)
 
     lets_go_keeps : (o : Outcome) (us : List Use) (h t : Handle) → HasAt P h → LetsGo h o us t → HasAt P t
     lets_go_keeps o us h t w r = on_keeps (λ k. LetsGoWith k.pending k) o us h t (λ k x. lets_go_with k.pending k x o us t) w r
-
-    executes_keeps : (named : Option StatementView) (n : ℕ) (params : Params) (o : Outcome) (us : List Use) (h t : Handle) → HasAt P h → ExecutesAt named login n params h o us t → HasAt P t
-    executes_keeps (Some s) n params o us h t w r = calls_keeps n (calls.Execute s params) o us h t refl w r
-    executes_keeps None n params o us h t w r = refused_keeps h o us t w r
-
-    closes_keeps : (named : Option StatementView) (n : ℕ) (o : Outcome) (us : List Use) (h t : Handle) → HasAt P h → ClosesAt named login n h o us t → HasAt P t
-    closes_keeps (Some s) n o us h t w r = calls_keeps n (calls.CloseStmt s.inner.id) o us h t refl w r
-    closes_keeps None n o us h t w r = refused_keeps h o us t w r
 
     polls_call : (b : Bool) (aim : Aim) (n : ℕ) (a : Asked) (k : Kept) (x : Looks) (o : Outcome) (us : List Use) (t : Handle) → k.pending ≡ Some a → P k → PollsCall b aim login n a k x o us t → HasAt P t
     polls_call true aim n a k x o us t e w r = skips_keeps (PolledOnce login n a k x) (Follows aim login n) o us t (λ first used mid s. once_keeps n a k x first used mid e w s) (λ later mid. follows_keeps aim n o later mid t) r
@@ -243,31 +283,24 @@ module _ (P : Kept → Type 0)
     at_step : (n : ℕ) (R : Handle → Outcome → List Use → Handle → Type 0) (hs ts : List Handle) (o : Outcome) (us : List Use) → ((h t : Handle) → HasAt P h → R h o us t → HasAt P t) → AllHave P hs → At n R hs o us ts → AllHave P ts
     at_step n R hs ts o us f w r = subst (AllHave P) (sym r.others) (put_keeps hs n r.made (f (at_number hs n) r.made (at_has hs n w) r.does) w)
 
+    -- what a step does at a number
+    work_keeps : (plans : Plans) (n : ℕ) (work : Work) (o : Outcome) (us : List Use) (h t : Handle) → IsPlain work → HasAt P h → WorkAt login plans n work h o us t → HasAt P t
+    work_keeps plans n (works.Begin call) o us h t plain w r = calls_keeps n call o us h t plain w r
+    work_keeps plans n (works.Read aim) o us h t plain w r = reads_keeps aim n o us h t w r
+    work_keeps plans n works.Item o us h t plain w r = items_keeps n o us h t w r
+    work_keeps plans n works.LetGo o us h t plain w r = lets_go_keeps o us h t w r
+    work_keeps plans n works.Miss o us h t plain w r = refused_keeps h o us t w r
+    work_keeps plans n works.Fields o us h t plain w r = tells_keeps o us h t w r
+    work_keeps plans n (works.Poll aim) o us h t plain w r = goes_on_keeps plans aim n o us h t w r
+    work_keeps plans n works.Cancel o us h t plain w r = cancels_keeps o us h t w r
+
+    action_keeps : (plans : Plans) (action : Action) (hs : List Handle) (o : Outcome) (us : List Use) (ts : List Handle) → PlainAction action → AllHave P hs → ActionGrows login plans action hs o us ts → AllHave P ts
+    action_keeps plans actions.Dial hs o us ts plain w r = subst (AllHave P) (sym r.others) (push_keeps hs r.made (dials_keeps _ _ _ _ o us r.made r.dials) w)
+    action_keeps plans (actions.Move line) hs o us ts plain w r = subst (AllHave P) (sym r.same) w
+    action_keeps plans (actions.Visit n work) hs o us ts plain w r = at_step n (WorkAt login plans n work) hs ts o us (λ h t v g. work_keeps plans n work o us h t plain v g) w r
+
     step_keeps : (plans : Plans) (found : Bool) (aim : Aim) (named : Option StatementView) (hs : List Handle) (step : Step) (o : Outcome) (us : List Use) (ts : List Handle) → AllHave P hs → StepGrows login plans found aim named hs step o us ts → AllHave P ts
-    step_keeps plans found aim named hs steps.Conn o us ts w r = subst (AllHave P) (sym r.others) (push_keeps hs r.made (dials_keeps _ _ _ _ o us r.made r.dials) w)
-    step_keeps plans found aim named hs (steps.Query n text) o us ts w r = at_step n _ hs ts o us (λ h t. calls_keeps n (calls.Query text) o us h t refl) w r
-    step_keeps plans found aim named hs (steps.Prepare n text) o us ts w r = at_step n _ hs ts o us (λ h t. calls_keeps n (calls.Prepare text) o us h t refl) w r
-    step_keeps plans found aim named hs (steps.Execute n number params) o us ts w r = at_step n _ hs ts o us (λ h t. executes_keeps named n params o us h t) w r
-    step_keeps plans found aim named hs (steps.CloseStatement n number) o us ts w r = at_step n _ hs ts o us (λ h t. closes_keeps named n o us h t) w r
-    step_keeps plans found aim named hs (steps.Next n) o us ts w r = at_step n _ hs ts o us (λ h t. reads_keeps aims.Row n o us h t) w r
-    step_keeps plans found aim named hs (steps.Collect n) o us ts w r = at_step n _ hs ts o us (λ h t. reads_keeps aims.Rows n o us h t) w r
-    step_keeps plans found aim named hs (steps.Drop n) o us ts w r = at_step n _ hs ts o us (λ h t. calls_keeps n calls.DropResult o us h t refl) w r
-    step_keeps plans found aim named hs (steps.Ping n) o us ts w r = at_step n _ hs ts o us (λ h t. calls_keeps n calls.Ping o us h t refl) w r
-    step_keeps plans found aim named hs (steps.Reset n) o us ts w r = at_step n _ hs ts o us (λ h t. calls_keeps n calls.Reset o us h t refl) w r
-    step_keeps plans found aim named hs (steps.User n change) o us ts w r = at_step n _ hs ts o us (λ h t. calls_keeps n (calls.ChangeUser change) o us h t refl) w r
-    step_keeps plans found aim named hs (steps.Begin n opts) o us ts w r = at_step n _ hs ts o us (λ h t. calls_keeps n (calls.Begin opts) o us h t refl) w r
-    step_keeps plans found aim named hs (steps.Commit n) o us ts w r = at_step n _ hs ts o us (where_keeps found (Calls login n calls.Commit) o us (λ h t. calls_keeps n calls.Commit o us h t refl)) w r
-    step_keeps plans found aim named hs (steps.Rollback n) o us ts w r = at_step n _ hs ts o us (where_keeps found (Calls login n calls.Rollback) o us (λ h t. calls_keeps n calls.Rollback o us h t refl)) w r
-    step_keeps plans found aim named hs (steps.ForgetTransaction n) o us ts w r = at_step n _ hs ts o us (where_keeps found (Calls login n calls.ForgetTransaction) o us (λ h t. calls_keeps n calls.ForgetTransaction o us h t refl)) w r
-    step_keeps plans found aim named hs (steps.Quit n) o us ts w r = at_step n _ hs ts o us (λ h t. calls_keeps n calls.Quit o us h t refl) w r
-    step_keeps plans found aim named hs (steps.Stream n) o us ts w r = at_step n _ hs ts o us (λ h t. reads_keeps aims.Take n o us h t) w r
-    step_keeps plans found aim named hs (steps.Item n) o us ts w r = at_step n _ hs ts o us (where_keeps found (ItemsAt login n) o us (λ h t. items_keeps n o us h t)) w r
-    step_keeps plans found aim named hs (steps.Unstream n) o us ts w r = at_step n _ hs ts o us (where_keeps found LetsGo o us (λ h t. lets_go_keeps o us h t)) w r
-    step_keeps plans found aim named hs (steps.Fields n) o us ts w r = at_step n _ hs ts o us (λ h t. tells_keeps o us h t) w r
-    step_keeps plans found aim named hs (steps.Poll n) o us ts w r = at_step n _ hs ts o us (λ h t. goes_on_keeps plans aim n o us h t) w r
-    step_keeps plans found aim named hs (steps.Cancel n) o us ts w r = at_step n _ hs ts o us (λ h t. cancels_keeps o us h t) w r
-    step_keeps plans found aim named hs (steps.Advance by) o us ts w r = subst (AllHave P) (sym r.same) w
-    step_keeps plans found aim named hs (steps.Random word) o us ts w r = subst (AllHave P) (sym r.same) w
+    step_keeps plans found aim named hs step o us ts w r = action_keeps plans (action_of found aim named step) hs o us ts (are_plain found aim named step) w r
 
     pub grown_keeps : (plans : Plans) (ls : List Line) → AreGrown login plans ls → AllHave P (handles_after ls)
     grown_keeps plans [] w = tt

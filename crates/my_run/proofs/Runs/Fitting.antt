@@ -1,7 +1,6 @@
 -- Each connection fits its link's plan: what it sent, what it took, and what is left lead from line to line.
 use Rattle.std.proofs.Common.{ℕ, ◌≡◌, zero, suc, List, [], ◌∷◌, ◌++◌, length, Option, Some, None, Bool, true, false, refl, sym, ap, ◌∙◌, subst}
 use Rattle.my_value.specs.RowParts.{RowParts}
-use Rattle.my_params.specs.declared.params.Params.{Params}
 use Rattle.my_statements.specs.Prepared.{StatementView}
 use Rattle.my_grammar.specs.declared.login.Login.{Login}
 use Rattle.my_link.specs.declared.link.ReadItem.{ReadItem}
@@ -16,10 +15,15 @@ use Rattle.my_link.specs.Spent.{Whole, HasGot, ReadsSpent, IsSpent, FaultsSpent}
 use Rattle.my_link.proofs.Spending.{used_spent}
 use Rattle.my_reading.specs.declared.answer.Answer.TheVariants as answers
 use Rattle.my_reading.specs.declared.call.Call.{Call}
-use Rattle.my_reading.specs.declared.call.Call.TheVariants.{CloseStmt, Execute, NextRow, TakeSet, SkipTaken, Commit, Rollback, ForgetTransaction}
+use Rattle.my_reading.specs.declared.call.Call.TheVariants.{NextRow, TakeSet, SkipTaken}
 use Rattle.my_reading.specs.Calls.{kind_of}
 use Rattle.my_client.specs.declared.poll.After.{After}
 use Rattle.my_client.specs.declared.poll.After.TheVariants as after
+use Rattle.my_script.specs.declared.action.Action.{Action}
+use Rattle.my_script.specs.declared.action.Action.TheVariants as actions
+use Rattle.my_script.specs.declared.action.Work.{Work}
+use Rattle.my_script.specs.declared.action.Work.TheVariants as works
+use Rattle.my_script.specs.Actions.{action_of}
 use Rattle.my_script.specs.declared.aim.Aim.{Aim}
 use Rattle.my_script.specs.declared.aim.Aim.TheVariants as aims
 use Rattle.my_script.specs.declared.step.Step.{Step}
@@ -31,7 +35,7 @@ use Rattle.my_script.specs.Streams.{is_skip, target}
 use Rattle.my_client.specs.Kept.{Asked, Kept, asking, asked_by}
 use Rattle.my_link.specs.World.{Plans, HeldBy, IsFresh}
 use Rattle.my_client.specs.Polls.{IsPolled}
-use Rattle.my_steps.specs.Grows.{AreGrown, Line, handles_after, aim_at, is_found, statements_of, IsRefused, OnConnection, PolledOnce, IsClosed, Begins, BeginsOn, Calls, ConnectShows, Connects, HasPlan, IsNew, Dials, Holds, Fails, Links, Gathers, GathersOn, Collects, CollectsOn, CollectsAt, PollsOn, PollsCall, Then, Skips, Follows, Reads, ReadsOn, ReadsAt, Where, Items, ItemsOn, ItemsAt, LetsGoWith, LetsGo, ExecutesAt, ClosesAt, GoesOnWith, GoesOn, CancelsWith, Cancels, TellsWith, TellsFields, At, StepGrows, is_done, has_taken}
+use Rattle.my_steps.specs.Grows.{AreGrown, Line, handles_after, aim_at, is_found, statements_of, IsRefused, OnConnection, PolledOnce, IsClosed, Begins, BeginsOn, Calls, ConnectShows, Connects, HasPlan, IsNew, Dials, Holds, Fails, Links, Gathers, GathersOn, Collects, CollectsOn, CollectsAt, PollsOn, PollsCall, Then, Skips, Follows, Reads, ReadsOn, ReadsAt, Items, ItemsOn, ItemsAt, LetsGoWith, LetsGo, GoesOnWith, GoesOn, CancelsWith, Cancels, TellsWith, TellsFields, At, StepGrows, is_done, has_taken, WorkAt, ActionGrows}
 use Rattle.my_steps.specs.Handle.{Handle, Absent, Dialing, Joined, at_number, put_at}
 use Rattle.my_run.specs.Fits.{AllFit, EachFits, FitsLink, HasWaited, IsFit, LinksFit, waits}
 use Rattle.my_run.proofs.Polls.{sent_so, taken_so, used_so}
@@ -157,11 +161,6 @@ module _ (plan : Option (List ReadItem)) (items : Option (List DialItem)) where
   reads_fits : (aim : Aim) (login : Login) (n : ℕ) (o : Outcome) (us : List Use) (h t : Handle) → IsFit plan items h → ReadsAt aim login n h o us t → IsFit plan items t
   reads_fits aim login n o us h t = on_fits (λ k. ReadsOn k.pending aim login n k) o us h t (λ k x. reads_on k.pending aim login n k x o us t)
 
-  -- what a step does where it finds what it needs
-  where_fits : (b : Bool) (R : Handle → Outcome → List Use → Handle → Type 0) (o : Outcome) (us : List Use) → ((h t : Handle) → IsFit plan items h → R h o us t → IsFit plan items t) → (h t : Handle) → IsFit plan items h → Where b R h o us t → IsFit plan items t
-  where_fits true R o us does h t f r = does h t f r
-  where_fits false R o us does h t f r = kept_fits h o us t f r
-
   -- an item
   items_by : (b : Bool) (login : Login) (n : ℕ) (k : Kept) (x : Looks) (o : Outcome) (us : List Use) (t : Handle) → FitsLink plan x k.sent k.taken → Items b login n k x o us t → IsFit plan items t
   items_by true login n k x o us t f r = calls_fits login n NextRow o us (Joined true k x) t f r
@@ -180,14 +179,6 @@ module _ (plan : Option (List ReadItem)) (items : Option (List DialItem)) where
 
   lets_go_fits : (o : Outcome) (us : List Use) (h t : Handle) → IsFit plan items h → LetsGo h o us t → IsFit plan items t
   lets_go_fits o us h t f r = on_fits (λ k. LetsGoWith k.pending k) o us h t (λ k x. lets_go_with k.pending k x o us t) f r
-
-  executes_fits : (named : Option StatementView) (login : Login) (n : ℕ) (params : Params) (o : Outcome) (us : List Use) (h t : Handle) → IsFit plan items h → ExecutesAt named login n params h o us t → IsFit plan items t
-  executes_fits (Some s) login n params o us h t f r = calls_fits login n (Execute s params) o us h t f r
-  executes_fits None login n params o us h t f r = kept_fits h o us t f r
-
-  closes_fits : (named : Option StatementView) (login : Login) (n : ℕ) (o : Outcome) (us : List Use) (h t : Handle) → IsFit plan items h → ClosesAt named login n h o us t → IsFit plan items t
-  closes_fits (Some s) login n o us h t f r = calls_fits login n (CloseStmt s.inner.id) o us h t f r
-  closes_fits None login n o us h t f r = kept_fits h o us t f r
 
   polls_call : (b : Bool) (aim : Aim) (login : Login) (n : ℕ) (a : Asked) (k : Kept) (x : Looks) (o : Outcome) (us : List Use) (t : Handle) → FitsLink plan x k.sent k.taken → PollsCall b aim login n a k x o us t → IsFit plan items t
   polls_call true aim login n a k x o us t f r = skips_fits (PolledOnce login n a k x) (Follows aim login n) o us t (λ first used mid s. once_fits login n a k x first used mid f s) (λ later mid. follows_fits aim login n o later mid t) r
@@ -242,6 +233,17 @@ module _ (plan : Option (List ReadItem)) (items : Option (List DialItem)) where
   tells_fits : (login : Login) (o : Outcome) (us : List Use) (h t : Handle) → IsFit plan items h → TellsFields login h o us t → IsFit plan items t
   tells_fits login o us h t = on_fits (λ k. TellsWith k.pending login k) o us h t (λ k x. tells_with k.pending login k x o us t)
 
+  -- what a step does at a number
+  work_fits : (login : Login) (plans : Plans) (n : ℕ) (work : Work) (o : Outcome) (us : List Use) (h t : Handle) → plans.reads n ≡ plan → IsFit plan items h → WorkAt login plans n work h o us t → IsFit plan items t
+  work_fits login plans n (works.Begin call) o us h t is f r = calls_fits login n call o us h t f r
+  work_fits login plans n (works.Read aim) o us h t is f r = reads_fits aim login n o us h t f r
+  work_fits login plans n works.Item o us h t is f r = items_fits login n o us h t f r
+  work_fits login plans n works.LetGo o us h t is f r = lets_go_fits o us h t f r
+  work_fits login plans n works.Miss o us h t is f r = kept_fits h o us t f r
+  work_fits login plans n works.Fields o us h t is f r = tells_fits login o us h t f r
+  work_fits login plans n (works.Poll aim) o us h t is f r = goes_on_fits login plans aim n o us h t is f r
+  work_fits login plans n works.Cancel o us h t is f r = cancels_fits login o us h t f r
+
 -- at all numbers
 put_all : (P : ℕ → Handle → Type 0) (n : ℕ) (t : Handle) (hs : List Handle) → ((m : ℕ) → P m (at_number hs m)) → P n t → (m : ℕ) → P m (at_number (put_at n t hs) m)
 put_all P n t [] all p m = all m
@@ -259,31 +261,13 @@ push_all P t (h ∷ hs) all p (suc m) = push_all (λ i. P (suc i)) t hs (λ i. a
 at_fits : (plans : Plans) (n : ℕ) (R : Handle → Outcome → List Use → Handle → Type 0) (hs ts : List Handle) (o : Outcome) (us : List Use) → ((h t : Handle) → IsFit (plans.reads n) (plans.dials n) h → R h o us t → IsFit (plans.reads n) (plans.dials n) t) → AllFit plans hs → At n R hs o us ts → AllFit plans ts
 at_fits plans n R hs ts o us f w r = subst (AllFit plans) (sym r.others) (put_all (λ m. IsFit (plans.reads m) (plans.dials m)) n r.made hs w (f (at_number hs n) r.made (w n) r.does))
 
+action_fits : (login : Login) (plans : Plans) (action : Action) (hs : List Handle) (o : Outcome) (us : List Use) (ts : List Handle) → AllFit plans hs → ActionGrows login plans action hs o us ts → AllFit plans ts
+action_fits login plans actions.Dial hs o us ts w r = subst (AllFit plans) (sym r.others) (push_all (λ m. IsFit (plans.reads m) (plans.dials m)) r.made hs w (dials_fits (plans.reads (length hs)) (plans.dials (length hs)) login (plans.writes (length hs)) (plans.dials (length hs)) (length hs) o us r.made (λ left held. waited_first (plans.dials (length hs)) left held) r.dials))
+action_fits login plans (actions.Move line) hs o us ts w r = subst (AllFit plans) (sym r.same) w
+action_fits login plans (actions.Visit n work) hs o us ts w r = at_fits plans n (WorkAt login plans n work) hs ts o us (λ h t f g. work_fits (plans.reads n) (plans.dials n) login plans n work o us h t refl f g) w r
+
 pub step_fits : (login : Login) (plans : Plans) (found : Bool) (aim : Aim) (named : Option StatementView) (hs : List Handle) (step : Step) (o : Outcome) (us : List Use) (ts : List Handle) → AllFit plans hs → StepGrows login plans found aim named hs step o us ts → AllFit plans ts
-step_fits login plans found aim named hs steps.Conn o us ts w r = subst (AllFit plans) (sym r.others) (push_all (λ m. IsFit (plans.reads m) (plans.dials m)) r.made hs w (dials_fits (plans.reads (length hs)) (plans.dials (length hs)) login (plans.writes (length hs)) (plans.dials (length hs)) (length hs) o us r.made (λ left held. waited_first (plans.dials (length hs)) left held) r.dials))
-step_fits login plans found aim named hs (steps.Query n text) o us ts w r = at_fits plans n _ hs ts o us (λ h t. calls_fits (plans.reads n) (plans.dials n) login n _ o us h t) w r
-step_fits login plans found aim named hs (steps.Prepare n text) o us ts w r = at_fits plans n _ hs ts o us (λ h t. calls_fits (plans.reads n) (plans.dials n) login n _ o us h t) w r
-step_fits login plans found aim named hs (steps.Execute n number params) o us ts w r = at_fits plans n _ hs ts o us (λ h t. executes_fits (plans.reads n) (plans.dials n) named login n params o us h t) w r
-step_fits login plans found aim named hs (steps.CloseStatement n number) o us ts w r = at_fits plans n _ hs ts o us (λ h t. closes_fits (plans.reads n) (plans.dials n) named login n o us h t) w r
-step_fits login plans found aim named hs (steps.Next n) o us ts w r = at_fits plans n _ hs ts o us (λ h t. reads_fits (plans.reads n) (plans.dials n) aims.Row login n o us h t) w r
-step_fits login plans found aim named hs (steps.Collect n) o us ts w r = at_fits plans n _ hs ts o us (λ h t. reads_fits (plans.reads n) (plans.dials n) aims.Rows login n o us h t) w r
-step_fits login plans found aim named hs (steps.Drop n) o us ts w r = at_fits plans n _ hs ts o us (λ h t. calls_fits (plans.reads n) (plans.dials n) login n _ o us h t) w r
-step_fits login plans found aim named hs (steps.Ping n) o us ts w r = at_fits plans n _ hs ts o us (λ h t. calls_fits (plans.reads n) (plans.dials n) login n _ o us h t) w r
-step_fits login plans found aim named hs (steps.Reset n) o us ts w r = at_fits plans n _ hs ts o us (λ h t. calls_fits (plans.reads n) (plans.dials n) login n _ o us h t) w r
-step_fits login plans found aim named hs (steps.User n change) o us ts w r = at_fits plans n _ hs ts o us (λ h t. calls_fits (plans.reads n) (plans.dials n) login n _ o us h t) w r
-step_fits login plans found aim named hs (steps.Begin n opts) o us ts w r = at_fits plans n _ hs ts o us (λ h t. calls_fits (plans.reads n) (plans.dials n) login n _ o us h t) w r
-step_fits login plans found aim named hs (steps.Commit n) o us ts w r = at_fits plans n _ hs ts o us (where_fits (plans.reads n) (plans.dials n) found (Calls login n Commit) o us (λ h t. calls_fits (plans.reads n) (plans.dials n) login n Commit o us h t)) w r
-step_fits login plans found aim named hs (steps.Rollback n) o us ts w r = at_fits plans n _ hs ts o us (where_fits (plans.reads n) (plans.dials n) found (Calls login n Rollback) o us (λ h t. calls_fits (plans.reads n) (plans.dials n) login n Rollback o us h t)) w r
-step_fits login plans found aim named hs (steps.ForgetTransaction n) o us ts w r = at_fits plans n _ hs ts o us (where_fits (plans.reads n) (plans.dials n) found (Calls login n ForgetTransaction) o us (λ h t. calls_fits (plans.reads n) (plans.dials n) login n ForgetTransaction o us h t)) w r
-step_fits login plans found aim named hs (steps.Quit n) o us ts w r = at_fits plans n _ hs ts o us (λ h t. calls_fits (plans.reads n) (plans.dials n) login n _ o us h t) w r
-step_fits login plans found aim named hs (steps.Stream n) o us ts w r = at_fits plans n _ hs ts o us (λ h t. reads_fits (plans.reads n) (plans.dials n) aims.Take login n o us h t) w r
-step_fits login plans found aim named hs (steps.Item n) o us ts w r = at_fits plans n _ hs ts o us (where_fits (plans.reads n) (plans.dials n) found (ItemsAt login n) o us (λ h t. items_fits (plans.reads n) (plans.dials n) login n o us h t)) w r
-step_fits login plans found aim named hs (steps.Unstream n) o us ts w r = at_fits plans n _ hs ts o us (where_fits (plans.reads n) (plans.dials n) found LetsGo o us (λ h t. lets_go_fits (plans.reads n) (plans.dials n) o us h t)) w r
-step_fits login plans found aim named hs (steps.Fields n) o us ts w r = at_fits plans n _ hs ts o us (λ h t. tells_fits (plans.reads n) (plans.dials n) login o us h t) w r
-step_fits login plans found aim named hs (steps.Poll n) o us ts w r = at_fits plans n _ hs ts o us (λ h t f g. goes_on_fits (plans.reads n) (plans.dials n) login plans aim n o us h t refl f g) w r
-step_fits login plans found aim named hs (steps.Cancel n) o us ts w r = at_fits plans n _ hs ts o us (λ h t. cancels_fits (plans.reads n) (plans.dials n) login o us h t) w r
-step_fits login plans found aim named hs (steps.Advance by) o us ts w r = subst (AllFit plans) (sym r.same) w
-step_fits login plans found aim named hs (steps.Random word) o us ts w r = subst (AllFit plans) (sym r.same) w
+step_fits login plans found aim named hs step o us ts w r = action_fits login plans (action_of found aim named step) hs o us ts w r
 
 -- so it is after each line
 pub grown_fit : (login : Login) (plans : Plans) (lines : List Line) → AreGrown login plans lines → AllFit plans (handles_after lines)

@@ -1,5 +1,5 @@
 -- All lines of a run, at one number.
-use Rattle.std.proofs.Common.{◌≡◌, ◌≢◌, ◌⊎◌, ◌≤◌, ◌<◌, inl, inr, ℕ, zero, suc, ◌+◌, ◌-◌, ◌==◌, List, [], ◌∷◌, ◌++◌, length, nat_lt, Bool, true, false, Option, Some, None, refl, sym, ap, ◌∙◌, subst, arith, length-append, if◌then◌else◌, is_some}
+use Rattle.std.proofs.Common.{◌≡◌, ◌≢◌, ◌⊎◌, ◌≤◌, ◌<◌, inl, inr, ℕ, zero, suc, ◌+◌, ◌-◌, ◌==◌, List, [], ◌∷◌, ◌++◌, length, nat_lt, Bool, true, false, Option, Some, None, refl, sym, ap, ◌∙◌, subst, arith, length-append, is_some, if◌then◌else◌}
 use Rattle.std.proofs.lemmas.Bool.Decides.{nat_tests}
 use Rattle.my_statements.specs.Prepared.{StatementView}
 use Rattle.my_grammar.specs.declared.login.Login.{Login}
@@ -8,6 +8,9 @@ use Rattle.my_reading.specs.declared.call.Call.TheVariants as calls
 use Rattle.my_reading.specs.Endings.{AreCalls}
 use Rattle.my_reading.specs.Reading.{reading}
 use Rattle.my_reading.specs.Tape.{Tape}
+use Rattle.my_script.specs.declared.action.Work.{Work}
+use Rattle.my_script.specs.declared.action.Work.TheVariants as works
+use Rattle.my_script.specs.Actions.{found_work}
 use Rattle.my_script.specs.declared.aim.Aim.{Aim}
 use Rattle.my_script.specs.declared.aim.Aim.TheVariants as aims
 use Rattle.my_script.specs.declared.step.Step.{Step}
@@ -25,7 +28,7 @@ use Rattle.my_run_judge.specs.Acts.{act_ahead, act_here, act_of, act_there, act_
 use Rattle.my_client.specs.Kept.{Asked, nothing_kept}
 use Rattle.my_link.specs.World.{Plans}
 use Rattle.my_value.specs.RowParts.{RowParts}
-use Rattle.my_steps.specs.Grows.{At, Calls, Dials, DialsNext, IsRefused, ItemsAt, LetsGo, Misses, Moves, StepGrows, Where}
+use Rattle.my_steps.specs.Grows.{At, Calls, Dials, DialsNext, IsRefused, Misses, Moves, StepGrows, WorkAt}
 use Rattle.my_steps.specs.Handle.{Handle, Absent, Dialing, Joined, at_number, put_at}
 use Rattle.run_laws.proofs.Connecting.{AreOnce, at_once}
 use Rattle.my_run_judge.specs.declared.walk.Spot.{Spot}
@@ -385,18 +388,18 @@ module _ (login : Login) (t : Tape) (all : AreCalls login (reading login t).call
       (λ made h d e. subst (λ z. StepSo login t z aim statement (at_number hs m) made step o us) e (calls_so login t all m aim statement step call w (at_number hs m) made o us h d)) r has
 
   -- one that needs its stream or its transaction
-  found_line : (here found : Bool) (aim : Aim) (statement : Option StatementView) (m : ℕ) (R : Handle → Outcome → List Use → Handle → Type 0) (step : Step) → target step ≡ Some m → ((z : Outcome) (vs : List Use) (made : Handle) → R Absent z vs made → IsRefused Absent z vs made)
+  found_line : (here found : Bool) (aim : Aim) (statement : Option StatementView) (plans : Plans) (m : ℕ) (work : Work) (step : Step) → target step ≡ Some m → ((z : Outcome) (vs : List Use) (made : Handle) → WorkAt login plans m work Absent z vs made → IsRefused Absent z vs made)
       → is_missing n true step ≡ false → is_missing n false step ≡ (m == n) → ((b : Bool) → is_unprepared n b step ≡ false) → (target step ≡ Some n → found ≡ here)
-      → (hs ts : List Handle) (o : Outcome) (us : List Use) → ((made : Handle) → HasTape t made → R (at_number hs m) o us made → m ≡ n → StepSo login t n aim statement (at_number hs m) made step o us)
-      → At m (Where found R) hs o us ts → HasTape t (at_number ts n) → RunsSo login t n here aim statement hs ts step o us
-  found_line here true aim statement m R step named absent one other all same hs ts o us so r has = named_line here aim statement m R step (record { beside = found_there (λ b. is_missing n b step) m one other here (λ e. same (named ∙ e)); statements = all (is_some statement) }) named absent hs ts o us so r has
-  found_line here false aim statement m R step named absent one other all same hs ts o us so r has = missed_line here aim statement m step named
+      → (hs ts : List Handle) (o : Outcome) (us : List Use) → ((made : Handle) → HasTape t made → WorkAt login plans m work (at_number hs m) o us made → m ≡ n → StepSo login t n aim statement (at_number hs m) made step o us)
+      → At m (WorkAt login plans m (found_work found work)) hs o us ts → HasTape t (at_number ts n) → RunsSo login t n here aim statement hs ts step o us
+  found_line here true aim statement plans m work step named absent one other all same hs ts o us so r has = named_line here aim statement m (WorkAt login plans m work) step (record { beside = found_there (λ b. is_missing n b step) m one other here (λ e. same (named ∙ e)); statements = all (is_some statement) }) named absent hs ts o us so r has
+  found_line here false aim statement plans m work step named absent one other all same hs ts o us so r has = missed_line here aim statement m step named
       (λ e. record { beside = either (λ b. is_missing n b step) one (other ∙ e) here; statements = all (is_some statement) })
       (not_found here (is_some statement) aim m step named other same) hs ts o us r has
 
-  where_found : (here found : Bool) (aim : Aim) (statement : Option StatementView) (m : ℕ) (step : Step) (call : Call) → Asks m statement step call → is_missing n true step ≡ false → is_missing n false step ≡ (m == n) → ((b : Bool) → is_unprepared n b step ≡ false) → (target step ≡ Some n → found ≡ here)
-      → (hs ts : List Handle) (o : Outcome) (us : List Use) → At m (Where found (Calls login m call)) hs o us ts → HasTape t (at_number ts n) → RunsSo login t n here aim statement hs ts step o us
-  where_found here found aim statement m step call w one other each same hs ts o us r has = found_line here found aim statement m (Calls login m call) step w.named (λ z vs made e. e) one other each same hs ts o us
+  where_found : (here found : Bool) (aim : Aim) (statement : Option StatementView) (plans : Plans) (m : ℕ) (step : Step) (call : Call) → Asks m statement step call → is_missing n true step ≡ false → is_missing n false step ≡ (m == n) → ((b : Bool) → is_unprepared n b step ≡ false) → (target step ≡ Some n → found ≡ here)
+      → (hs ts : List Handle) (o : Outcome) (us : List Use) → At m (WorkAt login plans m (found_work found (works.Begin call))) hs o us ts → HasTape t (at_number ts n) → RunsSo login t n here aim statement hs ts step o us
+  where_found here found aim statement plans m step call w one other each same hs ts o us r has = found_line here found aim statement plans m (works.Begin call) step w.named (λ z vs made e. e) one other each same hs ts o us
       (λ made h d e. subst (λ z. StepSo login t z aim statement (at_number hs m) made step o us) e (calls_so login t all m aim statement step call w (at_number hs m) made o us h d)) r has
 
   -- one that needs the statement that it names, which isn't there
@@ -423,15 +426,15 @@ module _ (login : Login) (t : Tape) (all : AreCalls login (reading login t).call
   line_so here found its aim statement plans hs ts (steps.Reset m) o us same aimed live once r has = asked_line here its statement m (steps.Reset m) calls.Reset (asks_reset m statement) (always n here (is_some statement) (steps.Reset m) refl refl refl refl) hs ts o us r has
   line_so here found its aim statement plans hs ts (steps.User m change) o us same aimed live once r has = asked_line here its statement m (steps.User m change) (calls.ChangeUser change) (asks_user m statement change) (always n here (is_some statement) (steps.User m change) refl refl refl refl) hs ts o us r has
   line_so here found its aim statement plans hs ts (steps.Begin m opts) o us same aimed live once r has = asked_line here its statement m (steps.Begin m opts) (calls.Begin opts) (asks_begin m statement opts) (always n here (is_some statement) (steps.Begin m opts) refl refl refl refl) hs ts o us r has
-  line_so here found its aim statement plans hs ts (steps.Commit m) o us same aimed live once r has = where_found here found its statement m (steps.Commit m) calls.Commit (asks_commit m statement) refl refl (either (λ b. is_unprepared n b (steps.Commit m)) refl refl) same hs ts o us r has
-  line_so here found its aim statement plans hs ts (steps.Rollback m) o us same aimed live once r has = where_found here found its statement m (steps.Rollback m) calls.Rollback (asks_rollback m statement) refl refl (either (λ b. is_unprepared n b (steps.Rollback m)) refl refl) same hs ts o us r has
-  line_so here found its aim statement plans hs ts (steps.ForgetTransaction m) o us same aimed live once r has = where_found here found its statement m (steps.ForgetTransaction m) calls.ForgetTransaction (asks_forget m statement) refl refl (either (λ b. is_unprepared n b (steps.ForgetTransaction m)) refl refl) same hs ts o us r has
+  line_so here found its aim statement plans hs ts (steps.Commit m) o us same aimed live once r has = where_found here found its statement plans m (steps.Commit m) calls.Commit (asks_commit m statement) refl refl (either (λ b. is_unprepared n b (steps.Commit m)) refl refl) same hs ts o us r has
+  line_so here found its aim statement plans hs ts (steps.Rollback m) o us same aimed live once r has = where_found here found its statement plans m (steps.Rollback m) calls.Rollback (asks_rollback m statement) refl refl (either (λ b. is_unprepared n b (steps.Rollback m)) refl refl) same hs ts o us r has
+  line_so here found its aim statement plans hs ts (steps.ForgetTransaction m) o us same aimed live once r has = where_found here found its statement plans m (steps.ForgetTransaction m) calls.ForgetTransaction (asks_forget m statement) refl refl (either (λ b. is_unprepared n b (steps.ForgetTransaction m)) refl refl) same hs ts o us r has
   line_so here found its aim statement plans hs ts (steps.Quit m) o us same aimed live once r has = asked_line here its statement m (steps.Quit m) calls.Quit (asks_quit m statement) (always n here (is_some statement) (steps.Quit m) refl refl refl refl) hs ts o us r has
   line_so here found its aim statement plans hs ts (steps.Stream m) o us same aimed live once r has = named_line here its statement m _ (steps.Stream m) (always n here (is_some statement) (steps.Stream m) refl refl refl refl) refl (λ z vs made e. e) hs ts o us
       (λ made h d e. subst (λ z. StepSo login t z its statement (at_number hs m) made (steps.Stream m) o us) e (reads_so login t all m its statement aims.Take (at_number hs m) made o us h d)) r has
-  line_so here found its aim statement plans hs ts (steps.Item m) o us same aimed live once r has = found_line here found its statement m (ItemsAt login m) (steps.Item m) refl (λ z vs made e. e) refl refl (either (λ b. is_unprepared n b (steps.Item m)) refl refl) same hs ts o us
+  line_so here found its aim statement plans hs ts (steps.Item m) o us same aimed live once r has = found_line here found its statement plans m works.Item (steps.Item m) refl (λ z vs made e. e) refl refl (either (λ b. is_unprepared n b (steps.Item m)) refl refl) same hs ts o us
       (λ made h d e. subst (λ z. StepSo login t z its statement (at_number hs m) made (steps.Item m) o us) e (items_so login t all m its statement (at_number hs m) made o us h d)) r has
-  line_so here found its aim statement plans hs ts (steps.Unstream m) o us same aimed live once r has = found_line here found its statement m LetsGo (steps.Unstream m) refl (λ z vs made e. e) refl refl (either (λ b. is_unprepared n b (steps.Unstream m)) refl refl) same hs ts o us
+  line_so here found its aim statement plans hs ts (steps.Unstream m) o us same aimed live once r has = found_line here found its statement plans m works.LetGo (steps.Unstream m) refl (λ z vs made e. e) refl refl (either (λ b. is_unprepared n b (steps.Unstream m)) refl refl) same hs ts o us
       (λ made h d e. subst (λ z. StepSo login t z its statement (at_number hs m) made (steps.Unstream m) o us) e (lets_go_so login t all m its statement (at_number hs m) made o us h d)) r has
   line_so here found its aim statement plans hs ts (steps.Fields m) o us same aimed live once r has = named_line here its statement m _ (steps.Fields m) (always n here (is_some statement) (steps.Fields m) refl refl refl refl) refl (λ z vs made e. e) hs ts o us
       (λ made h d e. subst (λ z. StepSo login t z its statement (at_number hs m) made (steps.Fields m) o us) e (tells_so login t all m its statement (at_number hs m) made o us h d)) r has

@@ -11,6 +11,9 @@ use Rattle.my_link.specs.declared.dialer.DialItem.{DialItem}
 use Rattle.my_link.specs.declared.dialer.DialItem.TheVariants as items
 use Rattle.my_link.specs.declared.link.ReadItem.{ReadItem}
 use Rattle.my_link.specs.declared.link.WriteItem.{WriteItem}
+use Rattle.my_script.specs.declared.action.Work.{Work}
+use Rattle.my_script.specs.declared.action.Work.TheVariants as works
+use Rattle.my_script.specs.Actions.{close_work, execute_work, found_work}
 use Rattle.my_script.specs.declared.aim.Aim.{Aim}
 use Rattle.my_script.specs.declared.step.Step.{Step}
 use Rattle.my_script.specs.declared.step.Step.TheVariants as steps
@@ -20,7 +23,7 @@ use Rattle.my_script.specs.declared.transcript.Use.{Use}
 use Rattle.my_link.specs.declared.line.WorldLine.{WorldLine}
 use Rattle.my_link.specs.Plan.{all_given, dials_of}
 use Rattle.my_link.specs.World.{Plans, HeldBy, FailedBy, GivenBy}
-use Rattle.my_steps.specs.Grows.{At, AreGrown, Calls, Dials, Holds, Fails, Links, ClosesAt, ExecutesAt, GoesOn, Line, StepGrows, ItemsAt, LetsGo, Where, handles_after}
+use Rattle.my_steps.specs.Grows.{At, AreGrown, Dials, Holds, Fails, Links, GoesOn, Line, StepGrows, handles_after, WorkAt}
 use Rattle.my_steps.specs.Handle.{Handle, Dialing, at_number}
 use Rattle.my_run.specs.Headline.{AnswerView, answer_view, answers_of, steps_of}
 use Rattle.my_run_judge.specs.Transcripts.{dialed_by}
@@ -185,15 +188,15 @@ module _ (login : Login) (plans : Plans) (lines : List WorldLine) (told : ArePla
             let under = s.0 in
             (omega (arith, count, under), ap (λ (xs : List Handle). at_number xs n) r.others ∙ put_there m n r.made hs other ∙ s.1)
 
-    where_held : (there : Bool) (R : Handle → Outcome → List Use → Handle → Type 0) → ((made : Handle) → R (Dialing (Some left)) o us made → made ≡ Dialing (Some left)) → (made : Handle) → Where there R (Dialing (Some left)) o us made → made ≡ Dialing (Some left)
-    where_held true R does made r = does made r
-    where_held false R does made r = r.same
+    found_held : (there : Bool) (m : ℕ) (work : Work) → ((made : Handle) → WorkAt login plans m work (Dialing (Some left)) o us made → made ≡ Dialing (Some left)) → (made : Handle) → WorkAt login plans m (found_work there work) (Dialing (Some left)) o us made → made ≡ Dialing (Some left)
+    found_held true m work does made r = does made r
+    found_held false m work does made r = r.same
 
-    executes_held : (q : Option StatementView) (params : Params) (m : ℕ) (made : Handle) → ExecutesAt q login m params (Dialing (Some left)) o us made → made ≡ Dialing (Some left)
+    executes_held : (q : Option StatementView) (params : Params) (m : ℕ) (made : Handle) → WorkAt login plans m (execute_work q params) (Dialing (Some left)) o us made → made ≡ Dialing (Some left)
     executes_held (Some prepared) params m made r = r.same
     executes_held None params m made r = r.same
 
-    closes_held : (q : Option StatementView) (m : ℕ) (made : Handle) → ClosesAt q login m (Dialing (Some left)) o us made → made ≡ Dialing (Some left)
+    closes_held : (q : Option StatementView) (m : ℕ) (made : Handle) → WorkAt login plans m (close_work q) (Dialing (Some left)) o us made → made ≡ Dialing (Some left)
     closes_held (Some prepared) m made r = r.same
     closes_held None m made r = r.same
 
@@ -216,13 +219,13 @@ module _ (login : Login) (plans : Plans) (lines : List WorldLine) (told : ArePla
     held_so there aim statement (steps.Reset m) r = (tt, refused m _ (λ made d. d.same) r)
     held_so there aim statement (steps.User m change) r = (tt, refused m _ (λ made d. d.same) r)
     held_so there aim statement (steps.Begin m opts) r = (tt, refused m _ (λ made d. d.same) r)
-    held_so there aim statement (steps.Commit m) r = (tt, refused m _ (where_held there (Calls login m calls.Commit) (λ made q. q.same)) r)
-    held_so there aim statement (steps.Rollback m) r = (tt, refused m _ (where_held there (Calls login m calls.Rollback) (λ made q. q.same)) r)
-    held_so there aim statement (steps.ForgetTransaction m) r = (tt, refused m _ (where_held there (Calls login m calls.ForgetTransaction) (λ made q. q.same)) r)
+    held_so there aim statement (steps.Commit m) r = (tt, refused m _ (found_held there m (works.Begin calls.Commit) (λ made q. q.same)) r)
+    held_so there aim statement (steps.Rollback m) r = (tt, refused m _ (found_held there m (works.Begin calls.Rollback) (λ made q. q.same)) r)
+    held_so there aim statement (steps.ForgetTransaction m) r = (tt, refused m _ (found_held there m (works.Begin calls.ForgetTransaction) (λ made q. q.same)) r)
     held_so there aim statement (steps.Quit m) r = (tt, refused m _ (λ made d. d.same) r)
     held_so there aim statement (steps.Stream m) r = (tt, refused m _ (λ made d. d.same) r)
-    held_so there aim statement (steps.Item m) r = (tt, refused m _ (where_held there (ItemsAt login m) (λ made q. q.same)) r)
-    held_so there aim statement (steps.Unstream m) r = (tt, refused m _ (where_held there LetsGo (λ made q. q.same)) r)
+    held_so there aim statement (steps.Item m) r = (tt, refused m _ (found_held there m works.Item (λ made q. q.same)) r)
+    held_so there aim statement (steps.Unstream m) r = (tt, refused m _ (found_held there m works.LetGo (λ made q. q.same)) r)
     held_so there aim statement (steps.Fields m) r = (tt, refused m _ (λ made d. d.same) r)
     held_so there aim statement (steps.Poll m) r = polled aim m r
     held_so there aim statement (steps.Cancel m) r = (tt, cancelled m _ r)

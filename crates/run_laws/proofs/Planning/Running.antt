@@ -1,8 +1,7 @@
 -- All lines of a run, at the link of one number.
-use Rattle.std.proofs.Common.{◌≡◌, ◌≢◌, ◌⊎◌, ◌≤◌, ◌<◌, inl, inr, ℕ, zero, suc, ◌+◌, ◌==◌, List, [], ◌∷◌, ◌++◌, length, map, nat_lt, Bool, true, false, Option, Some, if◌then◌else◌, refl, sym, ap, ◌∙◌, subst, arith, length-append}
+use Rattle.std.proofs.Common.{◌≡◌, ◌≢◌, ◌⊎◌, ◌≤◌, ◌<◌, inl, inr, ℕ, zero, suc, ◌+◌, ◌==◌, List, [], ◌∷◌, ◌++◌, length, map, nat_lt, Bool, true, false, Option, Some, refl, sym, ap, ◌∙◌, subst, arith, length-append, if◌then◌else◌}
 use Rattle.std.proofs.lemmas.Bool.Decides.{nat_tests}
 use Rattle.std.proofs.lemmas.List.{append_assoc}
-use Rattle.my_statements.specs.Prepared.{StatementView}
 use Rattle.my_grammar.specs.declared.login.Login.{Login}
 use Rattle.my_link.specs.declared.link.ReadItem.{ReadItem}
 use Rattle.my_link.specs.declared.link.WriteItem.{WriteItem}
@@ -11,16 +10,16 @@ use Rattle.my_link.specs.declared.dialer.DialItem.{DialItem}
 use Rattle.my_link.specs.declared.met.Met.{Met}
 use Rattle.my_link.specs.Met.{nothing_met}
 use Rattle.my_link.specs.Spent.{spelled}
-use Rattle.my_reading.specs.declared.call.Call.TheVariants as calls
-use Rattle.my_script.specs.declared.aim.Aim.{Aim}
-use Rattle.my_script.specs.declared.aim.Aim.TheVariants as aims
-use Rattle.my_script.specs.declared.step.Step.{Step}
-use Rattle.my_script.specs.declared.step.Step.TheVariants as steps
+use Rattle.my_script.specs.declared.action.Action.{Action}
+use Rattle.my_script.specs.declared.action.Action.TheVariants as actions
+use Rattle.my_script.specs.Actions.{action_of}
+use Rattle.my_script.specs.Numbered.{named_statement, statement_named}
+use Rattle.my_script.specs.Streams.{target}
 use Rattle.my_script.specs.declared.transcript.Outcome.{Outcome}
 use Rattle.my_script.specs.declared.transcript.StepAnswer.{StepAnswer}
 use Rattle.my_script.specs.declared.transcript.Use.{Use}
 use Rattle.my_link.specs.World.{Plans}
-use Rattle.my_steps.specs.Grows.{At, AreGrown, Calls, DialsNext, ItemsAt, LetsGo, Line, Moves, StepGrows, handles_after}
+use Rattle.my_steps.specs.Grows.{At, AreGrown, DialsNext, Line, Moves, handles_after, ActionGrows, WorkAt, aim_at, is_found, statements_of}
 use Rattle.my_steps.specs.Handle.{Handle, Absent, Dialing, Joined, at_number, put_at}
 use Rattle.my_steps.specs.Sums.{held_use, quiet, use_of}
 use Rattle.my_run.specs.Headline.{AnswerView, answer_view, answers_of}
@@ -30,7 +29,7 @@ use Rattle.my_run_judge.specs.Plan.Left.{AreKept, IsKept, after_met, after_use, 
 use Rattle.my_run_judge.specs.Plan.Lines.{LinesKept}
 use Rattle.my_run_judge.specs.Plan.Planned.{before_end}
 use Rattle.run_laws.proofs.Planning.Spending.{left_at, left_is}
-use Rattle.run_laws.proofs.Planning.Stepping.{Dials, DialsTo, Goes, HasFailed, HasLinked, HeldTo, IsHeld, IsLeft, Stays, WalksTo, calls_go, cancels_go, closes_go, dials_go, executes_go, goes_on_go, items_go, lets_go, reads_go, tells_go, where_go}
+use Rattle.run_laws.proofs.Planning.Stepping.{Dials, DialsTo, Goes, HasFailed, HasLinked, HeldTo, IsHeld, IsLeft, Stays, WalksTo, dials_go, work_go}
 use Rattle.run_laws.proofs.Planning.Walking.{NoneAt, StandsIn, WalkKept, none_kept, walk_kept, walks_elsewhere, walks_longer}
 
 -- the lines, by what is shown of their answers
@@ -217,31 +216,10 @@ module _ (login : Login) (plans : Plans) (reads_of : ℕ → List ReadItem) (wri
     moved : (hs ts : List Handle) (o : Outcome) (us : List Use) → Moves hs o us ts → NumberRoom ts → NumberSo us hs ts
     moved hs ts o us r = let count = ap length r.same in skips_so us hs ts (omega (arith, count)) (ap (λ (xs : List Handle). at_number xs n) r.same) (subst (NoneAt n) (sym r.uses) tt)
 
-    line_so : (there : Bool) (aim : Aim) (statement : Option StatementView) (hs ts : List Handle) (step : Step) (o : Outcome) (us : List Use) → StepGrows login plans there aim statement hs step o us ts → NumberRoom ts → NumberSo us hs ts
-    line_so there aim statement hs ts steps.Conn o us r = conn hs o us ts r
-    line_so there aim statement hs ts (steps.Query m text) o us r = named m _ hs o us ts (λ h t. calls_go m (reads_of m) (writes_of m) login (calls.Query text) o us h t) r
-    line_so there aim statement hs ts (steps.Prepare m text) o us r = named m _ hs o us ts (λ h t. calls_go m (reads_of m) (writes_of m) login (calls.Prepare text) o us h t) r
-    line_so there aim statement hs ts (steps.Execute m number params) o us r = named m _ hs o us ts (λ h t. executes_go m (reads_of m) (writes_of m) statement login params o us h t) r
-    line_so there aim statement hs ts (steps.CloseStatement m number) o us r = named m _ hs o us ts (λ h t. closes_go m (reads_of m) (writes_of m) statement login o us h t) r
-    line_so there aim statement hs ts (steps.Next m) o us r = named m _ hs o us ts (λ h t. reads_go m (reads_of m) (writes_of m) aims.Row login o us h t) r
-    line_so there aim statement hs ts (steps.Collect m) o us r = named m _ hs o us ts (λ h t. reads_go m (reads_of m) (writes_of m) aims.Rows login o us h t) r
-    line_so there aim statement hs ts (steps.Drop m) o us r = named m _ hs o us ts (λ h t. calls_go m (reads_of m) (writes_of m) login calls.DropResult o us h t) r
-    line_so there aim statement hs ts (steps.Ping m) o us r = named m _ hs o us ts (λ h t. calls_go m (reads_of m) (writes_of m) login calls.Ping o us h t) r
-    line_so there aim statement hs ts (steps.Reset m) o us r = named m _ hs o us ts (λ h t. calls_go m (reads_of m) (writes_of m) login calls.Reset o us h t) r
-    line_so there aim statement hs ts (steps.User m change) o us r = named m _ hs o us ts (λ h t. calls_go m (reads_of m) (writes_of m) login (calls.ChangeUser change) o us h t) r
-    line_so there aim statement hs ts (steps.Begin m opts) o us r = named m _ hs o us ts (λ h t. calls_go m (reads_of m) (writes_of m) login (calls.Begin opts) o us h t) r
-    line_so there aim statement hs ts (steps.Commit m) o us r = named m _ hs o us ts (where_go m (reads_of m) (writes_of m) there (Calls login m calls.Commit) o us (λ h t. calls_go m (reads_of m) (writes_of m) login calls.Commit o us h t)) r
-    line_so there aim statement hs ts (steps.Rollback m) o us r = named m _ hs o us ts (where_go m (reads_of m) (writes_of m) there (Calls login m calls.Rollback) o us (λ h t. calls_go m (reads_of m) (writes_of m) login calls.Rollback o us h t)) r
-    line_so there aim statement hs ts (steps.ForgetTransaction m) o us r = named m _ hs o us ts (where_go m (reads_of m) (writes_of m) there (Calls login m calls.ForgetTransaction) o us (λ h t. calls_go m (reads_of m) (writes_of m) login calls.ForgetTransaction o us h t)) r
-    line_so there aim statement hs ts (steps.Quit m) o us r = named m _ hs o us ts (λ h t. calls_go m (reads_of m) (writes_of m) login calls.Quit o us h t) r
-    line_so there aim statement hs ts (steps.Stream m) o us r = named m _ hs o us ts (λ h t. reads_go m (reads_of m) (writes_of m) aims.Take login o us h t) r
-    line_so there aim statement hs ts (steps.Item m) o us r = named m _ hs o us ts (where_go m (reads_of m) (writes_of m) there (ItemsAt login m) o us (λ h t. items_go m (reads_of m) (writes_of m) login o us h t)) r
-    line_so there aim statement hs ts (steps.Unstream m) o us r = named m _ hs o us ts (where_go m (reads_of m) (writes_of m) there LetsGo o us (λ h t. lets_go m (reads_of m) (writes_of m) o us h t)) r
-    line_so there aim statement hs ts (steps.Fields m) o us r = named m _ hs o us ts (λ h t. tells_go m (reads_of m) (writes_of m) login o us h t) r
-    line_so there aim statement hs ts (steps.Poll m) o us r = named m _ hs o us ts (λ h t. goes_on_go m (reads_of m) (writes_of m) login plans aim (reads_are m) (writes_are m) o us h t) r
-    line_so there aim statement hs ts (steps.Cancel m) o us r = named m _ hs o us ts (λ h t. cancels_go m (reads_of m) (writes_of m) login o us h t) r
-    line_so there aim statement hs ts (steps.Advance by) o us r = moved hs ts o us r
-    line_so there aim statement hs ts (steps.Random word) o us r = moved hs ts o us r
+    line_so : (action : Action) (hs ts : List Handle) (o : Outcome) (us : List Use) → ActionGrows login plans action hs o us ts → NumberRoom ts → NumberSo us hs ts
+    line_so actions.Dial hs ts o us r = conn hs o us ts r
+    line_so (actions.Move line) hs ts o us r = moved hs ts o us r
+    line_so (actions.Visit m work) hs ts o us r = named m (WorkAt login plans m work) hs o us ts (λ h t. work_go m (reads_of m) (writes_of m) login plans work (reads_are m) (writes_are m) o us h t) r
 
     -- after these lines
     pub record RanSo (ls : List Line) : Type 0 where
@@ -252,7 +230,7 @@ module _ (login : Login) (plans : Plans) (reads_of : ℕ → List ReadItem) (wri
     pub ran : (ls : List Line) → AreGrown login plans ls → NumberRoom (handles_after ls) → RanSo ls
     ran [] grown room = record { left = first n (reads_of n) (writes_of n) all; stands = refl; reaches = λ vs r. r }
     ran (l ∷ ls) grown room =
-        let s : NumberSo l.uses (handles_after ls) l.handles = line_so _ _ _ (handles_after ls) l.handles l.step l.outcome l.uses grown.0.answer room in
+        let s : NumberSo l.uses (handles_after ls) l.handles = line_so (action_of (is_found (target l.step) l.step ls) (aim_at (target l.step) ls) (statement_named (named_statement l.step) (statements_of ls)) l.step) (handles_after ls) l.handles l.outcome l.uses grown.0.answer room in
         let before : RanSo ls = ran ls grown.1 s.back in
         let here = s.kept before.left before.stands in
         let view : AnswerView = record { number = l.number; outcome = l.outcome; uses = l.uses } in

@@ -2,8 +2,6 @@
 use Rattle.std.proofs.Common.{ℕ, ◌≡◌, List, [], ◌∷◌, ◌++◌, Option, Some, None, Bool, true, false, refl, sym, ap, ◌∙◌, subst}
 use Rattle.std.proofs.lemmas.List.{append-nil}
 use Rattle.my_value.specs.RowParts.{RowParts}
-use Rattle.my_params.specs.declared.params.Params.{Params}
-use Rattle.my_statements.specs.Prepared.{StatementView}
 use Rattle.my_grammar.specs.declared.login.Login.{Login}
 use Rattle.my_link.specs.declared.dialer.DialItem.{DialItem}
 use Rattle.my_link.specs.declared.link.ReadItem.{ReadItem}
@@ -11,10 +9,12 @@ use Rattle.my_link.specs.declared.link.WriteItem.{WriteItem}
 use Rattle.my_link.specs.Looks.{Looks}
 use Rattle.my_reading.specs.declared.answer.Answer.TheVariants as answers
 use Rattle.my_reading.specs.declared.call.Call.{Call}
-use Rattle.my_reading.specs.declared.call.Call.TheVariants.{Execute, CloseStmt, NextRow, TakeSet, SkipTaken}
+use Rattle.my_reading.specs.declared.call.Call.TheVariants.{NextRow, TakeSet, SkipTaken}
 use Rattle.my_reading.specs.Calls.{kind_of}
 use Rattle.my_client.specs.declared.poll.After.{After}
 use Rattle.my_client.specs.declared.poll.After.TheVariants as after
+use Rattle.my_script.specs.declared.action.Work.{Work}
+use Rattle.my_script.specs.declared.action.Work.TheVariants as works
 use Rattle.my_script.specs.declared.aim.Aim.{Aim}
 use Rattle.my_script.specs.declared.aim.Aim.TheVariants as aims
 use Rattle.my_script.specs.declared.transcript.Outcome.{Outcome}
@@ -22,7 +22,7 @@ use Rattle.my_script.specs.declared.transcript.Use.{Use}
 use Rattle.my_script.specs.Streams.{is_skip}
 use Rattle.my_link.specs.World.{Plans}
 use Rattle.my_client.specs.Kept.{Asked, Kept, asking, asked_by, first_asked, first_kept}
-use Rattle.my_steps.specs.Grows.{IsRefused, OnConnection, PolledOnce, IsClosed, Begins, BeginsOn, Calls, ConnectShows, Connects, HasPlan, Gathers, GathersOn, Collects, CollectsOn, CollectsAt, PollsOn, PollsCall, Then, Skips, Follows, Reads, ReadsOn, ReadsAt, Where, Items, ItemsOn, ItemsAt, LetsGoWith, LetsGo, ExecutesAt, ClosesAt, GoesOnWith, GoesOn, CancelsWith, Cancels, TellsWith, TellsFields, is_done, has_taken}
+use Rattle.my_steps.specs.Grows.{IsRefused, OnConnection, PolledOnce, IsClosed, Begins, BeginsOn, Calls, ConnectShows, Connects, HasPlan, Gathers, GathersOn, Collects, CollectsOn, CollectsAt, PollsOn, PollsCall, Then, Skips, Follows, Reads, ReadsOn, ReadsAt, Items, ItemsOn, ItemsAt, LetsGoWith, LetsGo, GoesOnWith, GoesOn, CancelsWith, Cancels, TellsWith, TellsFields, is_done, has_taken, WorkAt}
 use Rattle.my_steps.specs.Grows as grows
 use Rattle.my_steps.specs.Handle.{Handle, Absent, Dialing, Joined}
 use Rattle.my_steps.specs.Sums.{failed_use, held_use, quiet}
@@ -100,7 +100,7 @@ module _ (n : ℕ) (is : List ReadItem) (ws : List WriteItem) where
   on R o us (Joined false k x) t go r = refused (Joined false k x) o us t r
   on R o us (Joined true k x) t go r = go k x r
 
-  pub calls_go : (login : Login) (call : Call) (o : Outcome) (us : List Use) (h t : Handle) → Calls login n call h o us t → Goes n is ws h us t
+  calls_go : (login : Login) (call : Call) (o : Outcome) (us : List Use) (h t : Handle) → Calls login n call h o us t → Goes n is ws h us t
   calls_go login call o us h t = on (λ k. BeginsOn k.pending login n call k) o us h t (λ k x. begins_on k.pending login call k x o us t)
 
   -- rows that are gathered
@@ -175,13 +175,8 @@ module _ (n : ℕ) (is : List ReadItem) (ws : List WriteItem) where
   reads_on None aim login k x o us t r = reads_by (has_taken login k) aim login k x o us t r
   reads_on (Some a) aim login k x o us t r = refused (Joined true k x) o us t r
 
-  pub reads_go : (aim : Aim) (login : Login) (o : Outcome) (us : List Use) (h t : Handle) → ReadsAt aim login n h o us t → Goes n is ws h us t
+  reads_go : (aim : Aim) (login : Login) (o : Outcome) (us : List Use) (h t : Handle) → ReadsAt aim login n h o us t → Goes n is ws h us t
   reads_go aim login o us h t = on (λ k. ReadsOn k.pending aim login n k) o us h t (λ k x. reads_on k.pending aim login k x o us t)
-
-  -- what a step does where it finds what it needs
-  pub where_go : (b : Bool) (R : Handle → Outcome → List Use → Handle → Type 0) (o : Outcome) (us : List Use) → ((h t : Handle) → R h o us t → Goes n is ws h us t) → (h t : Handle) → Where b R h o us t → Goes n is ws h us t
-  where_go true R o us does h t r = does h t r
-  where_go false R o us does h t r = refused h o us t r
 
   -- an item
   items_by : (b : Bool) (login : Login) (k : Kept) (x : Looks) (o : Outcome) (us : List Use) (t : Handle) → Items b login n k x o us t → WalksTo n us x k.taken t
@@ -192,22 +187,14 @@ module _ (n : ℕ) (is : List ReadItem) (ws : List WriteItem) where
   items_on None login k x o us t r = items_by (has_taken login k) login k x o us t r
   items_on (Some a) login k x o us t r = refused (Joined true k x) o us t r
 
-  pub items_go : (login : Login) (o : Outcome) (us : List Use) (h t : Handle) → ItemsAt login n h o us t → Goes n is ws h us t
+  items_go : (login : Login) (o : Outcome) (us : List Use) (h t : Handle) → ItemsAt login n h o us t → Goes n is ws h us t
   items_go login o us h t = on (λ k. ItemsOn k.pending login n k) o us h t (λ k x. items_on k.pending login k x o us t)
-
-  pub executes_go : (q : Option StatementView) (login : Login) (params : Params) (o : Outcome) (us : List Use) (h t : Handle) → ExecutesAt q login n params h o us t → Goes n is ws h us t
-  executes_go (Some prepared) login params o us h t r = calls_go login (Execute prepared params) o us h t r
-  executes_go None login params o us h t r = refused h o us t r
-
-  pub closes_go : (q : Option StatementView) (login : Login) (o : Outcome) (us : List Use) (h t : Handle) → ClosesAt q login n h o us t → Goes n is ws h us t
-  closes_go (Some prepared) login o us h t r = calls_go login (CloseStmt prepared.inner.id) o us h t r
-  closes_go None login o us h t r = refused h o us t r
 
   lets_go_with : (q : Option Asked) (k : Kept) (x : Looks) (o : Outcome) (us : List Use) (t : Handle) → LetsGoWith q k x o us t → WalksTo n us x k.taken t
   lets_go_with None k x o us t r = rests true k k x us t r.uses refl r.left
   lets_go_with (Some a) k x o us t r = refused (Joined true k x) o us t r
 
-  pub lets_go : (o : Outcome) (us : List Use) (h t : Handle) → LetsGo h o us t → Goes n is ws h us t
+  lets_go : (o : Outcome) (us : List Use) (h t : Handle) → LetsGo h o us t → Goes n is ws h us t
   lets_go o us h t r = on (λ k. LetsGoWith k.pending k) o us h t (λ k x. lets_go_with k.pending k x o us t) r
 
   polls_call : (b : Bool) (aim : Aim) (login : Login) (a : Asked) (k : Kept) (x : Looks) (o : Outcome) (us : List Use) (t : Handle) → PollsCall b aim login n a k x o us t → WalksTo n us x k.taken t
@@ -237,7 +224,7 @@ module _ (n : ℕ) (is : List ReadItem) (ws : List WriteItem) where
         walks = connects login first_asked first_kept x o used t r;
       })
 
-  pub goes_on_go : (login : Login) (plans : Plans) (aim : Aim) → plans.reads n ≡ Some is → plans.writes n ≡ Some ws → (o : Outcome) (us : List Use) (h t : Handle) → GoesOn login plans aim n h o us t → Goes n is ws h us t
+  goes_on_go : (login : Login) (plans : Plans) (aim : Aim) → plans.reads n ≡ Some is → plans.writes n ≡ Some ws → (o : Outcome) (us : List Use) (h t : Handle) → GoesOn login plans aim n h o us t → Goes n is ws h us t
   goes_on_go login plans aim e f o us Absent t r = refused Absent o us t r
   goes_on_go login plans aim e f o us (Dialing left) t r = Dials (dials_go login (plans.reads n) (plans.writes n) left o us t e f r)
   goes_on_go login plans aim e f o us (Joined false k x) t r = refused (Joined false k x) o us t r
@@ -247,7 +234,7 @@ module _ (n : ℕ) (is : List ReadItem) (ws : List WriteItem) where
   cancels_with None login k x o us t r = refused (Joined true k x) o us t r
   cancels_with (Some a) login k x o us t r = rests _ k _ x us t r.uses refl r.left
 
-  pub cancels_go : (login : Login) (o : Outcome) (us : List Use) (h t : Handle) → Cancels login h o us t → Goes n is ws h us t
+  cancels_go : (login : Login) (o : Outcome) (us : List Use) (h t : Handle) → Cancels login h o us t → Goes n is ws h us t
   cancels_go login o us Absent t r = refused Absent o us t r
   cancels_go login o us (Dialing left) t r = IsLeft r.uses r.left
   cancels_go login o us (Joined false k x) t r = refused (Joined false k x) o us t r
@@ -257,5 +244,16 @@ module _ (n : ℕ) (is : List ReadItem) (ws : List WriteItem) where
   tells_with None login k x o us t r = rests true k k x us t r.uses refl r.left
   tells_with (Some a) login k x o us t r = refused (Joined true k x) o us t r
 
-  pub tells_go : (login : Login) (o : Outcome) (us : List Use) (h t : Handle) → TellsFields login h o us t → Goes n is ws h us t
+  tells_go : (login : Login) (o : Outcome) (us : List Use) (h t : Handle) → TellsFields login h o us t → Goes n is ws h us t
   tells_go login o us h t = on (λ k. TellsWith k.pending login k) o us h t (λ k x. tells_with k.pending login k x o us t)
+
+  -- what a step does at the number
+  pub work_go : (login : Login) (plans : Plans) (work : Work) → plans.reads n ≡ Some is → plans.writes n ≡ Some ws → (o : Outcome) (us : List Use) (h t : Handle) → WorkAt login plans n work h o us t → Goes n is ws h us t
+  work_go login plans (works.Begin call) e f o us h t r = calls_go login call o us h t r
+  work_go login plans (works.Read aim) e f o us h t r = reads_go aim login o us h t r
+  work_go login plans works.Item e f o us h t r = items_go login o us h t r
+  work_go login plans works.LetGo e f o us h t r = lets_go o us h t r
+  work_go login plans works.Miss e f o us h t r = refused h o us t r
+  work_go login plans works.Fields e f o us h t r = tells_go login o us h t r
+  work_go login plans (works.Poll aim) e f o us h t r = goes_on_go login plans aim e f o us h t r
+  work_go login plans works.Cancel e f o us h t r = cancels_go login o us h t r

@@ -28,6 +28,8 @@ use Rattle.my_link.specs.declared.dialer.DialItem.{DialItem}
 use Rattle.my_link.specs.declared.link.ReadItem.{ReadItem}
 use Rattle.my_link.specs.declared.link.WriteItem.{WriteItem}
 use Rattle.my_link.specs.Looks.{Looks}
+use Rattle.my_script.specs.declared.action.Work.TheVariants as works
+use Rattle.my_script.specs.Actions.{found_work}
 use Rattle.my_script.specs.declared.aim.Aim.{Aim}
 use Rattle.my_script.specs.declared.aim.Aim.TheVariants as aims
 use Rattle.my_script.specs.declared.step.Step.{Step}
@@ -46,7 +48,7 @@ use Rattle.my_client.specs.Kept.{Asked, Kept, nothing_kept, told_by, made_of, as
 use Rattle.my_client.specs.Reads.{calls_kept, facts_kept, place_kept, tape_kept}
 use Rattle.my_link.specs.World.{Plans}
 use Rattle.my_steps.specs.Dialing.{Course}
-use Rattle.my_steps.specs.Grows.{Begins, BeginsOn, Calls, Where, Connects, ConnectShows, Dials, Holds, Fails, Links, PolledOnce, Reads, ReadsAt, ReadsOn, StepGrows, TellsFields, TellsWith, answer_shown, shown, handles_after}
+use Rattle.my_steps.specs.Grows.{Begins, BeginsOn, Calls, Connects, ConnectShows, Dials, Holds, Fails, Links, PolledOnce, Reads, ReadsAt, ReadsOn, StepGrows, TellsFields, TellsWith, answer_shown, shown, handles_after, WorkAt}
 use Rattle.my_steps.specs.Handle.{Handle, Joined, at_number, put_at}
 use Rattle.my_run.specs.Headline.{AnswerView, answer_view, answers_of, Headline}
 use Rattle.my_steps.specs.Sums.{quiet}
@@ -280,7 +282,7 @@ module _ (login : Login) (plans : Plans) where
   )
 
   -- where a step finds what it needs
-  found_went : (found : Bool) (call : Call) (k : Kept) (x : Looks) (hs : List Handle) (o : Outcome) (us : List Use) (ms : List Handle) → hs ≡ Joined true k x ∷ [] → k.pending ≡ None → (made : Handle) → Where found (Calls login 0 call) (at_number hs 0) o us made → ms ≡ put_at 0 made hs → (o ≡ NoSuchHandle → ⊥)
+  found_went : (found : Bool) (call : Call) (k : Kept) (x : Looks) (hs : List Handle) (o : Outcome) (us : List Use) (ms : List Handle) → hs ≡ Joined true k x ∷ [] → k.pending ≡ None → (made : Handle) → WorkAt login plans 0 (found_work found (works.Begin call)) (at_number hs 0) o us made → ms ≡ put_at 0 made hs → (o ≡ NoSuchHandle → ⊥)
       → (h : Handle) × (ms ≡ h ∷ []) × Went k call o (taken_in us) h
   found_went true call k x hs o us ms is rest made does others seen = at_went call k x hs o us ms is rest made does others
   found_went false call k x hs o us ms is rest made does others seen = absurd (seen does.outcome)
