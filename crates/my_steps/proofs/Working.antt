@@ -11,7 +11,7 @@ pub mod Readying
 pub mod Resuming
 pub mod Standing
 pub mod Streaming
-use Rattle.std.proofs.Common.{◌≡◌, ◌<◌, ◌⊎◌, inl, inr, true, ℕ, zero, suc, List, [], ◌∷◌, length, get_or, slice_set, false, refl, sym, ap, ◌∙◌, subst, arith}
+use Rattle.std.proofs.Common.{◌≡◌, ◌<◌, ◌⊎◌, inl, inr, true, ℕ, suc, List, [], ◌∷◌, length, get_or, slice_set, false, refl, sym, ◌∙◌, subst, arith}
 use Rattle.my_grammar.specs.declared.login.Login.{Login}
 use Rattle.my_reading.specs.declared.call.Call.{Call}
 use Rattle.my_link.specs.Looks.{Looks}
@@ -25,10 +25,10 @@ use Rattle.my_client.specs.Conn.{kept_of}
 use Rattle.my_client.specs.Kept.{Kept}
 use Rattle.my_steps.specs.declared.slot.Slot.{Slot}
 use Rattle.my_steps.specs.declared.slot.Slot.TheVariants.{Gone, Held, There, Ended}
-use Rattle.my_steps.specs.declared.work.Work.{Work}
-use Rattle.my_steps.specs.declared.work.Work.TheVariants as works
-use Rattle.my_steps.specs.Did.{Did, DidAt, Stepped, does_at, untold}
-use Rattle.my_steps.specs.Grows.{At, Cancels, IsRefused}
+use Rattle.my_script.specs.declared.action.Work.{Work}
+use Rattle.my_script.specs.declared.action.Work.TheVariants as works
+use Rattle.my_steps.specs.Did.{Did, DidAt, Stepped, untold}
+use Rattle.my_steps.specs.Grows.{At, Cancels, IsRefused, WorkAt}
 use Rattle.my_steps.specs.Handle.{Handle, Absent, Dialing, Joined}
 use Rattle.my_steps.specs.Keeps.{StandsBy, IsStood, AreStood, IsAwaited, AreAwaited}
 use Rattle.my_steps.specs.Slot.{HasLink, handle_of, handles_in}
@@ -36,14 +36,14 @@ use Rattle.my_steps.proofs.Working.Awaiting.{linked_awaited, linked_handle}
 use Rattle.my_steps.proofs.Working.Numbers.{set_twice, stepped_at, stepped_past}
 
 -- a work by what it is
-pub work_is : {L : Type 0} (look : L → Looks) (login : Login) (n : ℕ) (work known : Work) (o : Outcome) (us : List Use) (s t : Slot L) → work ≡ known → Did look login (does_at login untold n known) o us s t → Did look login (does_at login untold n work) o us s t
-work_is look login n work known o us s t e w = subst (λ (x : Work). Did look login (does_at login untold n x) o us s t) (sym e) w
+pub work_is : {L : Type 0} (look : L → Looks) (login : Login) (n : ℕ) (work known : Work) (o : Outcome) (us : List Use) (s t : Slot L) → work ≡ known → Did look login (WorkAt login untold n known) o us s t → Did look login (WorkAt login untold n work) o us s t
+work_is look login n work known o us s t e w = subst (λ (x : Work). Did look login (WorkAt login untold n x) o us s t) (sym e) w
 
-pub work_at_is : {L : Type 0} (look : L → Looks) (login : Login) (plans before later : Plans) (n : ℕ) (work known : Work) (o : Outcome) (us : List Use) (s t : Slot L) → work ≡ known → DidAt look login plans before later n (does_at login plans n known) o us s t → DidAt look login plans before later n (does_at login plans n work) o us s t
-work_at_is look login plans before later n work known o us s t e w = subst (λ (x : Work). DidAt look login plans before later n (does_at login plans n x) o us s t) (sym e) w
+pub work_at_is : {L : Type 0} (look : L → Looks) (login : Login) (plans before later : Plans) (n : ℕ) (work known : Work) (o : Outcome) (us : List Use) (s t : Slot L) → work ≡ known → DidAt look login plans before later n (WorkAt login plans n known) o us s t → DidAt look login plans before later n (WorkAt login plans n work) o us s t
+work_at_is look login plans before later n work known o us s t e w = subst (λ (x : Work). DidAt look login plans before later n (WorkAt login plans n x) o us s t) (sym e) w
 
 -- where no connection is there, each work is refused
-absent_refuses : (login : Login) (plans : Plans) (n : ℕ) (work : Work) (o : Outcome) (us : List Use) → IsRefused Absent o us Absent → does_at login plans n work Absent o us Absent
+absent_refuses : (login : Login) (plans : Plans) (n : ℕ) (work : Work) (o : Outcome) (us : List Use) → IsRefused Absent o us Absent → WorkAt login plans n work Absent o us Absent
 absent_refuses login plans n (works.Begin call) o us r = r
 absent_refuses login plans n (works.Read aim) o us r = r
 absent_refuses login plans n works.Item o us r = r
@@ -53,7 +53,7 @@ absent_refuses login plans n works.Fields o us r = r
 absent_refuses login plans n (works.Poll aim) o us r = r
 absent_refuses login plans n works.Cancel o us r = r
 
-ended_refuses : (login : Login) (plans : Plans) (n : ℕ) (work : Work) (k : Kept) (x : Looks) (o : Outcome) (us : List Use) → IsRefused (Joined false k x) o us (Joined false k x) → does_at login plans n work (Joined false k x) o us (Joined false k x)
+ended_refuses : (login : Login) (plans : Plans) (n : ℕ) (work : Work) (k : Kept) (x : Looks) (o : Outcome) (us : List Use) → IsRefused (Joined false k x) o us (Joined false k x) → WorkAt login plans n work (Joined false k x) o us (Joined false k x)
 ended_refuses login plans n (works.Begin call) k x o us r = r
 ended_refuses login plans n (works.Read aim) k x o us r = r
 ended_refuses login plans n works.Item k x o us r = r
@@ -64,7 +64,7 @@ ended_refuses login plans n (works.Poll aim) k x o us r = r
 ended_refuses login plans n works.Cancel k x o us r = r
 
 -- a connection's work doesn't read the plans
-on_plans : (login : Login) (plans : Plans) (n : ℕ) (work : Work) (k : Kept) (x : Looks) (o : Outcome) (us : List Use) (t : Handle) → does_at login untold n work (Joined true k x) o us t → does_at login plans n work (Joined true k x) o us t
+on_plans : (login : Login) (plans : Plans) (n : ℕ) (work : Work) (k : Kept) (x : Looks) (o : Outcome) (us : List Use) (t : Handle) → WorkAt login untold n work (Joined true k x) o us t → WorkAt login plans n work (Joined true k x) o us t
 on_plans login plans n (works.Begin call) k x o us t r = r
 on_plans login plans n (works.Read aim) k x o us t r = r
 on_plans login plans n works.Item k x o us t r = r
@@ -78,35 +78,35 @@ refusal : (h : Handle) (o : Outcome) (us : List Use) → o ≡ NoSuchHandle → 
 refusal h o us e f = record { outcome = e; uses = f; same = refl }
 
 -- where the number's slot is known
-slot_known : {L : Type 0} (look : L → Looks) (login : Login) (plans before later : Plans) (n : ℕ) (work : Work) (o : Outcome) (us : List Use) (s known t : Slot L) → s ≡ known → DidAt look login plans before later n (does_at login plans n work) o us known t → DidAt look login plans before later n (does_at login plans n work) o us s t
-slot_known {L} look login plans before later n work o us s known t e w = subst (λ (x : Slot L). DidAt look login plans before later n (does_at login plans n work) o us x t) (sym e) w
+slot_known : {L : Type 0} (look : L → Looks) (login : Login) (plans before later : Plans) (n : ℕ) (work : Work) (o : Outcome) (us : List Use) (s known t : Slot L) → s ≡ known → DidAt look login plans before later n (WorkAt login plans n work) o us known t → DidAt look login plans before later n (WorkAt login plans n work) o us s t
+slot_known {L} look login plans before later n work o us s known t e w = subst (λ (x : Slot L). DidAt look login plans before later n (WorkAt login plans n work) o us x t) (sym e) w
 
-pub gone_did : {L : Type 0} (look : L → Looks) (login : Login) (plans now : Plans) (n : ℕ) (work : Work) (o : Outcome) (us : List Use) (s : Slot L) → s ≡ Gone → o ≡ NoSuchHandle → us ≡ [] → DidAt look login plans now now n (does_at login plans n work) o us s Gone
+pub gone_did : {L : Type 0} (look : L → Looks) (login : Login) (plans now : Plans) (n : ℕ) (work : Work) (o : Outcome) (us : List Use) (s : Slot L) → s ≡ Gone → o ≡ NoSuchHandle → us ≡ [] → DidAt look login plans now now n (WorkAt login plans n work) o us s Gone
 gone_did look login plans now n work o us s is e f = slot_known look login plans now now n work o us s Gone Gone is (record { stood = tt; awaited = tt; does = absent_refuses login plans n work o us (refusal Absent o us e f) })
 
-pub ended_did : {L : Type 0} (look : L → Looks) (login : Login) (plans now : Plans) (n : ℕ) (work : Work) (o : Outcome) (us : List Use) (s : Slot L) (c : TapedConn L) → s ≡ Ended c → o ≡ NoSuchHandle → us ≡ [] → IsStood login s → DidAt look login plans now now n (does_at login plans n work) o us s (Ended c)
+pub ended_did : {L : Type 0} (look : L → Looks) (login : Login) (plans now : Plans) (n : ℕ) (work : Work) (o : Outcome) (us : List Use) (s : Slot L) (c : TapedConn L) → s ≡ Ended c → o ≡ NoSuchHandle → us ≡ [] → IsStood login s → DidAt look login plans now now n (WorkAt login plans n work) o us s (Ended c)
 ended_did look login plans now n work o us s c is e f w = slot_known look login plans now now n work o us s (Ended c) (Ended c) is (record { stood = subst (IsStood login) is w; awaited = tt; does = ended_refuses login plans n work (kept_of c) (look c.link) o us (refusal (Joined false (kept_of c) (look c.link)) o us e f) })
 
-pub there_did : {L : Type 0} (look : L → Looks) (login : Login) (plans now : Plans) (n : ℕ) (work : Work) (o : Outcome) (us : List Use) (s : Slot L) (c : TapedConn L) (t : Slot L) → s ≡ There c → HasLink t → IsStood login s → (StandsBy login c → Did look login (does_at login untold n work) o us (There c) t) → DidAt look login plans now now n (does_at login plans n work) o us s t
+pub there_did : {L : Type 0} (look : L → Looks) (login : Login) (plans now : Plans) (n : ℕ) (work : Work) (o : Outcome) (us : List Use) (s : Slot L) (c : TapedConn L) (t : Slot L) → s ≡ There c → HasLink t → IsStood login s → (StandsBy login c → Did look login (WorkAt login untold n work) o us (There c) t) → DidAt look login plans now now n (WorkAt login plans n work) o us s t
 there_did {L} look login plans now n work o us s c t is has w f =
-    let did : Did look login (does_at login untold n work) o us (There c) t = f (subst (IsStood login) is w) in
+    let did : Did look login (WorkAt login untold n work) o us (There c) t = f (subst (IsStood login) is w) in
     slot_known look login plans now now n work o us s (There c) t is (record {
       stood = did.stood;
       awaited = linked_awaited plans now n t has;
-      does = subst (does_at login plans n work (Joined true (kept_of c) (look c.link)) o us) (linked_handle look (now.dials n) t has) (on_plans login plans n work (kept_of c) (look c.link) o us (handle_of look t) did.does);
+      does = subst (WorkAt login plans n work (Joined true (kept_of c) (look c.link)) o us) (linked_handle look (now.dials n) t has) (on_plans login plans n work (kept_of c) (look c.link) o us (handle_of look t) did.does);
     })
 
 -- a held dial is what a poll and a cancelling name; each other work is refused there
 abbrev IsHeldBack : Work → Type 0
 IsHeldBack work = ((call : Call) × (work ≡ works.Begin call)) ⊎ (((aim : Aim) × (work ≡ works.Read aim)) ⊎ ((work ≡ works.Item) ⊎ ((work ≡ works.LetGo) ⊎ ((work ≡ works.Miss) ⊎ (work ≡ works.Fields)))))
 
-pub held_did : {L : Type 0} (look : L → Looks) (login : Login) (plans now : Plans) (n : ℕ) (work : Work) (o : Outcome) (us : List Use) → IsHeldBack work → o ≡ NoSuchHandle → us ≡ [] → IsAwaited {L = L} plans now n Held → DidAt {L = L} look login plans now now n (does_at login plans n work) o us Held Held
+pub held_did : {L : Type 0} (look : L → Looks) (login : Login) (plans now : Plans) (n : ℕ) (work : Work) (o : Outcome) (us : List Use) → IsHeldBack work → o ≡ NoSuchHandle → us ≡ [] → IsAwaited {L = L} plans now n Held → DidAt {L = L} look login plans now now n (WorkAt login plans n work) o us Held Held
 held_did {L} look login plans now n work o us is e f w = by_work is
   where
-    known : (z : Work) → work ≡ z → does_at login plans n z (Dialing (now.dials n)) o us (Dialing (now.dials n)) → DidAt {L = L} look login plans now now n (does_at login plans n work) o us Held Held
+    known : (z : Work) → work ≡ z → WorkAt login plans n z (Dialing (now.dials n)) o us (Dialing (now.dials n)) → DidAt {L = L} look login plans now now n (WorkAt login plans n work) o us Held Held
     known z same r = work_at_is {L = L} look login plans now now n work z o us Held Held same (record { stood = tt; awaited = w; does = r })
 
-    by_work : IsHeldBack work → DidAt {L = L} look login plans now now n (does_at login plans n work) o us Held Held
+    by_work : IsHeldBack work → DidAt {L = L} look login plans now now n (WorkAt login plans n work) o us Held Held
     by_work (inl r) = known (works.Begin r.0) r.1 (refusal (Dialing (now.dials n)) o us e f)
     by_work (inr (inl r)) = known (works.Read r.0) r.1 (refusal (Dialing (now.dials n)) o us e f)
     by_work (inr (inr (inl r))) = known works.Item r (refusal (Dialing (now.dials n)) o us e f)
@@ -118,12 +118,12 @@ held_did {L} look login plans now n work o us is e f w = by_work is
 pub dropped_did : {L : Type 0} (look : L → Looks) (login : Login) (plans now : Plans) (n : ℕ) (o : Outcome) (us : List Use) → o ≡ Done → us ≡ [] → DidAt {L = L} look login plans now now n (Cancels login) o us Held Gone
 dropped_did look login plans now n o us e f = record { stood = tt; awaited = tt; does = record { outcome = e; uses = f; left = refl } }
 
-pub in_held : {L : Type 0} (look : L → Looks) (login : Login) (plans before later : Plans) (n : ℕ) (work : Work) (o : Outcome) (us : List Use) (s t : Slot L) → s ≡ Held → DidAt look login plans before later n (does_at login plans n work) o us Held t → DidAt look login plans before later n (does_at login plans n work) o us s t
+pub in_held : {L : Type 0} (look : L → Looks) (login : Login) (plans before later : Plans) (n : ℕ) (work : Work) (o : Outcome) (us : List Use) (s t : Slot L) → s ≡ Held → DidAt look login plans before later n (WorkAt login plans n work) o us Held t → DidAt look login plans before later n (WorkAt login plans n work) o us s t
 in_held look login plans before later n work o us s t e w = slot_known look login plans before later n work o us s Held t e w
 
 -- a number that no step took
-pub work_past : {L : Type 0} (look : L → Looks) (login : Login) (plans now : Plans) (n : ℕ) (work : Work) (o : Outcome) (us : List Use) (ss : List (Slot L)) → o ≡ NoSuchHandle → us ≡ [] → length ss < suc n → AreAwaited plans now 0 ss → AreStood login ss → Stepped login ss ss (AreAwaited plans now 0 ss × At n (does_at login plans n work) (handles_in look now ss) o us (handles_in look now ss))
-work_past look login plans now n work o us ss e f past awaited st = stepped_past look login plans now n (does_at login plans n work) o us ss (omega (arith, past)) (absent_refuses login plans n work o us (refusal Absent o us e f)) awaited st
+pub work_past : {L : Type 0} (look : L → Looks) (login : Login) (plans now : Plans) (n : ℕ) (work : Work) (o : Outcome) (us : List Use) (ss : List (Slot L)) → o ≡ NoSuchHandle → us ≡ [] → length ss < suc n → AreAwaited plans now 0 ss → AreStood login ss → Stepped login ss ss (AreAwaited plans now 0 ss × At n (WorkAt login plans n work) (handles_in look now ss) o us (handles_in look now ss))
+work_past look login plans now n work o us ss e f past awaited st = stepped_past look login plans now n (WorkAt login plans n work) o us ss (omega (arith, past)) (absent_refuses login plans n work o us (refusal Absent o us e f)) awaited st
 
-pub work_put : {L : Type 0} (look : L → Looks) (login : Login) (plans before later : Plans) (n : ℕ) (work : Work) (o : Outcome) (us : List Use) (ss ts : List (Slot L)) (old new : Slot L) → n < length ss → old ≡ get_or ss n old → ts ≡ slice_set (slice_set ss n Gone) n new → SameBut n before later → DidAt look login plans before later n (does_at login plans n work) o us old new → AreAwaited plans before 0 ss → AreStood login ss → Stepped login ss ts (AreAwaited plans later 0 ts × At n (does_at login plans n work) (handles_in look before ss) o us (handles_in look later ts))
-work_put {L} look login plans before later n work o us ss ts old new h e is same w awaited st = subst (λ (xs : List (Slot L)). Stepped login ss xs (AreAwaited plans later 0 xs × At n (does_at login plans n work) (handles_in look before ss) o us (handles_in look later xs))) (sym (is ∙ set_twice n ss Gone new)) (stepped_at look login plans before later n (does_at login plans n work) o us ss old new h e same w awaited st)
+pub work_put : {L : Type 0} (look : L → Looks) (login : Login) (plans before later : Plans) (n : ℕ) (work : Work) (o : Outcome) (us : List Use) (ss ts : List (Slot L)) (old new : Slot L) → n < length ss → old ≡ get_or ss n old → ts ≡ slice_set (slice_set ss n Gone) n new → SameBut n before later → DidAt look login plans before later n (WorkAt login plans n work) o us old new → AreAwaited plans before 0 ss → AreStood login ss → Stepped login ss ts (AreAwaited plans later 0 ts × At n (WorkAt login plans n work) (handles_in look before ss) o us (handles_in look later ts))
+work_put {L} look login plans before later n work o us ss ts old new h e is same w awaited st = subst (λ (xs : List (Slot L)). Stepped login ss xs (AreAwaited plans later 0 xs × At n (WorkAt login plans n work) (handles_in look before ss) o us (handles_in look later xs))) (sym (is ∙ set_twice n ss Gone new)) (stepped_at look login plans before later n (WorkAt login plans n work) o us ss old new h e same w awaited st)

@@ -7,8 +7,8 @@ use Rattle.my_script.specs.declared.step.Step.TheVariants as steps
 use Rattle.my_script.specs.Streams.{target}
 use Rattle.my_steps.specs.declared.slot.Slot.{Slot}
 use Rattle.my_steps.specs.declared.slot.Slot.TheVariants.{Gone, Held, There, Ended}
-use Rattle.my_steps.specs.declared.step.Order.{Order}
-use Rattle.my_steps.specs.declared.step.Order.TheVariants as orders
+use Rattle.my_script.specs.declared.action.Action.{Action}
+use Rattle.my_script.specs.declared.action.Action.TheVariants as actions
 use Rattle.my_steps.specs.Handle.{Handle, Absent, Dialing, Joined, at_number}
 
 -- the number of a step's connection, where `conn` takes this next one; the steps of the world have none
@@ -16,10 +16,10 @@ abbrev pub number_of : Step → ℕ → Option ℕ
 number_of steps.Conn next = Some next
 number_of step next = target step
 
-abbrev pub number_by : Order → ℕ → Option ℕ
-number_by orders.Dial next = Some next
-number_by (orders.Move line) next = None
-number_by (orders.Visit e) next = Some e.number
+abbrev pub number_by : Action → ℕ → Option ℕ
+number_by actions.Dial next = Some next
+number_by (actions.Move line) next = None
+number_by (actions.Visit n work) next = Some n
 
 -- What a dial of this number did: none was made, or it gave the link that is at the number; it failed; it wasn't ready;
 -- it gave a link for which memory lacked, so that it was handed back at once, before anything was sent; or what was

@@ -5,7 +5,7 @@ ghost use Rattle.my_client.specs.declared.tape.Said.TheVariants as says;
 ghost use Rattle.my_client.specs.Conn.{EachEnded, kept_of};
 ghost use Rattle.my_steps.specs.Did.{EachPolled, EachDid};
 ghost use Rattle.my_steps.specs.declared.slot.Slot.TheVariants.{There as ThereAt};
-ghost use Rattle.my_steps.specs.declared.work.Work.TheVariants.{Begin as BeginWork};
+ghost use Rattle.my_script.specs.declared.action.Work.TheVariants.{Begin as BeginWork};
 
 use crate::outcome::{StepResult, shown, unused, used_once};
 use my_client::{Said, TapedConn, ask, drive, note};

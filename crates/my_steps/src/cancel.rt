@@ -1,7 +1,7 @@
 //! A step that cancels a connection's open call.
 ghost use Rattle.my_steps.specs.Did.{EachDid};
 ghost use Rattle.my_steps.specs.Slot.{placed};
-ghost use Rattle.my_steps.specs.declared.work.Work.TheVariants.{Cancel as CancelWork};
+ghost use Rattle.my_script.specs.declared.action.Work.TheVariants.{Cancel as CancelWork};
 
 use crate::outcome::{Worked, unused};
 use my_client::{TapedConn, cancel_call, is_connecting};

@@ -2,7 +2,7 @@
 ghost use Rattle.std.specs.Prelude.{IfOk};
 ghost use Rattle.my_steps.specs.Did.{EachDid};
 ghost use Rattle.my_steps.specs.declared.slot.Slot.TheVariants.{There as ThereAt};
-ghost use Rattle.my_steps.specs.declared.work.Work.TheVariants.{Fields as FieldsWork};
+ghost use Rattle.my_script.specs.declared.action.Work.TheVariants.{Fields as FieldsWork};
 
 use crate::outcome::{StepResult, unused};
 use my_client::{TapedConn, last_ok};

@@ -3,7 +3,7 @@ ghost use Rattle.std.specs.Prelude.{IfOk};
 ghost use Rattle.my_steps.specs.Did.{EachDid};
 ghost use Rattle.my_steps.specs.Ready.{ConnReady};
 ghost use Rattle.my_steps.specs.Slot.{placed};
-ghost use Rattle.my_steps.specs.declared.work.Work.TheVariants.{Poll as PollWork};
+ghost use Rattle.my_script.specs.declared.action.Work.TheVariants.{Poll as PollWork};
 
 use crate::begin::poll_open;
 use crate::connect::poll_connect;

@@ -10,7 +10,7 @@ ghost use Rattle.my_steps.specs.Grows.{is_done};
 ghost use Rattle.my_steps.specs.Ready.{ConnReady};
 ghost use Rattle.my_steps.specs.Streaming.{EachFollows};
 ghost use Rattle.my_steps.specs.declared.slot.Slot.TheVariants.{There as ThereAt};
-ghost use Rattle.my_steps.specs.declared.work.Work.TheVariants.{Read as ReadWork, Item as ItemWork, LetGo as LetGoWork};
+ghost use Rattle.my_script.specs.declared.action.Work.TheVariants.{Read as ReadWork, Item as ItemWork, LetGo as LetGoWork};
 
 use crate::begin::begin_call;
 use crate::gather::collect_call;

@@ -3,9 +3,9 @@ ghost use Rattle.std.specs.Prelude.{◌≡◌, length, Some, true, IfOk, OnOk};
 ghost use Rattle.my_session.specs.Login.{login_of};
 ghost use Rattle.my_link.specs.World.{SameBut};
 ghost use Rattle.my_steps.specs.Dialing.{DialsTo, chance_dialed, dial_met};
-ghost use Rattle.my_steps.specs.Did.{does_at, EachDid, DoesAt, StepsOn, is_poll, redials};
+ghost use Rattle.my_steps.specs.Did.{EachDid, DoesAt, StepsOn, is_poll, redials};
 ghost use Rattle.my_steps.specs.Slot.{HasLink, handle_at, handle_of, placed};
-ghost use Rattle.my_steps.specs.Grows.{At};
+ghost use Rattle.my_steps.specs.Grows.{At, WorkAt};
 ghost use Rattle.my_steps.specs.Midst.{InMidst, LinkStays, MayTry, is_linked};
 ghost use Rattle.my_steps.specs.Ready.{ConnReady, SlotReady, AreReady};
 ghost use Rattle.my_steps.specs.declared.slot.Slot.TheVariants.{Held as HeldAt};
@@ -22,36 +22,9 @@ use my_client::TapedConn;
 use my_frame::NoMemory;
 use my_link::{Link, World};
 use my_opts::Opts;
-use my_reading::Call;
-use my_script::{Aim, Outcome};
+use my_script::{Outcome, Work};
 use std::alloc::Global;
 use std::mem;
-
-/// What a step does at its number.
-#[derive(Drop)]
-pub(crate) enum Work {
-    /// Begins a call.
-    Begin(Call),
-    /// Reads what this aim says, once the rest of a set that a stream took is passed over.
-    Read(Aim),
-    /// Reads on in a stream's set.
-    Item,
-    /// Lets a stream go.
-    LetGo,
-    /// Finds no stream there, no transaction, or no statement.
-    Miss,
-    Fields,
-    /// Goes on with the open call, which has this aim.
-    Poll(Aim),
-    Cancel,
-}
-
-/// A step's work, and the number that it names.
-#[derive(Drop)]
-pub(crate) struct Errand {
-    pub number: u64,
-    pub work: Work,
-}
 
 // On a connection that is there.
 fn work_there<L: Link>(
@@ -209,7 +182,7 @@ pub(crate) fn work_at<N: World>(
         d.uses.items)) }
     ensures steps { IfOk result (λ d.
         StepsOn N.L.looks (login_of opts.now) (N.seen world.old).plans (N.seen world.new).plans
-        slots.old.items slots.new.items (λ plans. At number (does_at (login_of opts.now) plans number work)) d) }
+        slots.old.items slots.new.items (λ plans. At number (WorkAt (login_of opts.now) plans number work)) d) }
 {
     if number >= slots.len() as u64 {
         drop(work);

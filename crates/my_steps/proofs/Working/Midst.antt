@@ -8,11 +8,12 @@ use Rattle.my_script.specs.declared.aim.Aim.{Aim}
 use Rattle.my_script.specs.declared.step.Step.{Step}
 use Rattle.my_script.specs.declared.step.Step.TheVariants as steps
 use Rattle.my_steps.specs.declared.slot.Slot.{Slot}
-use Rattle.my_steps.specs.declared.slot.Slot.TheVariants.{Gone, Held, There, Ended}
-use Rattle.my_steps.specs.declared.step.Order.{Order}
-use Rattle.my_steps.specs.declared.work.Work.{Work}
+use Rattle.my_steps.specs.declared.slot.Slot.TheVariants.{Gone}
+use Rattle.my_script.specs.declared.action.Action.{Action}
+use Rattle.my_script.specs.declared.action.Work.{Work}
 use Rattle.my_steps.specs.Dialing.{has_dialed}
-use Rattle.my_steps.specs.Did.{order_of, redials}
+use Rattle.my_script.specs.Actions.{action_of}
+use Rattle.my_steps.specs.Did.{redials}
 use Rattle.my_steps.specs.Handle.{Handle}
 use Rattle.my_steps.specs.Midst.{number_of, number_by, DialTried, Kept, Unused, Untold, MayDial, TriesDial, MayTry, is_linked, LinkStays, slot_at, InMidst}
 use Rattle.my_steps.specs.Orders.{dials_by}
@@ -51,9 +52,9 @@ slot_links {L} look s known t work e w = subst (λ (x : Slot L). LinkStays (redi
 pub midst_same : {L : Type 0} (dials : Bool) (number : Option ℕ) (world : WorldSeen) (ss ts : List (Slot L)) → ts ≡ ss → InMidst dials number world world ss ts
 midst_same {L} dials number world ss ts e = subst (λ (xs : List (Slot L)). InMidst dials number world world ss xs) (sym e) (record { others = λ n apart. refl; links = λ off n. refl; tried = may_same dials number world.dials world.back })
 
-pub midst_moved : {L : Type 0} (order known : Order) (hs : List Handle) (next : ℕ) (before later : WorldSeen) (ss : List (Slot L)) → order ≡ known → dials_by known hs ≡ false → later.dials ≡ before.dials → later.back ≡ before.back → InMidst (dials_by order hs) (number_by order next) before later ss ss
+pub midst_moved : {L : Type 0} (order known : Action) (hs : List Handle) (next : ℕ) (before later : WorldSeen) (ss : List (Slot L)) → order ≡ known → dials_by known hs ≡ false → later.dials ≡ before.dials → later.back ≡ before.back → InMidst (dials_by order hs) (number_by order next) before later ss ss
 midst_moved order known hs next before later ss e off d b =
-    let none : dials_by order hs ≡ false = ap (λ (o : Order). dials_by o hs) e ∙ off in
+    let none : dials_by order hs ≡ false = ap (λ (o : Action). dials_by o hs) e ∙ off in
     record {
       others = λ n apart. refl;
       links = λ off n. refl;
@@ -111,14 +112,14 @@ midst_push {L} n before later ss ts new is at w = record {
 }
 
 -- of a step by its order
-number_is : (found : Bool) (aim : Aim) (named : Option StatementView) (step : Step) (next : ℕ) → number_by (order_of found aim named step) next ≡ number_of step next
+number_is : (found : Bool) (aim : Aim) (named : Option StatementView) (step : Step) (next : ℕ) → number_by (action_of found aim named step) next ≡ number_of step next
 number_is found aim named steps.Conn next = refl
 number_is found aim named step next = refl
 
-pub step_midst : {L : Type 0} (found : Bool) (aim : Aim) (named : Option StatementView) (step : Step) (order : Order) (hs gs : List Handle) (next : ℕ) (first before later : WorldSeen) (ss ts : List (Slot L)) → order ≡ order_of found aim named step → hs ≡ gs → before.dials ≡ first.dials → before.back ≡ first.back → InMidst (dials_by order hs) (number_by order next) before later ss ts → InMidst (has_dialed step gs) (number_of step next) first later ss ts
+pub step_midst : {L : Type 0} (found : Bool) (aim : Aim) (named : Option StatementView) (step : Step) (order : Action) (hs gs : List Handle) (next : ℕ) (first before later : WorldSeen) (ss ts : List (Slot L)) → order ≡ action_of found aim named step → hs ≡ gs → before.dials ≡ first.dials → before.back ≡ first.back → InMidst (dials_by order hs) (number_by order next) before later ss ts → InMidst (has_dialed step gs) (number_of step next) first later ss ts
 step_midst {L} found aim named step order hs gs next first before later ss ts is same d b w =
-    let dials : dials_by order hs ≡ has_dialed step gs = ap (λ (o : Order). dials_by o hs) is ∙ dials_is found aim named step hs ∙ ap (has_dialed step) same in
-    let number : number_by order next ≡ number_of step next = ap (λ (o : Order). number_by o next) is ∙ number_is found aim named step next in
+    let dials : dials_by order hs ≡ has_dialed step gs = ap (λ (o : Action). dials_by o hs) is ∙ dials_is found aim named step hs ∙ ap (has_dialed step) same in
+    let number : number_by order next ≡ number_of step next = ap (λ (o : Action). number_by o next) is ∙ number_is found aim named step next in
     let so : InMidst (has_dialed step gs) (number_of step next) before later ss ts =
     subst (λ (b : Bool). InMidst b (number_of step next) before later ss ts) dials
     (subst (λ (q : Option ℕ). InMidst (dials_by order hs) q before later ss ts) number w) in

@@ -5,7 +5,7 @@ use Rattle.my_steps.specs.declared.slot.Slot.{Slot}
 use Rattle.my_script.specs.declared.transcript.Outcome.{Outcome}
 use Rattle.my_script.specs.declared.transcript.Use.{Use}
 use Rattle.my_link.specs.World.{Plans, SameBut}
-use Rattle.my_steps.specs.declared.work.Work.{Work}
+use Rattle.my_script.specs.declared.action.Work.{Work}
 use Rattle.my_steps.specs.Did.{DidAt, Stepped, is_poll, redials}
 use Rattle.my_steps.specs.Grows.{At}
 use Rattle.my_steps.specs.Handle.{Handle, Absent, at_number, put_at}

@@ -18,7 +18,7 @@ use Rattle.my_steps.specs.declared.gather.Gathering.TheVariants.{On}
 use Rattle.my_steps.specs.declared.outcome.StepResult.{StepResult}
 use Rattle.my_steps.specs.declared.slot.Slot.{Slot}
 use Rattle.my_steps.specs.declared.slot.Slot.TheVariants.{There}
-use Rattle.my_steps.specs.declared.work.Work.{Work}
+use Rattle.my_script.specs.declared.action.Work.{Work}
 use Rattle.my_steps.specs.Did.{EachDid, EachPolled}
 use Rattle.my_steps.specs.Gathering.{Goes}
 use Rattle.my_steps.specs.Ready.{AreReady, AskedReady, ConnReady, RestsBy, SlotReady, StaysOpen}

@@ -1,6 +1,6 @@
 use Rattle.std.proofs.Common.{length, refl}
 use Rattle.my_session.specs.Login.{login_of}
-use Rattle.my_steps.specs.declared.step.Order.TheVariants.{Move}
+use Rattle.my_script.specs.declared.action.Action.TheVariants.{Move}
 use Rattle.my_steps.specs.Slot.{handles_in}
 use Rattle.my_steps.proofs.Working.Midst.{midst_moved}
 use Rattle.my_steps.proofs.Working.Numbers.{did_kept}

@@ -1,7 +1,7 @@
 use Rattle.std.proofs.Common.{◌≡◌, true, false, not, None, is_none, rules, ◌∙◌}
 use Rattle.std.proofs.lemmas.Result.{IfOk-weaker}
 use Rattle.my_reading.specs.declared.call.Call.TheVariants.{SkipTaken}
-use Rattle.my_steps.specs.declared.work.Work.TheVariants.{Begin}
+use Rattle.my_script.specs.declared.action.Work.TheVariants.{Begin}
 use Rattle.my_steps.proofs.Working.Readying.{ready_after}
 use Rattle.my_steps.proofs.Working.Streaming.{read_at_once, read_refused, read_then, taken_so}
 use Rattle.my_steps.proofs.stream.read_call.Goals as goal

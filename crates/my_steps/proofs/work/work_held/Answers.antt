@@ -2,8 +2,8 @@ use Rattle.std.proofs.Common.{Some, sym, subst}
 use Rattle.std.proofs.lemmas.Result.{IfOk-weaker}
 use Rattle.my_session.specs.Login.{login_of}
 use Rattle.my_steps.specs.declared.slot.Slot.TheVariants.{Gone, Held}
-use Rattle.my_steps.specs.declared.work.Work.{Work}
-use Rattle.my_steps.specs.declared.work.Work.TheVariants as works
+use Rattle.my_script.specs.declared.action.Work.{Work}
+use Rattle.my_script.specs.declared.action.Work.TheVariants as works
 use Rattle.my_steps.specs.Did.{is_poll}
 use Rattle.my_steps.specs.Midst.{MayTry}
 use Rattle.my_steps.proofs.Working.Resuming.{dial_resumed}

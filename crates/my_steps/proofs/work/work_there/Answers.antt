@@ -1,6 +1,6 @@
 use Rattle.std.proofs.lemmas.Result.{IfOk-weaker}
 use Rattle.my_steps.specs.declared.slot.Slot.TheVariants.{There}
-use Rattle.my_steps.specs.declared.work.Work.TheVariants as works
+use Rattle.my_script.specs.declared.action.Work.TheVariants as works
 use Rattle.my_steps.specs.Slot.{placed}
 use Rattle.my_steps.proofs.Working.Streaming.{missed}
 use Rattle.my_steps.proofs.Working.{work_is}
