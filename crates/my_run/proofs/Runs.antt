@@ -5,7 +5,7 @@ use Rattle.std.proofs.Common.{◌≤◌, ℕ, ◌≡◌, ◌+◌, ◌<◌, ◌&&
 use Rattle.std.proofs.lemmas.List.{length-append, map-append}
 use Rattle.my_grammar.specs.declared.login.Login.{Login}
 use Rattle.my_steps.specs.declared.slot.Slot.{Slot}
-use Rattle.my_steps.specs.declared.slot.Slot.TheVariants.{Gone, Held, There, Ended}
+use Rattle.my_steps.specs.declared.slot.Slot.TheVariants.{Gone, Held, Connecting, There, Gathering, Ended}
 use Rattle.my_script.specs.declared.aim.Aim.{Aim}
 use Rattle.my_script.specs.declared.step.Step.{Step}
 use Rattle.my_script.specs.declared.step.Step.TheVariants as steps
@@ -28,9 +28,9 @@ use Rattle.my_link.specs.declared.dialer.DialItem.{DialItem}
 use Rattle.my_link.specs.World.{Plans, SamePlans, WorldSeen}
 use Rattle.my_steps.specs.Keeps.{IsStood, AreStood, AreAwaited}
 use Rattle.my_steps.proofs.Working.Awaiting.{at_sym}
+use Rattle.my_steps.proofs.Working.Rows.{read_rows}
 use Rattle.my_link.specs.Looks.{Looks}
-use Rattle.my_client.specs.Conn.{kept_of}
-use Rattle.my_steps.specs.Slot.{handle_with, handle_of, handles_from, handles_in}
+use Rattle.my_steps.specs.Slot.{handle_with, handle_of, handles_from, handles_in, kept_of, kept_some}
 use Rattle.my_run.specs.Tapes.{all_in, links_at, links_in, tape_view, tape_at, tapes_in, with_links}
 use Rattle.my_client.proofs.Reading.{rests_read}
 use Rattle.my_run.proofs.Runs.Taping.{all_same, link_same, tape_same}
@@ -39,8 +39,10 @@ use Rattle.my_run.proofs.Runs.Taping.{all_same, link_same, tape_same}
 said_at : {L : Type 0} (look : L → Looks) (login : Login) (left : Option (List DialItem)) (s : Slot L) → IsStood login s → IsExplained login (handle_with look left s)
 said_at look login left Gone w = tt
 said_at look login left Held w = tt
-said_at look login left (There c) w = rests_read login c.session.seen (kept_of c) w
-said_at look login left (Ended c) w = rests_read login c.session.seen (kept_of c) w
+said_at look login left (Connecting c) w = rests_read login c.seen (kept_some c.tape) w.rests
+said_at look login left (There c) w = rests_read login c.seen (kept_of c) w.stands.rests
+said_at look login left (Gathering c rows) w = read_rows rows.items login (kept_of c) (rests_read login c.seen (kept_of c) w.stands.stands.rests)
+said_at look login left (Ended t l) w = w
 
 all_said : {L : Type 0} (look : L → Looks) (login : Login) (left : ℕ → Option (List DialItem)) (k : ℕ) (ss : List (Slot L)) (m : ℕ) → AreStood login ss → IsExplained login (at_number (handles_from look left k ss) m)
 all_said look login left k [] m w = tt

@@ -1,5 +1,5 @@
 -- A run in which memory ran out.
-use Rattle.std.proofs.Common.{ℕ, ◌≡◌, ◌≢◌, ◌<◌, ◌+◌, ◌⊎◌, inl, inr, zero, suc, List, [], ◌∷◌, ◌++◌, length, map, get_or, take, drop, Option, Some, None, Bool, true, false, Result, Ok, Err, OnOk, OnErr, refl, sym, ap, ◌∙◌, subst, arith}
+use Rattle.std.proofs.Common.{ℕ, ◌≡◌, ◌<◌, ◌+◌, ◌⊎◌, inl, inr, zero, suc, List, [], ◌∷◌, ◌++◌, length, map, get_or, take, drop, Option, None, Bool, false, Result, Ok, Err, OnOk, OnErr, refl, sym, ap, ◌∙◌, subst, arith}
 use Rattle.std.specs.List.{remove}
 use Rattle.std.proofs.lemmas.List.{append-nil, append_assoc, take-append-drop}
 use Rattle.my_frame.specs.Sinks.{SinkSeen}
@@ -7,13 +7,12 @@ use Rattle.my_frame.specs.Sources.{SourceSeen}
 use Rattle.my_grammar.specs.declared.login.Login.{Login}
 use Rattle.my_link.specs.Looks.{Looks}
 use Rattle.my_link.specs.declared.dialer.DialItem.{DialItem}
-use Rattle.my_link.specs.World.{Back, DialCounts, Plans, SamePlans, WorldSeen}
+use Rattle.my_link.specs.World.{Back, DialCounts, Plans, WorldSeen}
 use Rattle.my_script.specs.declared.step.Step.{Step}
 use Rattle.my_script.specs.declared.transcript.StepAnswer.{StepAnswer}
 use Rattle.my_script.specs.declared.transcript.Tape.{Tape}
-use Rattle.my_client.specs.declared.conn.TapedConn.{TapedConn}
 use Rattle.my_steps.specs.declared.slot.Slot.{Slot}
-use Rattle.my_steps.specs.declared.slot.Slot.TheVariants.{Gone, Held, There, Ended}
+use Rattle.my_steps.specs.declared.slot.Slot.TheVariants.{Gone, Held, Connecting, There, Gathering, Ended}
 use Rattle.my_steps.specs.Dialing.{Course, course_of, has_dialed}
 use Rattle.my_steps.specs.Grows.{handles_after}
 use Rattle.my_steps.specs.Handle.{Handle, at_number}
@@ -22,7 +21,7 @@ use Rattle.my_steps.specs.Slot.{handle_of, handle_with, handles_from, handles_in
 use Rattle.my_steps.proofs.Working.Awaiting.{handles_length}
 use Rattle.my_steps.proofs.Working.Midst.{may_from, may_same}
 use Rattle.my_run.specs.Headline.{Headline, RunSoFar, SoFar}
-use Rattle.my_run.specs.Stopped.{HandedBack, RunStopped, Stopped, StoppedAt, StopsIn, dials_next, number_next, one_link}
+use Rattle.my_run.specs.Stopped.{HandedBack, RunStopped, Stopped, StoppedAt, StopsIn, dials_next, number_next}
 use Rattle.my_run.specs.Tapes.{links_at, links_in, with_links}
 use Rattle.my_run.specs.Tool.{EndsBy, IsStopped}
 use Rattle.my_run.specs.declared.tool.Report.{Report}
@@ -38,8 +37,10 @@ at_slot look left k (suc n) m (s ∷ ss) e = at_slot look left (suc k) n m ss (o
 joined_is : {L : Type 0} (look : L → Looks) (left : Option (List DialItem)) (s : Slot L) → is_joined (handle_with look left s) ≡ is_linked s
 joined_is look left Gone = refl
 joined_is look left Held = refl
+joined_is look left (Connecting c) = refl
 joined_is look left (There c) = refl
-joined_is look left (Ended c) = refl
+joined_is look left (Gathering c rows) = refl
+joined_is look left (Ended t l) = refl
 
 -- what is left of the other slots is left of their handles
 leaves : {L : Type 0} (look : L → Looks) (left : ℕ → Option (List DialItem)) (dials : Bool) (number : Option ℕ) (now later : WorldSeen) (ss ts : List (Slot L)) → InMidst dials number now later ss ts → LeavesOthers dials number (handles_from look left 0 ss) (handles_from look left 0 ts)
@@ -175,11 +176,6 @@ hands_out look n k ss rest s whole next back more all h e f j is (inr g) i = inr
 pub hands_end : {L : Type 0} (look : L → Looks) (n : ℕ) (ss : List (Slot L)) (whole : Bool) (links : List Back) (first back : Option (List Back)) → ss ≡ [] → Hands whole (links_in n (map (handle_of look) ss)) back (with_links links first) → HandedBack links first back
 hands_end {L} look n ss whole links first back e (inl i) = inl (sym (with_none back) ∙ ap (λ (xs : List (Slot L)). with_links (links_in n (map (handle_of look) xs)) back) (sym e) ∙ i)
 hands_end look n ss whole links first back e (inr i) = inr i.1
-
--- a slot's link
-pub handed_slot : {L : Type 0} (look : L → Looks) (n : ℕ) (s : Slot L) (c : TapedConn L) (old new : Option (List Back)) → (s ≡ There c) ⊎ (s ≡ Ended c) → HandedBack (one_link n (look c.link)) old new → HandedBack (links_at n (handle_of look s)) old new
-handed_slot {L} look n s c old new (inl e) w = subst (λ (x : Slot L). HandedBack (links_at n (handle_of look x)) old new) (sym e) w
-handed_slot {L} look n s c old new (inr e) w = subst (λ (x : Slot L). HandedBack (links_at n (handle_of look x)) old new) (sym e) w
 
 -- over the same course and the same steps
 pub stopped_as : (later : Course) (login : Login) (plans : Plans) (before first : Course) (all steps : List Step) → before ≡ first → all ≡ steps → Stopped later login plans before all → Stopped later login plans first steps

@@ -3,7 +3,6 @@ use Rattle.std.proofs.Common.{ℕ, ◌≡◌, ◌≢◌, ◌+◌, ◌⊎◌, inl
 use Rattle.std.proofs.lemmas.List.{length-append}
 use Rattle.my_grammar.specs.declared.login.Login.{Login}
 use Rattle.my_link.specs.Looks.{Looks}
-use Rattle.my_link.specs.Spent.{HasGot}
 use Rattle.my_link.specs.World.{Back, DialCounts, Plans, no_dials}
 use Rattle.my_reading.specs.Errors.{io_error}
 use Rattle.my_reading.specs.declared.error.IoKind.TheVariants.{Dial}
@@ -15,11 +14,11 @@ use Rattle.my_script.specs.Streams.{target}
 use Rattle.my_client.specs.Kept.{Kept, first_kept}
 use Rattle.my_steps.specs.Grows.{AreGrown, DialsNext, Fails, Line, StepGrows, handles_after, aim_at, is_found, statements_of}
 use Rattle.my_steps.specs.Handle.{Handle, Absent, Dialing, Joined, at_number}
-use Rattle.my_steps.specs.Midst.{DialTried, Kept as KeptAll, Faulted, Waited, Unused, Untold, LeavesOthers, MayDial, is_joined, number_of}
+use Rattle.my_steps.specs.Midst.{Kept as KeptAll, Faulted, Waited, Unused, Untold, LeavesOthers, MayDial, is_joined, number_of}
 use Rattle.my_steps.specs.Sums.{failed_use}
 use Rattle.my_run.specs.Fits.{IsFit}
 use Rattle.my_run.specs.Headline.{EachExplained, IsExplained, steps_of}
-use Rattle.my_run.specs.Stopped.{HandedBack, Stopped, number_next}
+use Rattle.my_run.specs.Stopped.{HandedBack, number_next}
 use Rattle.my_run.specs.Tapes.{links_in, with_links}
 use Rattle.my_run.specs.WrongRuns.{EachLink, NoSecretAtStop, SentAsRead, SentAtStop, StoppedInSecond, one_fault}
 use Rattle.my_run.proofs.Runs.Fitting.{grown_fit}

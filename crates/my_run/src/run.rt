@@ -3,7 +3,7 @@ ghost use Rattle.std.specs.Prelude.{◌≡◌, ◌++◌, [], map, true, IfOk, On
 ghost use Rattle.std.specs.List.{list_all};
 ghost use Rattle.my_script.specs.Script.{may_stand};
 ghost use Rattle.my_steps.specs.Dialing.{course_of};
-ghost use Rattle.my_client.specs.Conn.{kept_of};
+ghost use Rattle.my_client.specs.Conn.{kept_in};
 ghost use Rattle.my_session.specs.Login.{login_of};
 ghost use Rattle.my_run.specs.Headline.{RunSoFar, RunsTo};
 ghost use Rattle.my_run.specs.Stopped.{HandedBack, RunStopped, StopsIn, one_link};
@@ -14,7 +14,7 @@ ghost use Rattle.my_link.specs.World.{with_back};
 use crate::beside::BesideEach;
 use crate::statements::statement_for;
 use crate::tape::tape_calls;
-use my_client::TapedConn;
+use my_client::Tape as Kept;
 use my_frame::NoMemory;
 use my_link::World;
 use my_opts::Opts;
@@ -56,38 +56,33 @@ fn run_each<N: World>(
     Ok(())
 }
 
-// The tape of a connection at the end of a run, which hands its link back.
+// What a connection kept, as a tape at the end of a run, which hands its link back.
 fn end_tape<N: World>(
     alloc: Global,
     world: &mut N,
-    conn: TapedConn<N::L>,
+    kept: Kept,
+    link: N::L,
     number: u64,
 ) -> Result<Tape, NoMemory>
-    ensures tape { IfOk result (λ t. tape_view t ≡ tape_of number (kept_of conn)) }
-    ensures back { OnOk result ((N.seen world.new).back ≡ with_back number (N.L.looks conn.link) (N.seen world.old).back) }
+    ensures tape { IfOk result (λ t. tape_view t ≡ tape_of number (kept_in kept)) }
+    ensures back { OnOk result ((N.seen world.new).back ≡ with_back number (N.L.looks link) (N.seen world.old).back) }
     ensures err { OnErr result (
-        HandedBack (one_link number (N.L.looks conn.link)) (N.seen world.old).back (N.seen world.new).back) }
+        HandedBack (one_link number (N.L.looks link)) (N.seen world.old).back (N.seen world.new).back) }
     ensures dials { (N.seen world.new).dials ≡ (N.seen world.old).dials }
     ensures chance { (N.seen world.new).chance ≡ (N.seen world.old).chance }
 {
-    let TapedConn {
-        session,
-        link,
-        tape,
-    } = conn;
-    drop(session);
     match world.hang_up(number, link) {
         Ok(()) => {
-            let calls = tape_calls(alloc, tape.calls, tape.pending)?;
+            let calls = tape_calls(alloc, kept.calls, kept.pending)?;
             Ok(Tape {
                 number,
-                sent: tape.sent,
-                taken: tape.taken,
+                sent: kept.sent,
+                taken: kept.taken,
                 calls,
             })
         }
         Err(NoMemory) => {
-            drop(tape);
+            drop(kept);
             Err(NoMemory)
         }
     }
@@ -109,10 +104,10 @@ fn keep_tape<N: World>(
     ensures dials { (N.seen world.new).dials ≡ (N.seen world.old).dials }
     ensures chance { (N.seen world.new).chance ≡ (N.seen world.old).chance }
 {
-    match slot {
-        Slot::Gone | Slot::Held => Ok(()),
-        Slot::There(conn) | Slot::Ended(conn) => {
-            tapes.push(end_tape(alloc, world, conn, number)?)?;
+    match slot.into_parts(alloc) {
+        None => Ok(()),
+        Some((kept, link)) => {
+            tapes.push(end_tape(alloc, world, kept, link, number)?)?;
             Ok(())
         }
     }

@@ -1,34 +1,25 @@
 -- What a step did to what is at one number, and to all numbers.
-use Rattle.std.specs.Prelude.{◌≤◌, ℕ, List, None, length, Bool, true, false, ◌&&◌}
+use Rattle.std.specs.Prelude.{◌≡◌, ◌≤◌, ℕ, List, None, length, Bool, true, false, ◌&&◌}
 use Rattle.my_grammar.specs.declared.login.Login.{Login}
 use Rattle.my_link.specs.Looks.{Looks}
-use Rattle.my_session.specs.Sessions.{Seen}
 use Rattle.my_link.specs.declared.line.WorldLine.{WorldLine}
 use Rattle.my_link.specs.declared.line.WorldLine.TheVariants as lines
 use Rattle.my_link.specs.World.{Plans}
+use Rattle.my_reading.specs.Calls.{kind_of, is_connect}
 use Rattle.my_script.specs.declared.aim.Aim.{Aim}
 use Rattle.my_script.specs.declared.transcript.Outcome.{Outcome}
 use Rattle.my_script.specs.declared.transcript.Use.{Use}
-use Rattle.my_client.specs.Kept.{Asked, Kept}
-use Rattle.my_client.specs.declared.conn.TapedConn.{TapedConn}
-use Rattle.my_client.specs.Conn.{kept_of}
-use Rattle.my_client.specs.Stands.{Rests, StandsAsked}
+use Rattle.my_conn.specs.Conn.{ConnSeen}
 use Rattle.my_steps.specs.declared.outcome.StepResult.{StepResult}
 use Rattle.my_steps.specs.declared.slot.Slot.{Slot}
 use Rattle.my_steps.specs.declared.slot.Slot.TheVariants.{There}
 use Rattle.my_script.specs.declared.action.Work.{Work}
 use Rattle.my_script.specs.declared.action.Work.TheVariants as works
 use Rattle.my_steps.specs.Dialing.{is_dialing}
-use Rattle.my_steps.specs.Grows.{Follows, PolledOnce, WorkAt}
-use Rattle.my_steps.specs.Handle.{Handle, Joined}
+use Rattle.my_steps.specs.Grows.{Follows, WorkAt}
+use Rattle.my_steps.specs.Handle.{Handle}
 use Rattle.my_steps.specs.Keeps.{StandsBy, IsStood, AreStood, IsAwaited, AreAwaited}
 use Rattle.my_steps.specs.Slot.{handle_with, handle_of, handles_in}
-
--- a poll of the open call, as a step of one call shows it
-pub record OpenPolled (login : Login) (n : ℕ) (a : Asked) (t : Seen) (x y : Looks) (k end : Kept) (o : Outcome)
-    (us : List Use) : Type 0 where
-  pub once : PolledOnce login n a k x o us (Joined true end y)
-  pub rests : Rests login t end
 
 -- at number n: what is there is kept, and the transcript's fact holds
 pub record Did {L : Type 0} (look : L → Looks) (login : Login) (R : Handle → Outcome → List Use → Handle → Type 0)
@@ -52,20 +43,15 @@ IsMoving (lines.Advance by) = Unit {0}
 IsMoving (lines.Random word) = Unit {0}
 IsMoving line = ⊥
 
--- of each call that may be open on the connection: what a poll of it did
-abbrev pub EachPolled : {L : Type 0} → (L → Looks) → ℕ → TapedConn L → TapedConn L → StepResult → Type 0
-EachPolled look n c d r = (login : Login) (a : Asked) → StandsAsked login c.session.seen (kept_of c) a
-    → OpenPolled login n a d.session.seen (look c.link) (look d.link) (kept_of c) (kept_of d) r.outcome r.uses.items
+-- of each login for which what is at the number stands: what a step's work did to it
+abbrev pub EachDid : {L : Type 0} → (L → Looks) → ℕ → Work → Slot L → Slot L → StepResult → Type 0
+EachDid look n work old new r = (login : Login) → IsStood login old
+    → Did look login (WorkAt login untold n work) r.outcome r.uses.items old new
 
--- of each login for which the connection stands: what a step's work did to it
-abbrev pub EachDid : {L : Type 0} → (L → Looks) → ℕ → Work → TapedConn L → Slot L → StepResult → Type 0
-EachDid look n work c slot r = (login : Login) → StandsBy login c
-    → Did look login (WorkAt login untold n work) r.outcome r.uses.items (There c) slot
-
--- of each login for which it stands: how it read on with this aim
-abbrev pub EachFollowed : {L : Type 0} → (L → Looks) → ℕ → Aim → TapedConn L → TapedConn L → StepResult → Type 0
-EachFollowed look n aim c d r = (login : Login) → StandsBy login c
-    → Did look login (Follows aim login n) r.outcome r.uses.items (There c) (There d)
+-- how a connection read on with this aim
+abbrev pub EachFollowed : {L : Type 0} → (L → Looks) → ℕ → Aim → ConnSeen L → Slot L → StepResult → Type 0
+EachFollowed look n aim c slot r = (login : Login) → StandsBy login c
+    → Did look login (Follows aim login n) r.outcome r.uses.items (There c) slot
 
 -- at number n, in a world with the plans `before`, and `later` after the step: what is there is kept, the link of a dial that
 -- isn't ready stays as it is planned, and the transcript's fact holds
@@ -102,3 +88,14 @@ StepsOn look login before later old new R r = (plans : Plans) → AreAwaited pla
     → Stepped login old new
     (AreAwaited plans later 0 new
     × R plans (handles_in look before old) r.outcome r.uses.items (handles_in look later new))
+
+-- no work begins the handshake
+abbrev pub MayWork : Work → Type 0
+MayWork (works.Begin call) = is_connect (kind_of call) ≡ false
+MayWork (works.Read aim) = Unit {0}
+MayWork works.Item = Unit {0}
+MayWork works.LetGo = Unit {0}
+MayWork works.Miss = Unit {0}
+MayWork works.Fields = Unit {0}
+MayWork (works.Poll aim) = Unit {0}
+MayWork works.Cancel = Unit {0}

@@ -24,7 +24,6 @@ use Rattle.my_script.specs.declared.action.Work.TheVariants as works
 use Rattle.my_script.specs.declared.aim.Aim.{Aim}
 use Rattle.my_script.specs.declared.aim.Aim.TheVariants as aims
 use Rattle.my_script.specs.declared.step.Step.{Step}
-use Rattle.my_script.specs.declared.step.Step.TheVariants as steps
 use Rattle.my_script.specs.declared.beside.Beside.{Beside}
 use Rattle.my_script.specs.Beside.{beside_by, finds, nothing_beside}
 use Rattle.my_script.specs.Actions.{action_of}

@@ -2,11 +2,11 @@ pub mod Handle
 pub mod Slot
 pub mod Sums
 pub mod Keeps
-pub mod Ready
 pub mod Grows
 pub mod Dialing
 pub mod Did
 pub mod Orders
+pub mod Polled
 pub mod Connecting
 pub mod Gathering
 pub mod Streaming

@@ -6,7 +6,7 @@ use Rattle.my_script.specs.declared.step.Step.{Step}
 use Rattle.my_script.specs.declared.step.Step.TheVariants as steps
 use Rattle.my_script.specs.Streams.{target}
 use Rattle.my_steps.specs.declared.slot.Slot.{Slot}
-use Rattle.my_steps.specs.declared.slot.Slot.TheVariants.{Gone, Held, There, Ended}
+use Rattle.my_steps.specs.declared.slot.Slot.TheVariants.{Gone, Held, Connecting, There, Gathering, Ended}
 use Rattle.my_script.specs.declared.action.Action.{Action}
 use Rattle.my_script.specs.declared.action.Action.TheVariants as actions
 use Rattle.my_steps.specs.Handle.{Handle, Absent, Dialing, Joined, at_number}
@@ -53,8 +53,10 @@ is_joined (Joined there k x) = true
 abbrev pub is_linked : {L : Type 0} → Slot L → Bool
 is_linked Gone = false
 is_linked Held = false
+is_linked (Connecting c) = true
 is_linked (There c) = true
-is_linked (Ended c) = true
+is_linked (Gathering c rows) = true
+is_linked (Ended t l) = true
 
 -- where a step doesn't dial, its number has a link after it where it had one, and only there
 abbrev pub LinkStays : {L : Type 0} → Bool → Slot L → Slot L → Type 0

@@ -5,14 +5,14 @@ use Rattle.my_link.specs.World.{Chance}
 use Rattle.my_script.specs.declared.action.Action.{Action}
 use Rattle.my_script.specs.declared.action.Action.TheVariants.{Dial, Move, Visit}
 use Rattle.my_steps.specs.Dialing.{chance_dialed}
-use Rattle.my_steps.specs.Did.{IsMoving, redials}
+use Rattle.my_steps.specs.Did.{IsMoving, MayWork, redials}
 use Rattle.my_steps.specs.Handle.{Handle, at_number}
 
--- a world is moved only where it takes a plan
+-- a world is moved only where it takes a plan, and no step begins the handshake
 abbrev pub MayCarry : Bool → Action → Type 0
 MayCarry takes Dial = Unit {0}
 MayCarry takes (Move line) = (takes ≡ true) × IsMoving line
-MayCarry takes (Visit n work) = Unit {0}
+MayCarry takes (Visit n work) = MayWork work
 
 -- whether it dials
 abbrev pub dials_by : Action → List Handle → Bool

@@ -1,24 +1,22 @@
 //! Dials a connection, and connects it.
-ghost use Rattle.std.specs.Prelude.{◌≡◌, ◌∷◌, [], suc, length, Some, true, IfErr, IfOk, OnOk};
+ghost use Rattle.std.specs.Prelude.{◌≡◌, suc, is_some, length, Some, true, IfErr, IfOk, OnOk};
 ghost use Rattle.my_reading.specs.Errors.{io_error};
 ghost use Rattle.my_session.specs.Login.{login_of};
 ghost use Rattle.my_link.specs.World.{IsFresh, SameBut, SamePlans, drawn};
 ghost use Rattle.my_client.specs.Kept.{first_asked, first_kept};
-ghost use Rattle.my_client.specs.Conn.{kept_of};
-ghost use Rattle.my_client.specs.Stands.{StandsAsked};
-ghost use Rattle.my_steps.specs.Connecting.{Settles, EachJoins, JoinsFirst, Dialed};
-ghost use Rattle.my_steps.specs.Slot.{placed};
+ghost use Rattle.my_client.specs.Makes.{ConnectsFor};
+ghost use Rattle.my_client.specs.declared.texts.Making.TheVariants.{Shakes};
+ghost use Rattle.my_steps.specs.Connecting.{JoinsFirst, Dialed};
 ghost use Rattle.my_steps.specs.Dialing.{DialsTo, dial_met};
 ghost use Rattle.my_steps.specs.Did.{StepsOn};
 ghost use Rattle.my_steps.specs.Grows.{DialsNext};
 ghost use Rattle.my_steps.specs.Midst.{InMidst, TriesDial};
-ghost use Rattle.my_steps.specs.Sums.{quiet};
 
-use crate::outcome::{StepResult, Worked, used_once};
-use crate::slot::{Slot, place};
-use my_client::{After, TapedConn, begin_over, drive};
+use crate::connecting::first_poll;
+use crate::outcome::{StepResult, used_once};
+use crate::slot::Slot;
+use my_conn::Connecting;
 use my_frame::NoMemory;
-use my_handshake::server_version;
 use my_link::{DialStep, Link, Met, World};
 use my_opts::{Opts, Target};
 use my_reading::{Error, IoError, IoFault, IoKind};
@@ -34,66 +32,6 @@ fn dial_error() -> Error
     }))
 }
 
-// Whether the connection is there after a poll of its handshake, and what the step shows.
-fn settle<L>(conn: &TapedConn<L>, number: u64, after: After) -> (bool, Outcome)
-    ensures { Settles conn.now number after (placed result.0 conn.now) result.1 }
-{
-    match after {
-        After::Pending => (true, Outcome::Pending),
-        After::Answered(answer) => {
-            drop(answer);
-            let id = conn.session.connection_id();
-            let version = server_version(conn.session.version());
-            (true, Outcome::Connected(number, id, version))
-        }
-        After::Failed(error) => (false, Outcome::Failed(error)),
-    }
-}
-
-/// Polls the handshake at this moment, after these uses.
-pub(crate) fn poll_connect<L: Link>(
-    alloc: Global,
-    conn: &mut TapedConn<L>,
-    number: u64,
-    now: u64,
-    mut uses: Vec<Use>,
-) -> Result<Worked, NoMemory>
-    ensures { IfOk result (λ w. EachJoins L.looks number uses.items conn.old (placed w.there conn.new) w.did) }
-{
-    let (after, met, rows) = drive(alloc, conn, now)?;
-    drop(rows);
-    match uses.push(Use { number, met }) {
-        Ok(()) => {
-            let (there, outcome) = settle(conn, number, after);
-            Ok(Worked {
-                there,
-                did: StepResult { outcome, uses },
-            })
-        }
-        Err(error) => {
-            drop(after);
-            Err(error.into())
-        }
-    }
-}
-
-// Polls the first call, after the dial that gave the link.
-fn join<L: Link>(
-    alloc: Global,
-    conn: &mut TapedConn<L>,
-    number: u64,
-    now: u64,
-) -> Result<Worked, NoMemory>
-    ensures { IfOk result (λ w. EachJoins L.looks number (quiet number ∷ []) conn.old (placed w.there conn.new) w.did) }
-{
-    let mut uses = Vec::new(alloc);
-    uses.push(Use {
-        number,
-        met: Met::nothing(),
-    })?;
-    poll_connect(alloc, conn, number, now, uses)
-}
-
 // What a connection is given of chance: the moment of its dial, in milliseconds, and a random word.
 #[derive(Clone, Copy)]
 struct Given {
@@ -101,20 +39,21 @@ struct Given {
     random: u64,
 }
 
-// Makes the connection's first call. Out of memory the link is returned.
-fn begin_on<L: Link>(alloc: Global, opts: &Opts, link: L, given: Given) -> Result<TapedConn<L>, L>
-    ensures asked { IfOk result (λ c. StandsAsked (login_of opts.now) c.session.seen (kept_of c) first_asked) }
-    ensures kept { IfOk result (λ c. kept_of c ≡ first_kept) }
+// Begins the handshake. Out of memory the link is returned.
+fn begin_on<L: Link>(alloc: Global, opts: &Opts, link: L, given: Given) -> Result<Connecting<L>, L>
+    ensures begins { IfOk result (λ c. ConnectsFor (login_of opts.now) c.seen c.tape first_kept first_asked) }
+    ensures taped { IfOk result (λ c. is_some c.tape ≡ true) }
+    ensures at { IfOk result (λ c. c.at ≡ Shakes) }
     ensures link { IfOk result (λ c. c.link ≡ link) }
     ensures back { IfErr result (λ l. l ≡ link) }
 {
     match opts.copy(alloc) {
-        Ok(opts) => begin_over(alloc, opts, link, given.now, given.random),
+        Ok(opts) => Connecting::new(alloc, opts, link, given.now, given.random, true),
         Err(NoMemory) => Err(link),
     }
 }
 
-// Makes the connection's first call and polls it.
+// Begins the handshake and polls it.
 fn first_call<L: Link>(
     alloc: Global,
     opts: &Opts,
@@ -126,11 +65,8 @@ fn first_call<L: Link>(
         JoinsFirst L.looks (login_of opts.now) number (L.looks link) r.0 d)) }
     ensures back { IfErr result (λ l. l ≡ link) }
 {
-    let mut conn = begin_on(alloc, opts, link, given)?;
-    match join(alloc, &mut conn, number, given.now) {
-        Ok(worked) => Ok((place(conn, worked.there), Ok(worked.did))),
-        Err(error) => Ok((Slot::Ended(conn), Err(error))),
-    }
+    let conn = begin_on(alloc, opts, link, given)?;
+    Ok(first_poll(alloc, conn, number, given.now))
 }
 
 // Makes the first call over the link of this number and polls it. Out of memory the link is handed back.

@@ -1,12 +1,12 @@
 //! A step of a script over connections: what it does at the number that it names, and what it came to.
 #![tactic(auto)]
 
-mod begin;
-mod cancel;
 mod connect;
+mod connecting;
 mod fields;
 mod gather;
 mod outcome;
+mod polls;
 mod resume;
 mod slot;
 mod step;

@@ -1,5 +1,5 @@
 //! What a step came to.
-ghost use Rattle.std.specs.Prelude.{◌≡◌, ◌∷◌, [], IfOk};
+ghost use Rattle.std.specs.Prelude.{◌≡◌, ◌∷◌, ◌++◌, [], IfOk, OnOk};
 ghost use Rattle.my_steps.specs.Grows.{answer_shown as answer_of, shown as shown_of};
 
 use my_client::After;
@@ -13,13 +13,6 @@ use std::alloc::Global;
 pub struct StepResult {
     pub outcome: Outcome,
     pub uses: Vec<Use>,
-}
-
-/// What a step came to on a connection, and whether later steps may still name that.
-#[derive(Drop)]
-pub(crate) struct Worked {
-    pub there: bool,
-    pub did: StepResult,
 }
 
 fn answer_shown(answer: Answer) -> Outcome
@@ -68,6 +61,34 @@ pub(crate) fn used_once(alloc: Global, outcome: Outcome, used: Use) -> Result<St
         Err(error) => {
             drop(outcome);
             Err(error.into())
+        }
+    }
+}
+
+fn push_both(uses: &mut Vec<Use>, first: Use, second: Use) -> Result<(), NoMemory>
+    ensures { OnOk result (uses.new.items ≡ (uses.old.items ++ first ∷ []) ++ second ∷ []) }
+{
+    uses.push(first)?;
+    uses.push(second)?;
+    Ok(())
+}
+
+/// A step that made a dial and a poll.
+pub(crate) fn used_twice(
+    alloc: Global,
+    outcome: Outcome,
+    first: Use,
+    second: Use,
+) -> Result<StepResult, NoMemory>
+    ensures outcome { IfOk result (λ d. d.outcome ≡ outcome) }
+    ensures uses { IfOk result (λ d. d.uses.items ≡ first ∷ second ∷ []) }
+{
+    let mut uses = Vec::new(alloc);
+    match push_both(&mut uses, first, second) {
+        Ok(()) => Ok(StepResult { outcome, uses }),
+        Err(error) => {
+            drop(outcome);
+            Err(error)
         }
     }
 }

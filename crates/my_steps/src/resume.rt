@@ -1,51 +1,71 @@
 //! A step that polls a connection's open call.
-ghost use Rattle.std.specs.Prelude.{IfOk};
+ghost use Rattle.std.specs.Prelude.{◌≡◌, Some, true, IfOk};
+ghost use Rattle.my_script.specs.Streams.{is_skip};
 ghost use Rattle.my_steps.specs.Did.{EachDid};
-ghost use Rattle.my_steps.specs.Ready.{ConnReady};
-ghost use Rattle.my_steps.specs.Slot.{placed};
+ghost use Rattle.my_steps.specs.Midst.{is_linked};
+ghost use Rattle.my_steps.specs.declared.slot.Slot.TheVariants.{There as ThereAt};
 ghost use Rattle.my_script.specs.declared.action.Work.TheVariants.{Poll as PollWork};
 
-use crate::begin::poll_open;
-use crate::connect::poll_connect;
-use crate::gather::gather;
-use crate::outcome::{Worked, unused};
-use crate::stream::{is_skipping, then_read};
-use my_client::{TapedConn, is_connecting, is_gathering};
+use crate::outcome::{StepResult, unused};
+use crate::polls::poll_shown;
+use crate::slot::Slot;
+use crate::stream::then_read;
+use my_conn::Conn;
 use my_frame::NoMemory;
 use my_link::Link;
+use my_reading::CallKind;
 use my_script::{Aim, Outcome};
 use std::alloc::Global;
 
-/// Polls the open call: the handshake, a gathering, the passing over of a set's rest, or another call.
-pub(crate) fn resume_there<L: Link>(
+// Whether a call of this kind passes over the rest of a set that a stream took.
+fn is_skip(kind: CallKind) -> bool
+    ensures { result ≡ is_skip kind }
+{
+    match kind {
+        CallKind::SkipTaken => true,
+        _ => false,
+    }
+}
+
+// Polls the open call, which passes over the rest of a set, and then reads on.
+fn resume_skip<L: Link>(
     alloc: Global,
-    conn: &mut TapedConn<L>,
+    mut conn: Conn<L>,
     number: u64,
     now: u64,
     aim: Aim,
-) -> Result<Worked, NoMemory>
-    requires { ConnReady conn.old }
-    ensures { IfOk result (λ w. EachDid L.looks number (PollWork aim) conn.old (placed w.there conn.new) w.did) }
+    kind: CallKind,
+) -> (Slot<L>, Result<StepResult, NoMemory>)
+    requires pending { conn.pending ≡ Some kind }
+    requires skips { is_skip kind ≡ true }
+    ensures did { IfOk result.1 (λ d. EachDid L.looks number (PollWork aim) (ThereAt conn) result.0 d) }
+    ensures linked { is_linked result.0 ≡ true }
 {
-    if !conn.session.is_open() {
-        return Ok(Worked {
-            there: true,
-            did: unused(alloc, Outcome::NoSuchHandle),
-        });
+    match poll_shown(alloc, &mut conn, number, kind, None, now) {
+        Ok(skipped) => then_read(alloc, conn, number, now, aim, skipped),
+        Err(error) => (Slot::There(conn), Err(error)),
     }
-    if is_connecting(conn) {
-        let uses = Vec::new(alloc);
-        return poll_connect(alloc, conn, number, now, uses);
+}
+
+/// Polls the open call; where it passes over the rest of a set, reads on then.
+pub(crate) fn resume_there<L: Link>(
+    alloc: Global,
+    mut conn: Conn<L>,
+    number: u64,
+    now: u64,
+    aim: Aim,
+) -> (Slot<L>, Result<StepResult, NoMemory>)
+    ensures did { IfOk result.1 (λ d. EachDid L.looks number (PollWork aim) (ThereAt conn) result.0 d) }
+    ensures linked { is_linked result.0 ≡ true }
+{
+    match conn.open_call() {
+        None => (Slot::There(conn), Ok(unused(alloc, Outcome::NoSuchHandle))),
+        Some(kind) => {
+            if is_skip(kind) {
+                return resume_skip(alloc, conn, number, now, aim, kind);
+            }
+            let did = poll_shown(alloc, &mut conn, number, kind, None, now);
+            (Slot::There(conn), did)
+        }
     }
-    if is_gathering(conn) {
-        let did = gather(alloc, conn, number, now)?;
-        return Ok(Worked { there: true, did });
-    }
-    let skipping = is_skipping(conn);
-    let did = poll_open(alloc, conn, number, now)?;
-    if skipping {
-        let did = then_read(alloc, conn, number, now, aim, did)?;
-        return Ok(Worked { there: true, did });
-    }
-    Ok(Worked { there: true, did })
 }

@@ -10,7 +10,6 @@ ghost use Rattle.my_steps.specs.Did.{IsMoving, StepsOn};
 ghost use Rattle.my_steps.specs.Orders.{MayCarry, chance_of, dials_by};
 ghost use Rattle.my_steps.specs.Grows.{ActionGrows, StepGrows};
 ghost use Rattle.my_steps.specs.Midst.{InMidst, number_by, number_of};
-ghost use Rattle.my_steps.specs.Ready.{AreReady};
 ghost use Rattle.my_steps.specs.Slot.{handles_in};
 
 use crate::connect::connect;
@@ -53,8 +52,7 @@ fn carry_out<N: World>(
     order: Action,
     now: u64,
 ) -> Result<StepResult, NoMemory>
-    requires ready { AreReady slots.old.items }
-    requires may { MayCarry (N.seen world.old).takes order }
+    requires { MayCarry (N.seen world.old).takes order }
     ensures longer { OnOk result (length slots.old.items ≤ length slots.new.items) }
     ensures takes { (N.seen world.new).takes ≡ (N.seen world.old).takes }
     ensures back { OnOk result ((N.seen world.new).back ≡ (N.seen world.old).back) }
@@ -96,8 +94,7 @@ pub fn run_step<N: World>(
     aim: Aim,
     named: Option<&Statement>,
 ) -> Result<StepResult, NoMemory>
-    requires ready { AreReady slots.old.items }
-    requires stands { may_stand (N.seen world.old).takes step.now ≡ true }
+    requires { may_stand (N.seen world.old).takes step.now ≡ true }
     ensures longer { OnOk result (length slots.old.items ≤ length slots.new.items) }
     ensures takes { (N.seen world.new).takes ≡ (N.seen world.old).takes }
     ensures back { OnOk result ((N.seen world.new).back ≡ (N.seen world.old).back) }

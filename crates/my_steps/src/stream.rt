@@ -1,39 +1,24 @@
 //! Steps that read a set, or that a stream makes: it takes a set, reads on in it, and lets it go.
-ghost use Rattle.std.specs.Prelude.{◌≡◌, ◌++◌, ◌&&◌, not, Some, IfOk};
-ghost use Rattle.my_reading.specs.Calls.{kind_of};
-ghost use Rattle.my_script.specs.Streams.{is_skip};
-ghost use Rattle.my_client.specs.Kept.{Asked};
+ghost use Rattle.std.specs.Prelude.{◌≡◌, ◌++◌, ◌&&◌, ◌||◌, not, true, false, IfOk};
+ghost use Rattle.my_reading.specs.Calls.{is_connect, kind_of};
 ghost use Rattle.my_session.specs.Sessions.{is_taken};
-ghost use Rattle.my_client.specs.Conn.{kept_of};
 ghost use Rattle.my_steps.specs.Did.{EachDid, EachFollowed};
 ghost use Rattle.my_steps.specs.Grows.{is_done};
-ghost use Rattle.my_steps.specs.Ready.{ConnReady};
-ghost use Rattle.my_steps.specs.Streaming.{EachFollows};
+ghost use Rattle.my_steps.specs.Midst.{is_linked};
+ghost use Rattle.my_steps.specs.Streaming.{EachFollows, EachSkips};
 ghost use Rattle.my_steps.specs.declared.slot.Slot.TheVariants.{There as ThereAt};
-ghost use Rattle.my_script.specs.declared.action.Work.TheVariants.{Read as ReadWork, Item as ItemWork, LetGo as LetGoWork};
+ghost use Rattle.my_script.specs.declared.action.Work.TheVariants.{Begin as BeginWork, Read as ReadWork, Item as ItemWork, LetGo as LetGoWork};
 
-use crate::begin::begin_call;
 use crate::gather::collect_call;
 use crate::outcome::{StepResult, unused};
-use my_client::TapedConn;
+use crate::polls::begin_call;
+use crate::slot::Slot;
+use my_conn::Conn;
 use my_frame::NoMemory;
 use my_link::Link;
 use my_reading::Call;
 use my_script::{Aim, Outcome};
 use std::alloc::Global;
-
-/// Whether the open call passes over the rest of a set that a stream took.
-pub(crate) fn is_skipping<L>(conn: &TapedConn<L>) -> bool
-    ensures { (a : Asked) → (kept_of conn.now).pending ≡ Some a → result ≡ is_skip (kind_of a.call) }
-{
-    match &conn.tape.pending {
-        None => false,
-        Some(open) => match open.call {
-            Call::SkipTaken => true,
-            _ => false,
-        },
-    }
-}
 
 fn is_done(outcome: &Outcome) -> bool
     ensures { result ≡ is_done outcome.now }
@@ -64,20 +49,36 @@ fn joined(first: StepResult, second: StepResult) -> Result<StepResult, NoMemory>
     }
 }
 
+/// Begins a call on a connection, which stays there.
+pub(crate) fn begin_there<L: Link>(
+    alloc: Global,
+    mut conn: Conn<L>,
+    number: u64,
+    now: u64,
+    call: Call,
+) -> (Slot<L>, Result<StepResult, NoMemory>)
+    requires { is_connect (kind_of call) ≡ false }
+    ensures did { IfOk result.1 (λ d. EachDid L.looks number (BeginWork call) (ThereAt conn) result.0 d) }
+    ensures linked { is_linked result.0 ≡ true }
+{
+    let did = begin_call(alloc, &mut conn, number, now, call);
+    (Slot::There(conn), did)
+}
+
 // Takes a set for a stream, reads its next row, or gathers its rows.
 fn follow<L: Link>(
     alloc: Global,
-    conn: &mut TapedConn<L>,
+    conn: Conn<L>,
     number: u64,
     now: u64,
     aim: Aim,
-) -> Result<StepResult, NoMemory>
-    requires { ConnReady conn.old }
-    ensures { IfOk result (λ d. EachFollowed L.looks number aim conn.old conn.new d) }
+) -> (Slot<L>, Result<StepResult, NoMemory>)
+    ensures did { IfOk result.1 (λ d. EachFollowed L.looks number aim conn result.0 d) }
+    ensures linked { is_linked result.0 ≡ true }
 {
     match aim {
-        Aim::Take => begin_call(alloc, conn, number, now, Call::TakeSet),
-        Aim::Row => begin_call(alloc, conn, number, now, Call::NextRow),
+        Aim::Take => begin_there(alloc, conn, number, now, Call::TakeSet),
+        Aim::Row => begin_there(alloc, conn, number, now, Call::NextRow),
         Aim::Rows => collect_call(alloc, conn, number, now),
     }
 }
@@ -85,80 +86,101 @@ fn follow<L: Link>(
 /// Once the rest of the earlier set was passed over, reads on.
 pub(crate) fn then_read<L: Link>(
     alloc: Global,
-    conn: &mut TapedConn<L>,
+    conn: Conn<L>,
     number: u64,
     now: u64,
     aim: Aim,
     skipped: StepResult,
-) -> Result<StepResult, NoMemory>
-    requires { ConnReady conn.old }
-    ensures { IfOk result (λ d. EachFollows L.looks number aim conn.old conn.new skipped d) }
+) -> (Slot<L>, Result<StepResult, NoMemory>)
+    ensures did { IfOk result.1 (λ d. EachFollows L.looks number aim conn result.0 skipped d) }
+    ensures linked { is_linked result.0 ≡ true }
 {
     if !is_done(&skipped.outcome) {
-        return Ok(skipped);
+        return (Slot::There(conn), Ok(skipped));
     }
-    match follow(alloc, conn, number, now, aim) {
-        Ok(read) => joined(skipped, read),
+    let (slot, read) = follow(alloc, conn, number, now, aim);
+    match read {
+        Ok(read) => (slot, joined(skipped, read)),
         Err(error) => {
             drop(skipped);
-            Err(error)
+            (slot, Err(error))
         }
     }
 }
 
 // Whether a stream took the set that is read, or whose end is left, on an open connection.
-fn has_taken<L>(conn: &TapedConn<L>) -> bool
-    ensures { result ≡ not conn.now.session.seen.closed && is_taken conn.now.session.seen }
+fn has_taken<L>(conn: &Conn<L>) -> bool
+    ensures { result ≡ not (conn.now.lost || conn.now.seen.closed) && is_taken conn.now.seen }
 {
-    !conn.session.is_closed() && conn.session.is_taken()
+    !conn.is_disconnected() && conn.is_taken()
+}
+
+// Passes over the rest of the set that an earlier stream took, and then reads on.
+fn skip_call<L: Link>(
+    alloc: Global,
+    mut conn: Conn<L>,
+    number: u64,
+    now: u64,
+    aim: Aim,
+) -> (Slot<L>, Result<StepResult, NoMemory>)
+    ensures did { IfOk result.1 (λ d. EachSkips L.looks number aim conn result.0 d) }
+    ensures linked { is_linked result.0 ≡ true }
+{
+    match begin_call(alloc, &mut conn, number, now, Call::SkipTaken) {
+        Ok(skipped) => then_read(alloc, conn, number, now, aim, skipped),
+        Err(error) => (Slot::There(conn), Err(error)),
+    }
 }
 
 /// Lets a stream take the set that is read, or the next one, reads its next row, or gathers its rows; the rest of a set
 /// that an earlier stream took is passed over first.
 pub(crate) fn read_call<L: Link>(
     alloc: Global,
-    conn: &mut TapedConn<L>,
+    conn: Conn<L>,
     number: u64,
     now: u64,
     aim: Aim,
-) -> Result<StepResult, NoMemory>
-    requires { ConnReady conn.old }
-    ensures { IfOk result (λ d. EachDid L.looks number (ReadWork aim) conn.old (ThereAt conn.new) d) }
+) -> (Slot<L>, Result<StepResult, NoMemory>)
+    ensures did { IfOk result.1 (λ d. EachDid L.looks number (ReadWork aim) (ThereAt conn) result.0 d) }
+    ensures linked { is_linked result.0 ≡ true }
 {
-    if conn.session.is_open() {
-        return Ok(unused(alloc, Outcome::NoSuchHandle));
+    match conn.open_call() {
+        Some(_) => (Slot::There(conn), Ok(unused(alloc, Outcome::NoSuchHandle))),
+        None => {
+            if has_taken(&conn) {
+                return skip_call(alloc, conn, number, now, aim);
+            }
+            follow(alloc, conn, number, now, aim)
+        }
     }
-    if has_taken(conn) {
-        let skipped = begin_call(alloc, conn, number, now, Call::SkipTaken)?;
-        return then_read(alloc, conn, number, now, aim, skipped);
-    }
-    follow(alloc, conn, number, now, aim)
 }
 
 /// Reads the next row of a stream's set; where that isn't the one that is read any more, nothing is left.
 pub(crate) fn item_call<L: Link>(
     alloc: Global,
-    conn: &mut TapedConn<L>,
+    conn: &mut Conn<L>,
     number: u64,
     now: u64,
 ) -> Result<StepResult, NoMemory>
-    ensures { IfOk result (λ d. EachDid L.looks number ItemWork conn.old (ThereAt conn.new) d) }
+    ensures { IfOk result (λ d. EachDid L.looks number ItemWork (ThereAt conn.old) (ThereAt conn.new) d) }
 {
-    if conn.session.is_open() {
-        return Ok(unused(alloc, Outcome::NoSuchHandle));
+    match conn.open_call() {
+        Some(_) => Ok(unused(alloc, Outcome::NoSuchHandle)),
+        None => {
+            if has_taken(conn) {
+                return begin_call(alloc, conn, number, now, Call::NextRow);
+            }
+            Ok(unused(alloc, Outcome::NoSet))
+        }
     }
-    if has_taken(conn) {
-        return begin_call(alloc, conn, number, now, Call::NextRow);
-    }
-    Ok(unused(alloc, Outcome::NoSet))
 }
 
 /// Lets a stream go, which changes nothing, unless a call is open.
-pub(crate) fn let_go<L: Link>(alloc: Global, conn: &TapedConn<L>, number: u64) -> StepResult
-    ensures { EachDid L.looks number LetGoWork conn.now (ThereAt conn.now) result }
+pub(crate) fn let_go<L: Link>(alloc: Global, conn: &Conn<L>, number: u64) -> StepResult
+    ensures { EachDid L.looks number LetGoWork (ThereAt conn.now) (ThereAt conn.now) result }
 {
-    if conn.session.is_open() {
-        return unused(alloc, Outcome::NoSuchHandle);
+    match conn.open_call() {
+        Some(_) => unused(alloc, Outcome::NoSuchHandle),
+        None => unused(alloc, Outcome::Done),
     }
-    unused(alloc, Outcome::Done)
 }

@@ -3,86 +3,112 @@ ghost use Rattle.std.specs.Prelude.{◌≡◌, length, Some, true, IfOk, OnOk};
 ghost use Rattle.my_session.specs.Login.{login_of};
 ghost use Rattle.my_link.specs.World.{SameBut};
 ghost use Rattle.my_steps.specs.Dialing.{DialsTo, chance_dialed, dial_met};
-ghost use Rattle.my_steps.specs.Did.{EachDid, DoesAt, StepsOn, is_poll, redials};
-ghost use Rattle.my_steps.specs.Slot.{HasLink, handle_at, handle_of, placed};
+ghost use Rattle.my_steps.specs.Did.{EachDid, DoesAt, MayWork, StepsOn, is_poll, redials};
+ghost use Rattle.my_steps.specs.Slot.{handle_at, handle_of};
 ghost use Rattle.my_steps.specs.Grows.{At, WorkAt};
 ghost use Rattle.my_steps.specs.Midst.{InMidst, LinkStays, MayTry, is_linked};
-ghost use Rattle.my_steps.specs.Ready.{ConnReady, SlotReady, AreReady};
-ghost use Rattle.my_steps.specs.declared.slot.Slot.TheVariants.{Held as HeldAt};
+ghost use Rattle.my_steps.specs.declared.slot.Slot.TheVariants.{Held as HeldAt, Connecting as ConnectingAt, There as ThereAt, Gathering as GatheringAt};
 
-use crate::begin::begin_call;
-use crate::cancel::cancel_there;
 use crate::connect::dial_at;
+use crate::connecting::{cancel_connect, poll_connect};
 use crate::fields::tell;
-use crate::outcome::{StepResult, Worked, unused};
+use crate::gather::{cancel_gathering, resume_gathering};
+use crate::outcome::{StepResult, unused};
+use crate::polls::cancel_there;
 use crate::resume::resume_there;
-use crate::slot::{Slot, place, put};
-use crate::stream::{item_call, let_go, read_call};
-use my_client::TapedConn;
+use crate::slot::{Slot, put};
+use crate::stream::{begin_there, item_call, let_go, read_call};
+use my_conn::{Conn, Connecting};
 use my_frame::NoMemory;
 use my_link::{Link, World};
 use my_opts::Opts;
 use my_script::{Outcome, Work};
+use my_value::Row;
 use std::alloc::Global;
 use std::mem;
 
 // On a connection that is there.
-fn work_there<L: Link>(
-    alloc: Global,
-    conn: &mut TapedConn<L>,
-    number: u64,
-    now: u64,
-    work: Work,
-) -> Result<Worked, NoMemory>
-    requires { ConnReady conn.old }
-    ensures { IfOk result (λ w. EachDid L.looks number work conn.old (placed w.there conn.new) w.did) }
-{
-    match work {
-        Work::Begin(call) => {
-            let did = begin_call(alloc, conn, number, now, call)?;
-            Ok(Worked { there: true, did })
-        }
-        Work::Read(aim) => {
-            let did = read_call(alloc, conn, number, now, aim)?;
-            Ok(Worked { there: true, did })
-        }
-        Work::Item => {
-            let did = item_call(alloc, conn, number, now)?;
-            Ok(Worked { there: true, did })
-        }
-        Work::LetGo => Ok(Worked {
-            there: true,
-            did: let_go(alloc, conn, number),
-        }),
-        Work::Miss => Ok(Worked {
-            there: true,
-            did: unused(alloc, Outcome::NoSuchHandle),
-        }),
-        Work::Fields => {
-            let did = tell(alloc, conn, number)?;
-            Ok(Worked { there: true, did })
-        }
-        Work::Poll(aim) => resume_there(alloc, conn, number, now, aim),
-        Work::Cancel => Ok(cancel_there(alloc, conn, number)),
-    }
-}
-
-// Owns the connection for the step.
 fn work_conn<L: Link>(
     alloc: Global,
-    mut conn: TapedConn<L>,
+    mut conn: Conn<L>,
     number: u64,
     now: u64,
     work: Work,
 ) -> (Slot<L>, Result<StepResult, NoMemory>)
-    requires { ConnReady conn }
-    ensures did { IfOk result.1 (λ d. EachDid L.looks number work conn result.0 d) }
-    ensures linked { OnOk result.1 (HasLink result.0) }
-    ensures joined { is_linked result.0 ≡ true }
+    requires { MayWork work }
+    ensures did { IfOk result.1 (λ d. EachDid L.looks number work (ThereAt conn) result.0 d) }
+    ensures linked { is_linked result.0 ≡ true }
 {
-    match work_there(alloc, &mut conn, number, now, work) {
-        Ok(worked) => (place(conn, worked.there), Ok(worked.did)),
-        Err(error) => (Slot::There(conn), Err(error)),
+    match work {
+        Work::Begin(call) => begin_there(alloc, conn, number, now, call),
+        Work::Read(aim) => read_call(alloc, conn, number, now, aim),
+        Work::Item => {
+            let did = item_call(alloc, &mut conn, number, now);
+            (Slot::There(conn), did)
+        }
+        Work::LetGo => {
+            let did = let_go(alloc, &conn, number);
+            (Slot::There(conn), Ok(did))
+        }
+        Work::Miss => (Slot::There(conn), Ok(unused(alloc, Outcome::NoSuchHandle))),
+        Work::Fields => {
+            let did = tell(alloc, &conn, number);
+            (Slot::There(conn), did)
+        }
+        Work::Poll(aim) => resume_there(alloc, conn, number, now, aim),
+        Work::Cancel => {
+            let did = cancel_there(alloc, &mut conn, number);
+            (Slot::There(conn), Ok(did))
+        }
+    }
+}
+
+// On a connection whose handshake is open.
+fn work_connecting<L: Link>(
+    alloc: Global,
+    conn: Connecting<L>,
+    number: u64,
+    now: u64,
+    work: &Work,
+) -> (Slot<L>, Result<StepResult, NoMemory>)
+    ensures did { IfOk result.1 (λ d. EachDid L.looks number work.now (ConnectingAt conn) result.0 d) }
+    ensures linked { is_linked result.0 ≡ true }
+{
+    match work {
+        Work::Poll(_) => poll_connect(alloc, conn, number, now),
+        Work::Cancel => {
+            let (slot, did) = cancel_connect(alloc, conn, number);
+            (slot, Ok(did))
+        }
+        Work::Begin(_) | Work::Read(_) | Work::Item | Work::LetGo | Work::Miss | Work::Fields => (
+            Slot::Connecting(conn),
+            Ok(unused(alloc, Outcome::NoSuchHandle)),
+        ),
+    }
+}
+
+// On a connection that gathers rows.
+fn work_gathering<L: Link>(
+    alloc: Global,
+    conn: Conn<L>,
+    rows: Vec<Row>,
+    number: u64,
+    now: u64,
+    work: &Work,
+) -> (Slot<L>, Result<StepResult, NoMemory>)
+    ensures did { IfOk result.1 (λ d. EachDid L.looks number work.now (GatheringAt conn rows) result.0 d) }
+    ensures linked { is_linked result.0 ≡ true }
+{
+    match work {
+        Work::Poll(_) => resume_gathering(alloc, conn, rows, number, now),
+        Work::Cancel => {
+            let (slot, did) = cancel_gathering(alloc, conn, rows, number);
+            (slot, Ok(did))
+        }
+        Work::Begin(_) | Work::Read(_) | Work::Item | Work::LetGo | Work::Miss | Work::Fields => (
+            Slot::Gathering(conn, rows),
+            Ok(unused(alloc, Outcome::NoSuchHandle)),
+        ),
     }
 }
 
@@ -126,7 +152,7 @@ fn work_on<N: World>(
     now: u64,
     work: Work,
 ) -> (Slot<N::L>, Result<StepResult, NoMemory>)
-    requires { SlotReady slot }
+    requires { MayWork work }
     ensures others { SameBut number (N.seen world.old).plans (N.seen world.new).plans }
     ensures takes { (N.seen world.new).takes ≡ (N.seen world.old).takes }
     ensures chance { OnOk result.1 ((N.seen world.new).chance ≡
@@ -142,6 +168,16 @@ fn work_on<N: World>(
 {
     match slot {
         Slot::There(conn) => work_conn(alloc, conn, number, now, work),
+        Slot::Connecting(conn) => {
+            let worked = work_connecting(alloc, conn, number, now, &work);
+            drop(work);
+            worked
+        }
+        Slot::Gathering(conn, rows) => {
+            let worked = work_gathering(alloc, conn, rows, number, now, &work);
+            drop(work);
+            worked
+        }
         Slot::Held => {
             let worked = work_held(alloc, opts, world, number, now, &work);
             drop(work);
@@ -151,9 +187,12 @@ fn work_on<N: World>(
             drop(work);
             return (Slot::Gone, Ok(unused(alloc, Outcome::NoSuchHandle)));
         }
-        Slot::Ended(conn) => {
+        Slot::Ended(tape, link) => {
             drop(work);
-            return (Slot::Ended(conn), Ok(unused(alloc, Outcome::NoSuchHandle)));
+            return (
+                Slot::Ended(tape, link),
+                Ok(unused(alloc, Outcome::NoSuchHandle)),
+            );
         }
     }
 }
@@ -168,7 +207,7 @@ pub(crate) fn work_at<N: World>(
     now: u64,
     work: Work,
 ) -> Result<StepResult, NoMemory>
-    requires { AreReady slots.old.items }
+    requires { MayWork work }
     ensures count { OnOk result (length slots.new.items ≡ length slots.old.items) }
     ensures midst { InMidst (redials (handle_at N.L.looks (N.seen world.old).plans slots.old.items number) work)
         (Some number) (N.seen world.old) (N.seen world.new) slots.old.items slots.new.items }

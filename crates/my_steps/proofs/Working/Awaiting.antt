@@ -4,7 +4,7 @@ use Rattle.my_link.specs.Looks.{Looks}
 use Rattle.my_link.specs.declared.dialer.DialItem.{DialItem}
 use Rattle.my_link.specs.World.{Plans, SameAt, SameBut, SameFrom, SameLink}
 use Rattle.my_steps.specs.declared.slot.Slot.{Slot}
-use Rattle.my_steps.specs.declared.slot.Slot.TheVariants.{Gone, Held, There, Ended}
+use Rattle.my_steps.specs.declared.slot.Slot.TheVariants.{Gone, Held, Connecting, There, Gathering, Ended}
 use Rattle.my_steps.specs.Dialing.{is_dialing}
 use Rattle.my_steps.specs.Handle.{at_number, put_at}
 use Rattle.my_steps.specs.Keeps.{IsAwaited, AreAwaited}
@@ -26,32 +26,42 @@ at_sym a b n f = record { reads = sym f.reads; writes = sym f.writes; dials = sy
 pub awaited_on : {L : Type 0} (plans before later : Plans) (n : ℕ) (s : Slot L) → SameLink plans before n → IsAwaited before later n s → IsAwaited plans later n s
 awaited_on plans before later n Gone same w = tt
 awaited_on plans before later n Held same w = link_trans plans before later n same w
+awaited_on plans before later n (Connecting c) same w = tt
 awaited_on plans before later n (There c) same w = tt
-awaited_on plans before later n (Ended c) same w = tt
+awaited_on plans before later n (Gathering c rows) same w = tt
+awaited_on plans before later n (Ended t l) same w = tt
 
 awaited_still : {L : Type 0} (plans before later : Plans) (n : ℕ) (s : Slot L) → SameAt before later n → IsAwaited plans before n s → IsAwaited plans later n s
 awaited_still plans before later n Gone same w = tt
 awaited_still plans before later n Held same w = link_trans plans before later n w (link_at before later n same)
+awaited_still plans before later n (Connecting c) same w = tt
 awaited_still plans before later n (There c) same w = tt
-awaited_still plans before later n (Ended c) same w = tt
+awaited_still plans before later n (Gathering c rows) same w = tt
+awaited_still plans before later n (Ended t l) same w = tt
 
 pub linked_awaited : {L : Type 0} (plans now : Plans) (n : ℕ) (s : Slot L) → HasLink s → IsAwaited plans now n s
 linked_awaited plans now n Gone w = absurd w
 linked_awaited plans now n Held w = absurd w
+linked_awaited plans now n (Connecting c) w = tt
 linked_awaited plans now n (There c) w = tt
-linked_awaited plans now n (Ended c) w = tt
+linked_awaited plans now n (Gathering c rows) w = tt
+linked_awaited plans now n (Ended t l) w = tt
 
 pub linked_handle : {L : Type 0} (look : L → Looks) (left : Option (List DialItem)) (s : Slot L) → HasLink s → handle_of look s ≡ handle_with look left s
 linked_handle look left Gone w = absurd w
 linked_handle look left Held w = absurd w
+linked_handle look left (Connecting c) w = refl
 linked_handle look left (There c) w = refl
-linked_handle look left (Ended c) w = refl
+linked_handle look left (Gathering c rows) w = refl
+linked_handle look left (Ended t l) w = refl
 
 pub dialing_same : {L : Type 0} (look : L → Looks) (left : Option (List DialItem)) (s : Slot L) → is_dialing (handle_with look left s) ≡ is_dialing (handle_of look s)
 dialing_same look left Gone = refl
 dialing_same look left Held = refl
+dialing_same look left (Connecting c) = refl
 dialing_same look left (There c) = refl
-dialing_same look left (Ended c) = refl
+dialing_same look left (Gathering c rows) = refl
+dialing_same look left (Ended t l) = refl
 
 -- from a number on
 pub awaited_from : {L : Type 0} (plans before later : Plans) (k : ℕ) (ss : List (Slot L)) → ((m : ℕ) → k ≤ m → SameAt before later m) → AreAwaited plans before k ss → AreAwaited plans later k ss

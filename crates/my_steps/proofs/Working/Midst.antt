@@ -1,14 +1,13 @@
 -- What a step may have done by the time that memory ran out in it.
-use Rattle.std.proofs.Common.{ℕ, ◌≡◌, ◌≢◌, ◌<◌, zero, suc, List, [], ◌∷◌, ◌++◌, ◌&&◌, length, get_or, slice_set, Option, None, Some, Bool, true, false, Result, Ok, Err, OnOk, OnErr, refl, sym, ap, ◌∙◌, subst, arith}
+use Rattle.std.proofs.Common.{ℕ, ◌≡◌, ◌≢◌, ◌<◌, zero, suc, List, [], ◌∷◌, ◌++◌, length, get_or, slice_set, Option, None, Some, Bool, true, false, Result, Ok, Err, OnOk, OnErr, refl, sym, ap, ◌∙◌, subst, arith}
 use Rattle.my_statements.specs.Prepared.{StatementView}
 use Rattle.my_link.specs.Looks.{Looks}
 use Rattle.my_link.specs.World.{Back, DialCounts, IsFresh, WorldSeen, with_back}
-use Rattle.my_client.specs.declared.conn.TapedConn.{TapedConn}
 use Rattle.my_script.specs.declared.aim.Aim.{Aim}
 use Rattle.my_script.specs.declared.step.Step.{Step}
 use Rattle.my_script.specs.declared.step.Step.TheVariants as steps
 use Rattle.my_steps.specs.declared.slot.Slot.{Slot}
-use Rattle.my_steps.specs.declared.slot.Slot.TheVariants.{Gone}
+use Rattle.my_steps.specs.declared.slot.Slot.TheVariants.{Gone, Held, Connecting, There, Gathering, Ended}
 use Rattle.my_script.specs.declared.action.Action.{Action}
 use Rattle.my_script.specs.declared.action.Work.{Work}
 use Rattle.my_steps.specs.Dialing.{has_dialed}
@@ -17,7 +16,7 @@ use Rattle.my_steps.specs.Did.{redials}
 use Rattle.my_steps.specs.Handle.{Handle}
 use Rattle.my_steps.specs.Midst.{number_of, number_by, DialTried, Kept, Unused, Untold, MayDial, TriesDial, MayTry, is_linked, LinkStays, slot_at, InMidst}
 use Rattle.my_steps.specs.Orders.{dials_by}
-use Rattle.my_steps.specs.Slot.{handle_of, placed}
+use Rattle.my_steps.specs.Slot.{HasLink, handle_of}
 use Rattle.my_steps.proofs.Working.Numbers.{set_twice}
 use Rattle.my_steps.proofs.Working.Ordering.{dials_is}
 
@@ -38,9 +37,13 @@ may_same true number c back = Kept refl refl
 may_same false number c back = (refl, refl)
 
 -- one slot
-pub placed_linked : {L : Type 0} (b : Bool) (c : TapedConn L) → is_linked (placed b c) ≡ true
-placed_linked true c = refl
-placed_linked false c = refl
+pub has_link : {L : Type 0} (s : Slot L) → is_linked s ≡ true → HasLink s
+has_link Gone e = cc
+has_link Held e = cc
+has_link (Connecting c) e = tt
+has_link (There c) e = tt
+has_link (Gathering c rows) e = tt
+has_link (Ended t l) e = tt
 
 pub slot_tried : {L : Type 0} (look : L → Looks) (s known : Slot L) (work : Work) (number : Option ℕ) (before later : WorldSeen) → s ≡ known → MayTry (redials (handle_of look known) work) number before later → MayTry (redials (handle_of look s) work) number before later
 slot_tried {L} look s known work number before later e w = subst (λ (x : Slot L). MayTry (redials (handle_of look x) work) number before later) (sym e) w

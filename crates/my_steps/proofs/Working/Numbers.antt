@@ -95,3 +95,7 @@ redials_here look now ss n v work h e =
 
 pub redials_past : {L : Type 0} (look : L → Looks) (now : Plans) (ss : List (Slot L)) (n : ℕ) (work : Work) → length ss ≤ n → redials (at_number (handles_in look now ss) n) work ≡ false
 redials_past look now ss n work h = let past : length (handles_in look now ss) ≤ n = omega (arith, handles_length look now.dials 0 ss, h) in ap (λ x. redials x work) (past_at n (handles_in look now ss) past)
+
+-- what holds of a result that is known
+pub ok_at : {T E : Type 0} (r : Result T E) (x : T) (P : T → Type 0) → r ≡ Ok x → IfOk r P → P x
+ok_at {T} {E} r x P e p = subst (λ (s : Result T E). IfOk s P) e p

@@ -32,7 +32,35 @@ use Rattle.my_steps.proofs.Working.Awaiting.{awaited_from, handles_same}
 pub may_carry : (takes found : Bool) (aim : Aim) (named : Option StatementView) (step : Step) → may_stand takes step ≡ true → MayCarry takes (action_of found aim named step)
 may_carry takes found aim named (steps.Advance by) e = (e, tt)
 may_carry takes found aim named (steps.Random word) e = (e, tt)
-may_carry takes found aim named _ e = tt
+may_carry takes found aim named steps.Conn e = tt
+may_carry takes found aim named (steps.Query n text) e = refl
+may_carry takes found aim named (steps.Prepare n text) e = refl
+may_carry takes found aim (Some s) (steps.Execute n number params) e = refl
+may_carry takes found aim None (steps.Execute n number params) e = tt
+may_carry takes found aim (Some s) (steps.CloseStatement n number) e = refl
+may_carry takes found aim None (steps.CloseStatement n number) e = tt
+may_carry takes found aim named (steps.Next n) e = tt
+may_carry takes found aim named (steps.Collect n) e = tt
+may_carry takes found aim named (steps.Drop n) e = refl
+may_carry takes found aim named (steps.Ping n) e = refl
+may_carry takes found aim named (steps.Reset n) e = refl
+may_carry takes found aim named (steps.User n change) e = refl
+may_carry takes found aim named (steps.Begin n opts) e = refl
+may_carry takes found aim named (steps.Quit n) e = refl
+may_carry takes found aim named (steps.Stream n) e = tt
+may_carry takes found aim named (steps.Fields n) e = tt
+may_carry takes found aim named (steps.Cancel n) e = tt
+may_carry takes found aim named (steps.Poll n) e = tt
+may_carry takes true aim named (steps.Item n) e = tt
+may_carry takes false aim named (steps.Item n) e = tt
+may_carry takes true aim named (steps.Unstream n) e = tt
+may_carry takes false aim named (steps.Unstream n) e = tt
+may_carry takes true aim named (steps.Commit n) e = refl
+may_carry takes false aim named (steps.Commit n) e = tt
+may_carry takes true aim named (steps.Rollback n) e = refl
+may_carry takes false aim named (steps.Rollback n) e = tt
+may_carry takes true aim named (steps.ForgetTransaction n) e = refl
+may_carry takes false aim named (steps.ForgetTransaction n) e = tt
 
 and_false : (b : Bool) → b && false ≡ false
 and_false true = refl

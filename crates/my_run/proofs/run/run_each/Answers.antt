@@ -43,12 +43,8 @@ returns-clause-ok g c =
 pub loop-i-init : goal.loop-i-init
 loop-i-init g c = record { so_far = λ plans same. let u = none_yet g.N.L.Link.looks (login_of c.args.opts.now) plans (g.N.Dialer.seen c.args.world.now) [] c.args.slots.now.items c.args.answers.now.items same refl c.requires.no_slots c.requires.no_answers in (u.0, λ n. c.new-beside.ensures n ∙ sym (u.1 n), c.new-statements.ensures ∙ sym u.2); takes = refl }
 
-pub run_step-requires-clause-ready : goal.run_step-requires-clause-ready
-run_step-requires-clause-ready g c =
-    (login_of c.args.opts.now, (c.loop-i.invariant.so_far (g.N.Dialer.seen c.args.world.now).plans (λ n. record { reads = refl; writes = refl; dials = refl })).0.stood)
-
-pub run_step-requires-clause-stands : goal.run_step-requires-clause-stands
-run_step-requires-clause-stands g c =
+pub run_step-requires : goal.run_step-requires
+run_step-requires g c =
     let this : c.index-steps-i.result ≡ get_or c.args.steps.now c.loop-i.i c.index-steps-i.result = search rules in
     subst (λ (b : Bool). may_stand b c.index-steps-i.result ≡ true) (sym c.loop-i.invariant.takes) (ap (may_stand (g.N.Dialer.seen c.args.world.now).takes) this ∙ stands_at (may_stand (g.N.Dialer.seen c.args.world.now).takes) c.args.steps.now c.loop-i.i c.index-steps-i.result c.requires.stand c.loop-i-test.true)
 

@@ -1,10 +1,15 @@
-use Rattle.std.proofs.Common.{◌≡◌, ◌<◌, ◌+◌, [], suc, length, map, true, false, sym, ◌∙◌, vec_len, rules, arith}
+use Rattle.std.proofs.Common.{◌≡◌, ◌<◌, ◌+◌, ◌==◌, ℕ, List, [], suc, length, map, true, false, sym, ap, ◌∙◌, vec_len, rules, arith}
+use Rattle.std.proofs.lemmas.Bool.Decides.{nat_tests}
+use Rattle.my_steps.specs.declared.slot.Slot.{Slot}
 use Rattle.my_steps.specs.Slot.{handle_of}
-use Rattle.my_run.specs.Tapes.{links_at, links_in, tape_at, tape_view}
-use Rattle.my_run.proofs.Runs.Taping.{link_on, tape_on}
+use Rattle.my_run.specs.Tapes.{links_at, links_in, tape_at, tape_view, with_links}
+use Rattle.my_run.proofs.Runs.Taping.{link_on, tape_on, with_none}
 use Rattle.my_run.proofs.Stopping.{hands_end, hands_on, hands_out, nil_of}
 use Rattle.my_run.proofs.run.tapes_of.Goals.{in-Ok, in-Err}
 use Rattle.my_run.proofs.run.tapes_of.Goals as goal
+
+nothing_left : (n : ℕ) → n == 0 ≡ true → n ≡ 0
+nothing_left n e = grind (arith, nat_tests)
 
 pub slots-preserved : goal.slots-preserved
 slots-preserved g c =
@@ -31,6 +36,15 @@ slots-preserved g c =
 
 pub returns-then-not-is_whole-clause-err : goal.returns-then-not-is_whole-clause-err
 returns-then-not-is_whole-clause-err g c =
-    let zero : length c.slots.slots.items ≡ 0 = first_of (search rules, grind rules) in
-    let none : c.slots.slots.items ≡ [] = nil_of c.slots.slots.items zero in
+    let empty : vec_len c.slots.slots == 0 ≡ true = sym c.is_empty.ensures ∙ c.slots-test.false in
+    let count : length c.slots.slots.items ≡ 0 = omega (arith, c.slots.slots.ok.0, nothing_left (vec_len c.slots.slots) empty) in
+    let none : c.slots.slots.items ≡ [] = nil_of c.slots.slots.items count in
     hands_end g.N.L.Link.looks c.slots.number c.slots.slots.items c.slots.is_whole (links_in 0 (map (handle_of g.N.L.Link.looks) c.args.slots.items)) (g.N.Dialer.seen c.args.world.now).back (g.N.Dialer.seen c.slots.world).back none c.slots.invariant.hands
+
+pub returns-clause-back : goal.returns-clause-back
+returns-clause-back g c =
+    let empty : vec_len c.slots.slots == 0 ≡ true = sym c.is_empty.ensures ∙ c.slots-test.false in
+    let count : length c.slots.slots.items ≡ 0 = omega (arith, c.slots.slots.ok.0, nothing_left (vec_len c.slots.slots) empty) in
+    let none : c.slots.slots.items ≡ [] = nil_of c.slots.slots.items count in
+    let back = (g.N.Dialer.seen c.slots.world).back in
+    sym (with_none back) ∙ ap (λ (xs : List (Slot g.row.N-L.Denot)). with_links (links_in c.slots.number (map (handle_of g.N.L.Link.looks) xs)) back) (sym none) ∙ c.slots.invariant.back c.if-not-is_whole.false

@@ -1,32 +1,20 @@
-use Rattle.my_steps.proofs.Working.Readying.{asked_first}
-use Rattle.my_steps.proofs.Working.Cancelling.{collect_refused}
-use Rattle.std.proofs.Common.{◌≡◌, true, not, None, is_none, rules, ap, refl}
-use Rattle.my_steps.proofs.Working.Beginning.{not_refused}
-use Rattle.my_steps.proofs.Working.Gathered.{and_true, collect_begun, collect_closed}
+use Rattle.std.proofs.Common.{◌≡◌, ◌||◌, List, [], None, false, sym, ◌∙◌, rules, subst}
 use Rattle.std.proofs.lemmas.Result.{IfOk-weaker}
-use Rattle.my_steps.proofs.Working.Numbers.{did_kept}
+use Rattle.my_reading.specs.declared.call.CallKind.TheVariants.{NextRow}
+use Rattle.my_session.specs.Sessions.{is_refused}
+use Rattle.my_value.specs.RowParts.{RowParts}
+use Rattle.my_steps.specs.Gathering.{GatherDid}
+use Rattle.my_steps.proofs.Working.Gathered.{collect_begun, collect_refused}
 use Rattle.my_steps.proofs.gather.collect_call.Goals as goal
 
-pub returns-in-Ok : goal.returns-in-Ok
-returns-in-Ok g c =
-    let idle : c.args.conn.now.session.seen.opened ≡ None = search rules in
-    IfOk-weaker c.gather.result _ _
-    (λ d f login w. collect_begun g.L.Link.looks login c.args.number c.args.conn.now (record { session = c.begin.new.self; link = c.ask.new.conn.link; tape = c.ask.new.conn.tape }) c.gather.new.conn c.ask.new.conn.session.seen c.begin.new.self.seen d.outcome d.uses.items idle (ap (λ s. s.seen) c.ask.ensures.session) (search rules) w
-    (and_true _ _ (not_refused _ c.in-Ok.ensures.refused.1)) c.in-Ok.ensures.ok c.ask.ensures.link (λ a v. f login a v)) c.gather.ensures
+pub returns-in-Some-clause-did : goal.returns-in-Some-clause-did
+returns-in-Some-clause-did g c = λ login w. collect_refused g.L.Link.looks login c.args.number c.args.conn c.in-Some.field-0 c.unused.result.outcome c.unused.result.uses.items (sym c.open_call.ensures ∙ c.in-Some.is) c.unused.ensures.outcome c.unused.ensures.uses w
 
-pub returns-in-Err : goal.returns-in-Err
-returns-in-Err g c =
-    let idle : c.args.conn.now.session.seen.opened ≡ None = search rules in
-    did_kept c.refused_call.result _ _ _ _ c.refused_call.ensures.outcome c.refused_call.ensures.uses c.refused_call.ensures.kept
-    (λ d e f k login w. collect_closed g.L.Link.looks login c.args.number c.args.conn.now c.ask.new.conn c.refused_call.new.conn c.ask.new.conn.session.seen c.begin.new.self.seen d.outcome d.uses.items idle (ap (λ s. s.seen) c.ask.ensures.session) (search rules) w c.in-Err.error
-    (and_true _ _ (c.in-Err.ensures.refused.0 refl)) c.in-Err.ensures.err c.ask.ensures.link c.in-Err.ensures.why k (ap (λ s. s.seen) c.refused_call.ensures.session) c.refused_call.ensures.link e f)
-
-pub returns-then-is_open : goal.returns-then-is_open
-returns-then-is_open g c =
-    let opened : not (is_none c.args.conn.now.session.seen.opened) ≡ true = search rules in
-    λ login w. collect_refused g.L.Link.looks login c.args.number c.args.conn.now c.unused.result.outcome c.unused.result.uses.items opened c.unused.ensures.outcome c.unused.ensures.uses w
-
-pub gather-requires : goal.gather-requires
-gather-requires g c =
-    let idle : c.args.conn.now.session.seen.opened ≡ None = search rules in
-    asked_first c.args.conn.now (record { session = c.begin.new.self; link = c.ask.new.conn.link; tape = c.ask.new.conn.tape }) c.ask.new.conn.session.seen c.requires idle (ap (λ s. s.seen) c.ask.ensures.session) (and_true _ _ (not_refused _ c.in-Ok.ensures.refused.1)) c.in-Ok.ensures.ok (search rules)
+pub returns-else-is_refusing-clause-did : goal.returns-else-is_refusing-clause-did
+returns-else-is_refusing-clause-did g c =
+    let idle : c.args.conn.pending ≡ None = sym c.open_call.ensures ∙ c.in-None.is in
+    let no : c.is_refusing.result ≡ false = search rules in
+    let live : is_refused (c.args.conn.lost || c.args.conn.seen.closed) NextRow ≡ false = sym c.is_refusing.ensures ∙ no in
+    let none : c.new.result.items ≡ [] = search rules in
+    IfOk-weaker c.gather.result.1 _ _ (λ d f login w. collect_begun g.L.Link.looks login c.args.number c.args.conn c.gather.result.0 d.outcome d.uses.items idle w live
+    (λ unclosed. subst (λ (rows : List RowParts). GatherDid g.L.Link.looks login c.args.number None c.args.conn rows c.gather.result.0 d.outcome d.uses.items) none (f login w unclosed))) c.gather.ensures.did

@@ -1,6 +1,7 @@
-use Rattle.std.proofs.Common.{length, refl}
+use Rattle.std.proofs.Common.{length, refl, subst}
 use Rattle.my_session.specs.Login.{login_of}
 use Rattle.my_script.specs.declared.action.Action.TheVariants.{Move}
+use Rattle.my_steps.specs.Orders.{MayCarry}
 use Rattle.my_steps.specs.Slot.{handles_in}
 use Rattle.my_steps.proofs.Working.Midst.{midst_moved}
 use Rattle.my_steps.proofs.Working.Numbers.{did_kept}
@@ -13,3 +14,6 @@ returns-in-Move-clause-steps g c = did_kept c.move_world-moved.result _ _ _ _ c.
 
 pub returns-in-Move-clause-midst : goal.returns-in-Move-clause-midst
 returns-in-Move-clause-midst g c = midst_moved c.args.order (Move c.in-Move.line) (handles_in g.N.L.Link.looks (g.N.Dialer.seen c.args.world.now).plans c.args.slots.now.items) (length c.args.slots.now.items) (g.N.Dialer.seen c.args.world.now) (g.N.Dialer.seen c.move_world-moved.new.world) c.args.slots.now.items c.in-Move.is refl c.move_world-moved.ensures.dials c.move_world-moved.ensures.back
+
+pub work_at-requires : goal.work_at-requires
+work_at-requires g c = subst (MayCarry (g.N.Dialer.seen c.args.world.now).takes) c.in-Visit.is c.requires

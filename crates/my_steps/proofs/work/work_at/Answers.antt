@@ -8,7 +8,6 @@ use Rattle.my_steps.specs.Slot.{handle_of, handles_in}
 use Rattle.my_steps.proofs.Working.Midst.{midst_put, midst_same}
 use Rattle.my_steps.proofs.Working.Numbers.{awaited_here, redials_here, redials_past, stood_here}
 use Rattle.my_steps.proofs.Working.Ordering.{on_ok}
-use Rattle.my_steps.proofs.Working.Readying.{ready_here}
 use Rattle.my_steps.proofs.Working.{work_past, work_put}
 use Rattle.my_steps.proofs.work.work_at.Goals as goal
 
@@ -22,11 +21,6 @@ returns-clause-steps g c =
     let within : c.args.number < length c.args.slots.now.items = search rules in
     let got : c.replace-slot.result ≡ get_or c.args.slots.now.items c.args.number c.replace-slot.result = search rules in
     IfOk-weaker c.work_on-slot.result.1 _ _ (λ d f plans awaited w. work_put g.N.L.Link.looks (login_of c.args.opts.now) plans (g.N.Dialer.seen c.args.world.now).plans (g.N.Dialer.seen c.work_on-slot.new.world).plans c.args.number c.args.work d.outcome d.uses.items c.args.slots.now.items _ c.replace-slot.result c.work_on-slot.result.0 within got (search rules) c.work_on-slot.ensures.others (f plans (awaited_here plans (g.N.Dialer.seen c.args.world.now).plans c.args.slots.now.items c.args.number c.replace-slot.result within got awaited) (stood_here (login_of c.args.opts.now) c.args.slots.now.items c.args.number c.replace-slot.result within got w)) awaited w) c.work_on-slot.ensures.did
-
-pub work_on-slot-requires : goal.work_on-slot-requires
-work_on-slot-requires g c =
-    let within : c.args.number < length c.args.slots.now.items = search rules in
-    ready_here c.args.slots.now.items c.args.number c.replace-slot.result within (search rules) c.requires
 
 pub returns-clause-counts : goal.returns-clause-counts
 returns-clause-counts g c =
