@@ -1,7 +1,8 @@
 //! Many calls of an exchange from a seed, over links in memory.
 
 use crate::links::play;
-use crate::requests::{Hands, Table, table_of};
+use crate::requests::{Hands, called};
+use crate::table::Table;
 use my_frame::NoMemory;
 use my_pool_turns::turn;
 use pool_looks::{Dice, Shown, is_sound};
@@ -111,7 +112,7 @@ fn plays(
             _ => dice.below(4),
         };
         if word != "close" || call >= CALLS / 4 * 3 {
-            match table.called(rt, alloc, hands, word, first, call)? {
+            match called(rt, alloc, table, hands, word, first, call)? {
                 Some((told, _, _)) => count(tally, told),
                 None => return Ok(false),
             }
@@ -134,16 +135,28 @@ fn ends(alloc: Global, table: &mut Table) -> bool {
     false
 }
 
-// The same of a new pool, whose links play what the seed says.
-fn round(rt: &impl Abort, alloc: Global, tally: &mut Tally, seed: u64) -> Result<bool, NoMemory> {
-    let mut dice = Dice::new(seed);
-    let mut table = table_of(alloc, some(&mut dice, POOLS, '\n'))?;
+// Links play what the seed says, and calls from it are made.
+fn plays_linked(
+    rt: &impl Abort,
+    alloc: Global,
+    table: &mut Table,
+    hands: &mut Hands,
+    dice: &mut Dice,
+    tally: &mut Tally,
+) -> Result<bool, NoMemory> {
     for number in 0..LINKS {
-        let words = some(&mut dice, PLAYS, '\n');
+        let words = some(dice, PLAYS, '\n');
         play(alloc, &mut table.world, number.saturating_add(1000), words)?;
     }
+    plays(rt, alloc, table, hands, dice, tally)
+}
+
+// The same of a new pool, which ends.
+fn round(rt: &impl Abort, alloc: Global, tally: &mut Tally, seed: u64) -> Result<bool, NoMemory> {
+    let mut dice = Dice::new(seed);
+    let mut table = Table::new(alloc, some(&mut dice, POOLS, '\n'))?;
     let mut hands = Hands::new();
-    let well = plays(rt, alloc, &mut table, &mut hands, &mut dice, tally);
+    let well = plays_linked(rt, alloc, &mut table, &mut hands, &mut dice, tally);
     hands.end(rt, &mut table.pool);
     let gone = ends(alloc, &mut table);
     drop(table);

@@ -42,22 +42,33 @@ fn round(
     }
 }
 
-// How many rounds go, of so many, and how many connections there are then.
+// How many rounds go, of so many.
+fn count_going(
+    alloc: Global,
+    pool: &mut Plain,
+    world: &mut MemWorld,
+    count: u64,
+) -> Result<u64, NoMemory> {
+    play(alloc, world, 1000, "@greeting turn @login_ok")?;
+    let mut went = 0u64;
+    for now in 0..count {
+        if round(alloc, pool, world, now)? {
+            went = went.saturating_add(1);
+        }
+    }
+    Ok(went)
+}
+
+// How many rounds go over a new pool, of so many, and how many connections there are then.
 fn leased(alloc: Global, count: u64) -> Result<(u64, u64), NoMemory> {
     let opts = opts_of(alloc, "pool_min=1&pool_max=2")?;
     let mut pool = Plain::new(alloc, opts, Dropped, 1000)?;
     let mut world = MemWorld::new(alloc);
-    play(alloc, &mut world, 1000, "@greeting turn @login_ok")?;
-    let mut went = 0u64;
-    for now in 0..count {
-        if round(alloc, &mut pool, &mut world, now)? {
-            went = went.saturating_add(1);
-        }
-    }
+    let went = count_going(alloc, &mut pool, &mut world, count);
     let counted = pool.metrics().connection_count;
     drop(pool);
     drop(world);
-    Ok((went, counted))
+    Ok((went?, counted))
 }
 
 #[test]

@@ -24,6 +24,8 @@ mod request_rows;
 #[cfg(test)]
 mod requests;
 #[cfg(test)]
+mod table;
+#[cfg(test)]
 mod tapes;
 #[cfg(test)]
 mod views;

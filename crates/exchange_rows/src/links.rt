@@ -1,10 +1,12 @@
 //! The links of an exchange's rows, which play what their lines say.
 
-use my_conn::{Conn, Connected, Connecting};
+use my_conn::{Connected, Connecting};
 use my_frame::{Blob, NoMemory};
 use my_link::{DialStep, Dialer, MemLink, MemWorld, NoAid, World, WorldLine};
 use my_opts::Opts;
 use my_opts_parts::limits::LONGEST_URL;
+use my_pool::BoxedConn;
+use pool_looks::first_word;
 use std::alloc::Global;
 
 // What words play: of a server its greeting, its OK for a login, and for a command; and a set of one row.
@@ -33,7 +35,7 @@ pub fn opts_of(alloc: Global, words: &str) -> Result<Opts, NoMemory> {
 
 fn digits_of(word: &str) -> &str {
     for line in PARTS.lines() {
-        let (name, digits) = line.split_once(' ').unwrap_or((line, ""));
+        let (name, digits) = first_word(line);
         if name == word {
             return digits;
         }
@@ -88,17 +90,21 @@ fn dialed(
 }
 
 // A connection that is made by one poll.
-fn made(alloc: Global, connecting: Connecting<MemLink>, now: u64) -> Option<Conn<MemLink>> {
+fn made(
+    alloc: Global,
+    connecting: Connecting<MemLink>,
+    now: u64,
+) -> Result<Option<BoxedConn<MemLink>>, NoMemory> {
     let (connected, _met) = connecting.poll(alloc, &mut NoAid, now);
     match connected {
-        Connected::Made(conn) => Some(conn),
+        Connected::Made(conn) => Ok(Some(BoxedConn::new(alloc, conn)?)),
         Connected::Pending(connecting) => {
             drop(connecting);
-            None
+            Ok(None)
         }
         Connected::Failed(left) => {
             drop(left);
-            None
+            Ok(None)
         }
     }
 }
@@ -110,13 +116,13 @@ pub fn connected(
     opts: &Opts,
     number: u64,
     now: u64,
-) -> Result<Option<Conn<MemLink>>, NoMemory> {
+) -> Result<Option<BoxedConn<MemLink>>, NoMemory> {
     let Some(link) = dialed(alloc, world, opts, number)? else {
         return Ok(None);
     };
     match opts.copy(alloc) {
         Ok(opts) => match Connecting::new(alloc, opts, link, now, 0, true) {
-            Ok(connecting) => Ok(made(alloc, connecting, now)),
+            Ok(connecting) => made(alloc, connecting, now),
             Err(link) => {
                 drop(link);
                 Err(NoMemory)

@@ -3,9 +3,9 @@
 ghost use Rattle.std.specs.Prelude.{◌≡◌, None};
 
 use my_client::After;
-use my_conn::Conn;
 use my_frame::Blob;
 use my_link::MemLink;
+use my_pool::BoxedConn;
 use my_reading::{Call, CallKind};
 use std::alloc::Global;
 
@@ -24,7 +24,7 @@ fn word_of(after: After) -> &'static str {
     }
 }
 
-fn asks(alloc: Global, conn: &mut Conn<MemLink>) -> &'static str
+fn asks(alloc: Global, conn: &mut BoxedConn<MemLink>) -> &'static str
     requires { conn.old.pending ≡ None }
 {
     let call = Call::Query(Blob::new(alloc));
@@ -33,7 +33,7 @@ fn asks(alloc: Global, conn: &mut Conn<MemLink>) -> &'static str
 }
 
 /// What a query returns, of which nothing is read.
-pub fn queried(alloc: Global, conn: &mut Conn<MemLink>) -> &'static str {
+pub fn queried(alloc: Global, conn: &mut BoxedConn<MemLink>) -> &'static str {
     match conn.open_call() {
         None => asks(alloc, conn),
         Some(_) => "open",

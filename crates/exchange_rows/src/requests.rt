@@ -1,53 +1,21 @@
 //! Plays the rows of requests.
 
-use crate::bell::{Bell, Rung};
-use crate::links::{opts_of, play};
 use crate::queries::queried;
 use crate::request_rows::REQUESTS;
-use crate::tapes::taken_tapes;
+use crate::table::{Pool, Table, Told};
 use my_frame::NoMemory;
-use my_link::{MemLink, MemWorld};
-use my_pool::Exchange;
+use my_link::MemLink;
 use my_pool_requests::{AskTurn, Asking, Held, Moment, ask, cancel_ask, detach, give, poll_ask};
-use my_pool_store::Kept;
-use my_pool_turns::turn;
 use my_reading::{DriverError, Error, IoError, IoKind};
-use pool_looks::{is_wanted, looks, numbers_of, replayed};
+use pool_looks::{count_rows, first_word, is_wanted, looks, numbers_of, sides};
 use std::alloc::Global;
-use std::cell::Cell;
 use std::process::Abort;
-use std::rc::Rc;
 use std::test::Fail;
-
-/// A pool over links in memory.
-pub type Pool = Exchange<MemLink, Kept, Bell>;
-
-/// A pool, the links that are there to be dialed, and the wakers that were called.
-#[derive(Drop)]
-pub struct Table {
-    pub pool: Pool,
-    pub world: MemWorld,
-    rung: Rung,
-}
 
 /// Requests and leases: four of each, by the remainders of their ages and numbers.
 pub struct Hands {
     asks: [Option<Asking<MemLink>>; 4],
     leases: [Option<Held<MemLink>>; 4],
-}
-
-/// What a call came to: a word with two numbers.
-pub type Told = (&'static str, u64, u64);
-
-/// A pool of these options, with no connection.
-pub fn table_of(alloc: Global, words: &str) -> Result<Table, NoMemory> {
-    let rung = Rc::new(alloc, Cell::new(0))?;
-    let opts = opts_of(alloc, words)?;
-    Ok(Table {
-        pool: Exchange::new(alloc, opts, Kept::new(alloc), 1000)?,
-        world: MemWorld::new(alloc),
-        rung,
-    })
 }
 
 // What an error says.
@@ -164,9 +132,9 @@ impl Hands {
         table: &mut Table,
         asking: Option<Asking<MemLink>>,
         now: u64,
-    ) -> Result<Told, NoMemory> {
+    ) -> Told {
         let Some(asking) = asking else {
-            return Ok(("no", 0, 0));
+            return ("no", 0, 0);
         };
         assert!(rt; asking.is_of(table.pool.core()), "a request of this pool");
         let age = asking.age();
@@ -184,7 +152,7 @@ impl Hands {
             bell,
             moment,
         );
-        Ok(self.turned(rt, &mut table.pool, turn))
+        self.turned(rt, &mut table.pool, turn)
     }
 
     // A leased connection asks for a set.
@@ -228,128 +196,78 @@ fn done(done: bool) -> Told {
     (if done { "done" } else { "no" }, 0, 0)
 }
 
-impl Table {
-    // The waker of an age, where there is memory for one.
-    fn bell(&self, age: u64) -> Option<Bell> {
-        match self.rung.clone() {
-            Ok(rung) => Some(Bell { age, rung }),
-            Err(_) => None,
+/// What a call of a word returns; none where it is no call.
+pub fn called(
+    rt: &impl Abort,
+    alloc: Global,
+    table: &mut Table,
+    hands: &mut Hands,
+    word: &str,
+    first: u64,
+    second: u64,
+) -> Result<Option<Told>, NoMemory> {
+    let told = match word {
+        "get" => {
+            let asking = ask(&mut table.pool)?;
+            hands.poll(rt, alloc, table, Some(asking), first)
         }
-    }
-
-    // The ages whose wakers were called since this was asked last.
-    fn rung(&self) -> u64 {
-        let rung = self.rung.get();
-        self.rung.set(0);
-        rung
-    }
-
-    /// How many events the journal tells, where they lead to this pool; 0 where they don't.
-    pub fn count_told(&self, alloc: Global) -> Result<u64, NoMemory> {
-        let events = self.pool.journal().copy(alloc)?;
-        let count = events.len() as u64;
-        let opts = self.pool.opts().pool_opts();
-        let leads = replayed(alloc, self.pool.core(), opts, 1000, events.as_slice());
-        drop(events);
-        match leads? {
-            Some(true) => Ok(count),
-            _ => Ok(0),
+        "again" => {
+            let asking = hands.take_ask(first);
+            hands.poll(rt, alloc, table, asking, second)
         }
-    }
+        "drop" => done(end_ask(rt, &mut table.pool, hands.take_ask(first))),
+        "give" => done(end_lease(rt, &mut table.pool, hands.take_lease(first))),
+        "detach" => done(end_detached(rt, &mut table.pool, hands.take_lease(first))),
+        "query" => (hands.query(rt, alloc, &mut table.pool, first), 0, 0),
+        _ => return table.own(alloc, word, first),
+    };
+    Ok(Some(told))
+}
 
-    // What a call of the pool alone returns.
-    fn own(&mut self, alloc: Global, word: &str, first: u64) -> Result<Option<Told>, NoMemory> {
-        let told = match word {
-            "turn" => ("left", turn(alloc, &mut self.pool, first) as u64, 0),
-            "ttl" => ("moved", self.pool.check_ttl(first), 0),
-            "close" => {
-                self.pool.close();
-                ("done", 0, 0)
-            }
-            "gone" => (
-                if self.pool.poll_disconnect() {
-                    "gone"
-                } else {
-                    "there"
-                },
-                0,
-                0,
-            ),
-            "rung" => ("ages", self.rung(), 0),
-            "told" => ("events", self.count_told(alloc)?, 0),
-            "tapes" => {
-                let (numbers, calls) = taken_tapes(alloc, &mut self.pool)?;
-                ("left", numbers, calls)
-            }
-            _ => return Ok(None),
-        };
-        Ok(Some(told))
+fn goes(
+    rt: &impl Abort,
+    alloc: Global,
+    table: &mut Table,
+    hands: &mut Hands,
+    row: &str,
+) -> Result<bool, NoMemory> {
+    let (given, want) = sides(row);
+    if table.links(alloc, given)? {
+        return Ok(true);
     }
-
-    /// What a call of a word returns; none where it is no call.
-    pub fn called(
-        &mut self,
-        rt: &impl Abort,
-        alloc: Global,
-        hands: &mut Hands,
-        word: &str,
-        first: u64,
-        second: u64,
-    ) -> Result<Option<Told>, NoMemory> {
-        let told = match word {
-            "get" => {
-                let asking = ask(&mut self.pool)?;
-                hands.poll(rt, alloc, self, Some(asking), first)?
-            }
-            "again" => {
-                let asking = hands.take_ask(first);
-                hands.poll(rt, alloc, self, asking, second)?
-            }
-            "drop" => done(end_ask(rt, &mut self.pool, hands.take_ask(first))),
-            "give" => done(end_lease(rt, &mut self.pool, hands.take_lease(first))),
-            "detach" => done(end_detached(rt, &mut self.pool, hands.take_lease(first))),
-            "query" => (hands.query(rt, alloc, &mut self.pool, first), 0, 0),
-            _ => return self.own(alloc, word, first),
-        };
-        Ok(Some(told))
-    }
-
-    fn goes(
-        &mut self,
-        rt: &impl Abort,
-        alloc: Global,
-        hands: &mut Hands,
-        row: &str,
-    ) -> Result<bool, NoMemory> {
-        let (given, want) = row.split_once(" = ").unwrap_or((row, ""));
-        if let Some(words) = given.strip_prefix("link ") {
-            let (_, words) = words.split_once(' ').unwrap_or((words, ""));
-            let [number, ..] = numbers_of(given);
-            play(alloc, &mut self.world, number, words)?;
-            return Ok(true);
-        }
-        let [first, second, ..] = numbers_of(given);
-        let (word, _) = given.split_once(' ').unwrap_or((given, ""));
-        match self.called(rt, alloc, hands, word, first, second)? {
-            Some((word, first, second)) => Ok(is_wanted(want, word, &[first, second], 0)),
-            None => Ok(looks(self.pool.core(), given, want)),
-        }
+    let [first, second, ..] = numbers_of(given);
+    let (word, _) = first_word(given);
+    match called(rt, alloc, table, hands, word, first, second)? {
+        Some((word, first, second)) => Ok(is_wanted(want, word, &[first, second], 0)),
+        None => Ok(looks(table.pool.core(), given, want)),
     }
 }
 
 // How many rows of a block go, up to the first one that doesn't.
-fn count_right(rt: &impl Abort, alloc: Global, block: &str) -> Result<u64, NoMemory> {
-    let (words, _) = block.split_once(' ').unwrap_or((block, ""));
-    let mut table = table_of(alloc, words)?;
-    let mut hands = Hands::new();
+fn count_going(
+    rt: &impl Abort,
+    alloc: Global,
+    table: &mut Table,
+    hands: &mut Hands,
+    block: &str,
+) -> u64 {
     let mut count = 0u64;
     for row in block.lines().skip(1) {
-        match table.goes(rt, alloc, &mut hands, row) {
+        match goes(rt, alloc, table, hands, row) {
             Ok(true) => count = count.saturating_add(1),
             Ok(false) => break,
             Err(NoMemory) => break,
         }
     }
+    count
+}
+
+// The same over a new pool.
+fn count_right(rt: &impl Abort, alloc: Global, block: &str) -> Result<u64, NoMemory> {
+    let (words, _) = first_word(block);
+    let mut table = Table::new(alloc, words)?;
+    let mut hands = Hands::new();
+    let count = count_going(rt, alloc, &mut table, &mut hands, block);
     hands.end(rt, &mut table.pool);
     drop(table);
     Ok(count)
@@ -360,10 +278,7 @@ fn requests(rt: HostRuntime) -> Result<(), Fail> {
     let mut ran = 0u64;
     for block in REQUESTS.split("# ").skip(1) {
         let count = count_right(&rt, rt.alloc(), block)?;
-        assert!(rt;
-            count == (block.lines().count() as u64).saturating_sub(1),
-            "row {count} of {block}"
-        );
+        assert!(rt; count == count_rows(block), "row {count} of {block}");
         ran = ran.saturating_add(count);
     }
     println!(rt; "{ran} rows of requests")?;

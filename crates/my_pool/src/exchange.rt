@@ -8,8 +8,8 @@ mod ending;
 mod moving;
 mod returning;
 
+use crate::boxed::BoxedConn;
 use my_client::Tape;
-use my_conn::Conn;
 use my_frame::NoMemory;
 use my_opts::Opts;
 use my_pool_core::Core;
@@ -33,7 +33,7 @@ fn room_for_one_more(core: &Core) -> Option<usize>
 pub struct Exchange<L, J: Journal, W: Wake> {
     opts: Opts,
     core: Core,
-    shelf: Shelf<Conn<L>>,
+    shelf: Shelf<BoxedConn<L>>,
     wakers: Wakers<W>,
     journal: J,
     // The tapes of connections that are gone, by their numbers.

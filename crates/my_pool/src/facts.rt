@@ -3,14 +3,15 @@
 ghost use Rattle.std.specs.Prelude.{◌≡◌};
 ghost use Rattle.my_pool.specs.Fit.{IsCleanConn, IsFit, facts_of};
 
-use my_conn::Conn;
+use crate::boxed::BoxedConn;
 use my_pool_core::Facts;
 use my_pool_parts::Times;
 
 /// The facts of a connection at a moment, in milliseconds.
-pub fn facts_at<L>(conn: &Conn<L>, now: u64) -> Facts
+pub fn facts_at<L>(conn: &BoxedConn<L>, now: u64) -> Facts
     ensures { result ≡ facts_of now conn.now }
 {
+    let conn = conn.conn();
     let times = Times {
         since: now,
         deadline: conn.deadline(),
@@ -30,8 +31,8 @@ pub fn facts_at<L>(conn: &Conn<L>, now: u64) -> Facts
 
 /// A connection that is fit is clean, whatever it did. This does nothing; it is for callers whose proof needs that
 /// fact.
-pub fn fit_is_clean<L>(conn: &Conn<L>)
+pub fn fit_is_clean<L>(conn: &BoxedConn<L>)
     ensures { IsFit conn.now → IsCleanConn conn.now }
 {
-    let _ = conn.is_dirty();
+    let _ = conn.conn().is_dirty();
 }

@@ -1,5 +1,6 @@
 //! A connection that a pool has handed out to be worked on.
 
+use crate::boxed::BoxedConn;
 use my_client::After;
 use my_conn::Conn;
 use my_link::{Link, Met};
@@ -10,7 +11,7 @@ use std::marker::Model;
 /// A connection with its number, in a caller's hand. It can't be dropped: it ends by a call of the pool.
 pub struct Out<L> {
     pub(crate) number: u64,
-    pub(crate) conn: Conn<L>,
+    pub(crate) conn: BoxedConn<L>,
 }
 
 impl<L> Model for Out<L> {
@@ -36,7 +37,7 @@ impl<L> Out<L> {
     pub fn conn(&self) -> &Conn<L>
         ensures { result.now ≡ self.now.conn }
     {
-        &self.conn
+        self.conn.conn()
     }
 }
 

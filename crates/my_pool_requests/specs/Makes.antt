@@ -1,5 +1,5 @@
 -- How a request's connection is made: by a dial, and by its connect call. The pool is told by nobody here.
-use Rattle.std.specs.Prelude.{◌≡◌, ℕ, Bool, Option, Some, None, is_some}
+use Rattle.std.specs.Prelude.{◌≡◌, ◌⊎◌, ℕ, Bool, Option, Some, None, is_some}
 use Rattle.std.specs.declared.result.Result.{Result}
 use Rattle.std.specs.declared.result.Result.TheVariants.{Ok, Err}
 use Rattle.my_frame.specs.declared.no_memory.NoMemory.{NoMemory}
@@ -74,6 +74,10 @@ abbrev pub MadeBy : {L : Type 0} → Connected L → Made L → Type 0
 MadeBy (connecteds.Pending c) made = made ≡ makings.Pending c
 MadeBy (connecteds.Made c) made = made ≡ makings.Good c
 MadeBy (connecteds.Failed left) made = made ≡ makings.Failed left.error left.tape
+
+-- it comes to this, or memory ran out
+abbrev pub RunsOutOr : {L : Type 0} → Made L → Made L → Type 0
+RunsOutOr want made = (made ≡ want) ⊎ (made ≡ makings.Failed errors.NoMemory None)
 
 -- one poll of it
 pub record MakesOn {L : Type 0} (look : L → Looks) (texts : Texts) (now : ℕ) (c : ConnectSeen L) (made : Made L)

@@ -11,11 +11,11 @@ ghost use Rattle.my_pool_requests.specs.Makes.{outside};
 ghost use Rattle.my_pool_requests.specs.Polls.{Cancels, DialsIt, MakesIt, PollsAsk, PollsFree};
 ghost use Rattle.my_pool_requests.specs.Settles.{FitsIn, IsAsking};
 
+use crate::boxed::BoxedMaking;
 use crate::looks::{Sought, look, seek};
 use crate::making::{dial_on, make_on};
 use crate::request::{AskTurn, Asking, Moment, Stage};
 use crate::settling::settle;
-use my_conn::Connecting;
 use my_frame::NoMemory;
 use my_link::{Aid, Dialer, Link};
 use my_pool::Exchange;
@@ -57,7 +57,7 @@ fn poll_making<L: Link + Drop, A: Aid, J: Journal, W: Wake>(
     pool: &mut Exchange<L, J, W>,
     age: u64,
     number: u64,
-    making: Connecting<L>,
+    making: BoxedMaking<L>,
     aid: &mut A,
     now: u64,
 ) -> AskTurn<L>
@@ -67,6 +67,7 @@ fn poll_making<L: Link + Drop, A: Aid, J: Journal, W: Wake>(
     ensures fits { FitsIn result pool.new }
     ensures texts { A.texts aid.new ≡ A.texts aid.old }
 {
+    let making = making.into_making();
     let made = make_on(alloc, making, aid, now);
     settle(pool, age, number, made)
 }

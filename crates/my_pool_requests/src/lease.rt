@@ -10,11 +10,11 @@ ghost use Rattle.my_pool_requests.specs.Settles.{Settles};
 use crate::request::Held;
 use my_conn::Conn;
 use my_link::Link;
-use my_pool::Exchange;
+use my_pool::{BoxedConn, Exchange};
 use my_pool_store::{Journal, Wake};
 
 // The open call of a connection is cancelled, where there is one.
-fn still<L: Link>(conn: &mut Conn<L>)
+fn still<L: Link>(conn: &mut BoxedConn<L>)
     ensures by { StillBy conn.old.pending conn.old conn.new }
     ensures still { IsStill conn.new }
 {
@@ -45,5 +45,5 @@ pub fn detach<L: Drop, J: Journal, W: Wake>(pool: &mut Exchange<L, J, W>, held: 
     let mut conn = conn;
     pool.detach(number);
     conn.set_pooled(false);
-    conn
+    conn.into_conn()
 }

@@ -2,6 +2,7 @@
 #![tactic(auto)]
 
 mod asking;
+mod boxed;
 pub mod laws;
 mod lease;
 mod looks;

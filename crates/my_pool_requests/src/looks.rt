@@ -14,9 +14,8 @@ ghost use Rattle.my_pool_store.specs.Shelves.{numbered};
 
 use crate::request::{AskTurn, Asking, Stage};
 use crate::settling::lease;
-use my_conn::Conn;
 use my_link::{CheckStep, Link};
-use my_pool::Exchange;
+use my_pool::{BoxedConn, Exchange};
 use my_pool_core::PollAnswer;
 use my_pool_store::{Journal, Wake};
 use my_reading::{DriverError, Error};
@@ -34,7 +33,7 @@ fn let_go<L: Drop, J: Journal, W: Wake>(
     pool: &mut Exchange<L, J, W>,
     age: u64,
     number: u64,
-    conn: Conn<L>,
+    conn: BoxedConn<L>,
 )
     requires { token age pool.old.state ≡ Some (Looking number) }
     ensures failed { SettlesWith (numbered number conn.tape) (events.Failed age number) pool.old pool.new }
@@ -52,7 +51,7 @@ pub(crate) fn look<L: Link + Drop, J: Journal, W: Wake>(
     pool: &mut Exchange<L, J, W>,
     age: u64,
     number: u64,
-    conn: Conn<L>,
+    conn: BoxedConn<L>,
 ) -> Option<AskTurn<L>>
     requires holds { token age pool.old.state ≡ Some (Looking number) }
     requires fit { IsFit conn }
@@ -104,7 +103,7 @@ fn answered<L: Link + Drop, J: Journal, W: Wake>(
     pool: &mut Exchange<L, J, W>,
     age: u64,
     answer: PollAnswer,
-    conn: Option<Conn<L>>,
+    conn: Option<BoxedConn<L>>,
 ) -> Option<Sought<L>>
     requires holds { token age pool.old.state ≡ polled_token age answer }
     requires fit { GivesFit answer conn }

@@ -3,14 +3,17 @@
 ghost use Rattle.std.specs.Prelude.{◌≡◌, IfOk};
 ghost use Rattle.my_pool_requests.specs.Being.{IsBeingMade};
 ghost use Rattle.my_pool_requests.specs.Makes.{Begins, ConnectsOver, DialsOn, MadeFits, MakesOn, TriesDial};
-ghost use Rattle.my_pool_requests.specs.Makes.{outside, undialed};
+ghost use Rattle.my_pool_requests.specs.Makes.{RunsOutOr, outside, undialed};
+ghost use Rattle.my_pool_requests.specs.declared.making.Made.TheVariants as makings;
 
+use crate::boxed::BoxedMaking;
 use crate::request::Moment;
 use my_client::Tape;
 use my_conn::{Conn, Connected, Connecting, Unmade};
 use my_frame::NoMemory;
 use my_link::{Aid, DialStep, Dialer, Link};
 use my_opts::Opts;
+use my_pool::BoxedConn;
 use my_reading::{Error, IoError, IoFault, IoKind};
 use std::alloc::Global;
 
@@ -19,9 +22,9 @@ pub(crate) enum Made<L> {
     /// The dial isn't ready.
     Undialed,
     /// The connection isn't made yet.
-    Pending(Connecting<L>),
+    Pending(BoxedMaking<L>),
     /// It is made.
-    Good(Conn<L>),
+    Good(BoxedConn<L>),
     /// The dial or the connect call failed. Where a tape was kept, what was done on the link is left.
     Failed(Error, Option<Tape>),
 }
@@ -34,6 +37,26 @@ fn undialed() -> Error
         kind: IoKind::Dial,
         place: 0,
     }))
+}
+
+// A connection isn't made yet. Out of memory for its box, it is let go.
+fn pending<L: Drop>(alloc: Global, making: Connecting<L>) -> Made<L>
+    ensures { RunsOutOr (makings.Pending making) result }
+{
+    match BoxedMaking::new(alloc, making) {
+        Ok(making) => Made::Pending(making),
+        Err(NoMemory) => Made::Failed(Error::NoMemory, None),
+    }
+}
+
+// A connection is made. Out of memory for its box, it is let go.
+fn good<L: Drop>(alloc: Global, conn: Conn<L>) -> Made<L>
+    ensures { RunsOutOr (makings.Good conn) result }
+{
+    match BoxedConn::new(alloc, conn) {
+        Ok(conn) => Made::Good(conn),
+        Err(NoMemory) => Made::Failed(Error::NoMemory, None),
+    }
 }
 
 /// A poll of a connection that is being made. One that was made is fit: it did nothing but what makes one.
@@ -50,8 +73,8 @@ pub(crate) fn make_on<L: Link + Drop, A: Aid>(
 {
     let (connected, _met) = making.poll(alloc, aid, now);
     match connected {
-        Connected::Pending(making) => Made::Pending(making),
-        Connected::Made(conn) => Made::Good(conn),
+        Connected::Pending(making) => pending(alloc, making),
+        Connected::Made(conn) => good(alloc, conn),
         Connected::Failed(left) => {
             let Unmade { error, link, tape } = left;
             drop(link);

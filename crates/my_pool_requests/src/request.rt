@@ -4,8 +4,10 @@ ghost use Rattle.std.specs.Prelude.{◌≡◌, true, Some};
 ghost use Rattle.my_pool_core.specs.Owners.{is_lease, token};
 ghost use Rattle.my_pool_requests.specs.Stages.{left_in, token_in};
 
+use crate::boxed::BoxedMaking;
 use my_client::Tape;
-use my_conn::{Conn, Connecting};
+use my_conn::Conn;
+use my_pool::BoxedConn;
 use my_pool_core::Core;
 use my_pool_parts::{Place, Standing};
 use my_pool_store::numbered;
@@ -31,9 +33,9 @@ pub(crate) enum Stage<L> {
     /// It dials the link of this number.
     Dials(u64),
     /// It makes the connection of this number.
-    Makes(u64, Connecting<L>),
+    Makes(u64, BoxedMaking<L>),
     /// It looks whether this idle connection is still alive.
-    Looks(u64, Conn<L>),
+    Looks(u64, BoxedConn<L>),
 }
 
 impl<L: Drop> Stage<L> {
@@ -44,7 +46,7 @@ impl<L: Drop> Stage<L> {
         match self {
             Stage::Free | Stage::Dials(_) => None,
             Stage::Makes(number, making) => {
-                let mut making = making;
+                let mut making = making.into_making();
                 let tape = making.take_tape();
                 drop(making);
                 numbered(number, tape)
@@ -88,7 +90,7 @@ pub enum AskTurn<L> {
 /// A leased connection with its number.
 pub struct Held<L> {
     pub(crate) number: u64,
-    pub(crate) conn: Conn<L>,
+    pub(crate) conn: BoxedConn<L>,
 }
 
 impl<L> Model for Held<L> {
@@ -144,11 +146,11 @@ impl<L> Held<L> {
     pub fn conn(&self) -> &Conn<L>
         ensures { result.now ≡ self.now.conn }
     {
-        &self.conn
+        self.conn.conn()
     }
 
     /// The connection, apart from its lease.
-    pub fn part(self) -> (HeldPlace, Conn<L>)
+    pub fn part(self) -> (HeldPlace, BoxedConn<L>)
         ensures number { result.0.number ≡ self.number }
         ensures conn { result.1 ≡ self.conn }
     {
@@ -161,7 +163,7 @@ impl HeldPlace {
     ghost use Rattle.my_pool_store.specs.Shelves.{entry};
 
     /// The lease with a connection in it again.
-    pub fn join<L>(self, conn: Conn<L>) -> Held<L>
+    pub fn join<L>(self, conn: BoxedConn<L>) -> Held<L>
         ensures { result ≡ entry self.number conn }
     {
         let HeldPlace { number } = self;

@@ -9,8 +9,7 @@ ghost use Rattle.my_pool_requests.specs.Settles.{FitsIn, LeasedBy, SettledBy};
 
 use crate::making::Made;
 use crate::request::{AskTurn, Asking, Held, Stage};
-use my_conn::Conn;
-use my_pool::{Exchange, fit_is_clean};
+use my_pool::{BoxedConn, Exchange, fit_is_clean};
 use my_pool_store::{Journal, Wake};
 
 /// A request's connection is good: it is leased, and the request ends.
@@ -18,7 +17,7 @@ pub(crate) fn lease<L: Drop, J: Journal, W: Wake>(
     pool: &mut Exchange<L, J, W>,
     age: u64,
     number: u64,
-    conn: Conn<L>,
+    conn: BoxedConn<L>,
 ) -> AskTurn<L>
     requires holds { IsHolding age number pool.old }
     requires fit { IsFit conn }

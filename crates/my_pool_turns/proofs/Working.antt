@@ -1,16 +1,17 @@
 -- What a poll of the call of a task needs, and leaves.
 use Rattle.std.proofs.Common.{◌≡◌, ◌⊎◌, ℕ, ◌<◌, ◌-◌, ◌^◌, Bool, true, false, Option, Some, None, refl, sym, ap, ◌∙◌, subst, inl, inr, arith}
-use Rattle.std.specs.Prelude.{find, option_map, nat_le, ◌==◌, IfSome, MatchOption}
+use Rattle.std.specs.Prelude.{find, option_map, nat_le, IfSome, MatchOption}
 use Rattle.std.proofs.lemmas.Bool.{eqb-true, leb-false}
 use Rattle.my_frame.proofs.Finding.{found-passes}
 use Rattle.my_pool_parts.specs.declared.connection.Connection.{Connection}
 use Rattle.my_pool_parts.specs.declared.connection.Place.{Place}
 use Rattle.my_pool_parts.specs.declared.connection.Place.TheVariants.{Idle, Leased, Connecting, Checking, Returned, Cleaning, Resetting, Closing}
 use Rattle.my_pool_parts.specs.Lists.{found_is}
-use Rattle.my_pool_parts.specs.Connections.{has_number, is_cleaning_place, is_working_place}
+use Rattle.my_pool_parts.specs.Connections.{has_number, is_at_work, is_cleaning_place, is_working_place}
 use Rattle.my_pool_parts.proofs.Finding.{one, count-found}
+use Rattle.my_pool_core.specs.Counted.{working}
 use Rattle.my_pool_core.specs.Moves.{is_ending_place}
-use Rattle.my_pool_core.specs.Owners.{IsNextAt, IsNoneAt, place_at}
+use Rattle.my_pool_core.specs.Owners.{IsNextAt, IsNoneAt, is_at, place_at}
 use Rattle.my_pool_core.specs.Sound.{IsSound, is_unnumbered}
 use Rattle.my_pool_core.specs.State.{State}
 use Rattle.my_reading.specs.declared.call.CallKind.{CallKind}
@@ -278,3 +279,17 @@ next-place task from s (Some n) w = w.there
 pub next-below : (task : Task) (from : ℕ) (s : State) (o : Option ℕ) → IsSound s → MatchOption o (IsNoneAt (kind_at task) from s) (λ n. IsNextAt (kind_at task) from n s) → IfSome o (λ n. n < 2 ^ 64 - 1)
 next-below task from s None h w = tt
 next-below task from s (Some n) h w = below-last (is_place_of task) n s h w.there
+
+-- where nothing is at work, no connection is at the place of a task
+pub none-works : (task : Task) (from : ℕ) (s : State) → working s ≡ 0 → IsNoneAt (kind_at task) from s
+none-works task from s zero = record { none = λ n above. not-there n }
+  where
+    not-there : (n : ℕ) → is_at (kind_at task) n s ≡ false
+    not-there n =
+        elim (is_at (kind_at task) n s) as (λ b. is_at (kind_at task) n s ≡ b → b ≡ false) [
+          | true ↦ λ e.
+              let y = counted (is_place_of task) (find (has_number n) s.connections) e in
+              let there : is_at_work y.0 ≡ true = subst (λ o. found_is is_working_place (option_map (λ c. c.place) o) ≡ true) y.1 (works-there task (place_at n s) e) in
+              absurd (omega (arith, zero, ap one there, count-found is_at_work (has_number n) s.connections y.0 y.1))
+          | false ↦ λ e. refl
+        ] refl

@@ -12,8 +12,21 @@ ghost use Rattle.my_pool_turns.specs.Turns.{Ends, PolledAt, PolledOn, PollsAll, 
 use crate::task::{Task, Worked, work};
 use my_link::Link;
 use my_pool::{Exchange, Out};
+use my_pool_core::Core;
 use my_pool_store::{Journal, Wake};
 use std::alloc::Global;
+
+// The next number from this one on, at a task's place of a core. Where no connection is being cleaned, reset or closed,
+// no place is looked at.
+fn next_in(core: &Core, task: Task, from: u64) -> Option<u64>
+    ensures { MatchOption result (IsNoneAt (kind_at task) from core.now)
+        (λ n. IsNextAt (kind_at task) from n core.now) }
+{
+    if core.count_working() == 0 {
+        return None;
+    }
+    core.next_at(task.place(), from)
+}
 
 // The next number from this one on, at a task's place.
 fn next_at<L, J: Journal, W: Wake>(pool: &Exchange<L, J, W>, task: Task, from: u64) -> Option<u64>
@@ -23,7 +36,7 @@ fn next_at<L, J: Journal, W: Wake>(pool: &Exchange<L, J, W>, task: Task, from: u
     ensures below { IfSome result (λ n. n < 2 ^ 64 - 1) }
 {
     pool.core().is_sound();
-    pool.core().next_at(task.place(), from)
+    next_in(pool.core(), task, from)
 }
 
 // A connection in hand whose call was answered is decided on, or done.

@@ -12,4 +12,4 @@ pub use dice::Dice;
 pub use replay::replayed;
 pub use shown::looks;
 pub use sound::{Shown, is_sound};
-pub use words::{event_by, event_of, is_wanted, numbers_of, told};
+pub use words::{count_rows, event_by, event_of, first_word, is_wanted, numbers_of, sides, told};

@@ -2,6 +2,21 @@
 
 use my_pool_core::{Answer, Facts, PollAnswer, PoolEvent, Verdict};
 
+/// What a row gives, and what it wants: the two sides of its `=`.
+pub fn sides(row: &str) -> (&str, &str) {
+    row.split_once(" = ").unwrap_or((row, ""))
+}
+
+/// The first word of a text, and those after it.
+pub fn first_word(text: &str) -> (&str, &str) {
+    text.split_once(' ').unwrap_or((text, ""))
+}
+
+/// How many rows a block has under its first line.
+pub fn count_rows(block: &str) -> u64 {
+    (block.lines().count() as u64).saturating_sub(1)
+}
+
 /// The numbers after the first word of a text. A word that is no number gives the greatest one, and numbers that aren't there are 0.
 pub fn numbers_of(text: &str) -> [u64; 6] {
     let mut numbers = [0u64; 6];
@@ -106,7 +121,7 @@ pub fn event_of(given: &str) -> Option<PoolEvent> {
             Some(u128::from(deadline))
         },
     };
-    let (word, _) = given.split_once(' ').unwrap_or((given, ""));
+    let (word, _) = first_word(given);
     event_by(word, first, second, facts)
 }
 

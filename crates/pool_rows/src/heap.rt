@@ -2,7 +2,7 @@
 
 use crate::rows::HEAP;
 use my_pool_parts::{Counted, Entry, WaitHeap};
-use pool_looks::{Dice, is_wanted, numbers_of};
+use pool_looks::{Dice, first_word, is_wanted, numbers_of, sides};
 use std::test::Fail;
 
 const SLOTS: usize = 100;
@@ -38,8 +38,8 @@ fn acts(
 }
 
 fn goes(heap: &mut WaitHeap, row: &str) -> bool {
-    let (given, want) = row.split_once(" = ").unwrap_or((row, ""));
-    let (word, _) = given.split_once(' ').unwrap_or((given, ""));
+    let (given, want) = sides(row);
+    let (word, _) = first_word(given);
     let [slot, age, ..] = numbers_of(given);
     let mut steps = Counted::new();
     let (told, first, second) = acts(heap, word, slot as usize, age, &mut steps);

@@ -4,7 +4,7 @@ use crate::rows::POOLS;
 use my_frame::NoMemory;
 use my_pool_core::{Answer, Core, Limits, PollAnswer, PoolEvent};
 use my_pool_parts::Counted;
-use pool_looks::{event_of, is_wanted, looks, numbers_of, told};
+use pool_looks::{count_rows, event_of, is_wanted, looks, numbers_of, sides, told};
 use std::alloc::Global;
 use std::test::Fail;
 
@@ -70,7 +70,7 @@ fn all_wait(core: &mut Core, first: u64, last: u64) -> Result<bool, NoMemory> {
 }
 
 fn goes(core: &mut Core, row: &str) -> Result<bool, NoMemory> {
-    let (given, want) = row.split_once(" = ").unwrap_or((row, ""));
+    let (given, want) = sides(row);
     if given.starts_with("wait ") {
         let [first, last, ..] = numbers_of(given);
         return all_wait(core, first, last);
@@ -113,10 +113,7 @@ fn pools(rt: HostRuntime) -> Result<(), Fail> {
     let mut ran = 0u64;
     for block in POOLS.split("# ").skip(1) {
         let count = count_right(rt.alloc(), block)?;
-        assert!(rt;
-            count == (block.lines().count() as u64).saturating_sub(1),
-            "row {count} of {block}"
-        );
+        assert!(rt; count == count_rows(block), "row {count} of {block}");
         ran = ran.saturating_add(count);
     }
     assert_eq!(rt; ran, 463);

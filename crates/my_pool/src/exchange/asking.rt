@@ -4,8 +4,8 @@ ghost use Rattle.std.specs.Prelude.{◌≡◌};
 ghost use Rattle.my_pool.specs.Asks.{is_wait};
 
 use super::{Exchange, room_for_one_more};
+use crate::boxed::BoxedConn;
 use my_client::Tape;
-use my_conn::Conn;
 use my_frame::NoMemory;
 use my_pool_core::{PollAnswer, PoolEvent};
 use my_pool_store::{Journal, Wake, numbered};
@@ -58,7 +58,7 @@ impl<L: Drop, J: Journal, W: Wake> Exchange<L, J, W> {
         age: u64,
         now: u64,
         waker: Option<W>,
-    ) -> (PollAnswer, Option<Conn<L>>, Option<W>)
+    ) -> (PollAnswer, Option<BoxedConn<L>>, Option<W>)
         requires { token age self.old.state ≡ Some Free }
         ensures made { Made (events.PollRequest age now) (answers.Poll result.0) self.old self.new }
         ensures called { self.new.ages ≡ kept_for age (is_wait result.0 && is_some waker)

@@ -5,15 +5,15 @@ ghost use Rattle.my_pool_store.specs.Shelves.{numbered, with_left};
 ghost use Rattle.my_pool.specs.Pools.{tape_of};
 
 use super::Exchange;
+use crate::boxed::BoxedConn;
 use crate::facts::facts_at;
 use crate::out::Out;
 use my_client::Tape;
-use my_conn::Conn;
 use my_pool_core::{PoolEvent, Verdict};
 use my_pool_store::{Journal, Shelf, Wake, numbered};
 
 // A connection that is counted no more, where there is one: its tape is kept, where it has one.
-fn bury<L: Drop>(gone: &mut Shelf<Tape>, number: u64, conn: Option<Conn<L>>)
+fn bury<L: Drop>(gone: &mut Shelf<Tape>, number: u64, conn: Option<BoxedConn<L>>)
     requires { is_some conn ≡ true → length gone.old.kept < gone.old.room }
     ensures kept { gone.new.kept ≡ with_left (numbered number (tape_of conn)) gone.old.kept }
     ensures room { gone.old.room ≤ gone.new.room }
@@ -40,7 +40,7 @@ impl<L: Drop, J: Journal, W: Wake> Exchange<L, J, W> {
     ghost use Rattle.my_pool.specs.Pools.{Made, MadeWith, left_of, IsCalled, TakenOut, HandedStill, number_of, IsCleaned, IsDone};
 
     /// A leased connection comes back.
-    pub fn give_back(&mut self, number: u64, conn: Conn<L>)
+    pub fn give_back(&mut self, number: u64, conn: BoxedConn<L>)
         requires leased { is_lease number self.old.state ≡ true }
         requires still { IsStill conn }
         ensures made { Made (events.GiveBack number) answers.Done self.old self.new }

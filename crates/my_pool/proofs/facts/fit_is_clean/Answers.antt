@@ -7,4 +7,6 @@ second-false true b e = absurd (cc)
 second-false false b e = e
 
 pub returns : goal.returns
-returns g c = λ fit login k stands. (c.is_dirty.ensures.did login k stands).1 (second-false c.args.conn.now.lost c.args.conn.now.seen.closed fit.alive, c.is_dirty.ensures.value ∙ fit.clean)
+returns g c =
+    rw (← c.conn.ensures) (λ fit login k stands.
+    (c.is_dirty.ensures.did login k stands).1 (second-false c.conn.result.now.lost c.conn.result.now.seen.closed fit.alive, c.is_dirty.ensures.value ∙ fit.clean))
