@@ -1,4 +1,4 @@
--- What my_bench reads: 100,000 rows, the same on each server.
+-- What rounds of my_examples read: 100,000 rows, the same on each server.
 CREATE DATABASE bench CHARACTER SET utf8mb4;
 USE bench;
 CREATE TABLE t100k (

@@ -7,6 +7,7 @@ mod link;
 mod parts;
 mod row;
 
-pub use answers::{Numbered, add, failed, failure, number_word, refused, shown};
-pub use link::{Near, client_of};
-pub use row::{Row, ends_so, row_of};
+pub use answers::{Numbered, add, number_word};
+pub use link::Near;
+pub use near_talks::{failed, failure, refused, shown};
+pub use row::{Reads, rows_read};

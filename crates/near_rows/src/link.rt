@@ -106,16 +106,20 @@ fn conn_of(alloc: Global, names: &str) -> Result<Conn<ReadyLink<MemLink>>, Error
     }
 }
 
-/// A client whose next command is answered by the packets of these names, and the one after it by an OK.
-pub fn client_of(alloc: Global, names: &str) -> Result<Near, Error> {
+/// A client whose next command is answered by the packets of these names, and the one after it by an OK. None: it isn't
+/// made.
+pub fn client_of(alloc: Global, names: &str) -> Option<Near> {
     match conn_of(alloc, names) {
         Ok(conn) => match Client::new(conn) {
-            Ok(client) => Ok(client),
+            Ok(client) => Some(client),
             Err(conn) => {
                 drop(conn);
-                Err(Error::NoMemory)
+                None
             }
         },
-        Err(error) => Err(error),
+        Err(error) => {
+            drop(error);
+            None
+        }
     }
 }

@@ -1,21 +1,21 @@
 //! What a row says.
 
-use crate::answers::failed;
-use crate::link::Near;
+use crate::link::{Near, client_of};
 use my_connect::{Calls, NextAnswer, Queryable};
+use near_talks::failed;
 use std::alloc::{AllocError, Global};
 
-/// A row: how an answer is read, the packets of the server, what the reads return, and what one more read returns.
-#[derive(Drop)]
-pub struct Row<'a> {
-    pub how: &'a str,
-    pub names: &'a str,
-    pub wanted: &'a str,
-    pub more: &'a str,
+// A row: how an answer is read, the packets of the server, what the reads return, and what one more read returns.
+#[derive(Clone, Copy)]
+struct Row<'a> {
+    how: &'a str,
+    names: &'a str,
+    wanted: &'a str,
+    more: &'a str,
 }
 
-/// The row of a line, whose fields are separated by `|`.
-pub fn row_of(line: &str) -> Row<'_> {
+// The row of a line, whose fields are separated by `|`.
+fn row_of(line: &str) -> Row<'_> {
     let mut fields = line.split(" | ");
     let how = fields.next().unwrap_or("");
     let names = fields.next().unwrap_or("");
@@ -43,17 +43,40 @@ fn left(alloc: Global, client: &mut Near) -> &'static str {
     }
 }
 
-/// Whether the reads and one more returned what they should, and a ping is answered then.
-pub fn ends_so(
-    alloc: Global,
-    client: &mut Near,
-    text: Result<String, AllocError>,
-    row: &Row<'_>,
-) -> bool {
-    let right = match text {
+/// What reads the answers of rows.
+pub trait Reads {
+    /// What the reads of a row return.
+    fn read(alloc: Global, client: &mut Near, how: &str) -> Result<String, AllocError>;
+}
+
+// Whether the reads of a row and one more return what they should, and a ping is answered then.
+fn reads_so<R: Reads>(alloc: Global, client: &mut Near, row: &Row<'_>) -> bool {
+    let right = match R::read(alloc, client, row.how) {
         Ok(text) => text.as_str() == row.wanted,
         Err(_) => false,
     };
     let rest = left(alloc, client) == row.more;
     client.ping(alloc).is_ok() && right && rest
+}
+
+fn is_right<R: Reads>(alloc: Global, line: &str) -> bool {
+    let row = row_of(line);
+    let Some(mut client) = client_of(alloc, row.names) else {
+        return false;
+    };
+    let right = reads_so::<R>(alloc, &mut client, &row);
+    drop(client);
+    right
+}
+
+/// How many rows there are, where each is right; else the first one that isn't.
+pub fn rows_read<R: Reads>(alloc: Global, rows: &str) -> Result<u64, &str> {
+    let mut ran = 0u64;
+    for line in rows.lines() {
+        if !is_right::<R>(alloc, line) {
+            return Err(line);
+        }
+        ran = ran.wrapping_add(1);
+    }
+    Ok(ran)
 }

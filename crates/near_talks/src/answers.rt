@@ -2,8 +2,11 @@
 
 use my_conn::NextAnswer;
 use my_opts::UrlError;
+use my_query::QueryError;
 use my_reading::{Answer, DriverError, Error, IoError, IoKind};
 use my_statements::Statement;
+use std::alloc::{AllocError, Global};
+use std::fmt::Debug;
 use std::mem;
 
 // A refusal of the driver.
@@ -55,6 +58,28 @@ pub fn failed(error: Error) -> &'static str {
     let word = failure(&error);
     drop(error);
     word
+}
+
+/// What an error of a call that converts rows is.
+pub fn refused(error: &QueryError) -> &'static str {
+    match error {
+        QueryError::Client(error) => failure(error),
+        QueryError::FromRow(row) if row.len() == 2 => "error row",
+        QueryError::FromRow(_) => "error another row",
+    }
+}
+
+/// What a call that converts rows returned, in the text of `{:?}`.
+pub fn shown<T: Debug + Drop>(
+    alloc: Global,
+    answer: Result<T, QueryError>,
+) -> Result<String, AllocError> {
+    let text = match &answer {
+        Ok(value) => format!(in alloc; "{value:?}"),
+        Err(error) => String::from_str(alloc, refused(error)),
+    };
+    drop(answer);
+    text
 }
 
 /// What a caller gets of a call, as a word. A statement is held from then on.

@@ -11,7 +11,7 @@ mod parts;
 mod sends;
 mod words;
 
-pub use answers::{Word, failed, failure, word_of};
+pub use answers::{Word, failed, failure, refused, shown, word_of};
 pub use given::{begin_of, change_of, copy_of, lists_of, params_of};
 pub use link::world_of;
 pub use making::{Waiting, begun, made, new_by};

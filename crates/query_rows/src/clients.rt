@@ -2,90 +2,100 @@
 
 use crate::queries::{answer_at, lend};
 use crate::rows::ASKED;
+use crate::talks::{Answers, goes_on, is_asked};
 use my_conn::{Conn, Connected};
 use my_connect::Client;
 use my_frame::NoMemory;
-use my_link::{MemLink, ReadyLink};
+use my_link::{BlockingLink, MemLink, ReadyLink};
 use my_opts_parts::TxOpts;
 use my_query::Lent;
-use my_reading::{Call, CallKind, Error};
+use my_reading::{Call, CallKind};
 use my_statements::Statement;
-use near_talks::{Waiting, begun, failed, field, made, new_by, word_of};
+use near_talks::{Waiting, begun, failed, made, new_by, word_of};
 use std::alloc::{AllocError, Global};
 use std::test::Fail;
 
 /// A client over a link in memory.
 pub type Near = Client<ReadyLink<MemLink>>;
 
-fn idle(conn: Waiting) -> Result<Near, Error> {
+fn idle(conn: Waiting) -> Option<Near> {
     match Client::new(conn) {
-        Ok(client) => Ok(client),
+        Ok(client) => Some(client),
         Err(conn) => {
             drop(conn);
-            Err(Error::NoMemory)
+            None
         }
     }
 }
 
-fn client_of(alloc: Global, talk: &str) -> Result<Near, Error> {
+fn client_of(alloc: Global, talk: &str) -> Option<Near> {
     match new_by(alloc, talk) {
         Ok(conn) => idle(conn),
-        Err(error) => Err(error),
-    }
-}
-
-// What a call returns at a client, which may be lent.
-fn client_answer(
-    alloc: Global,
-    client: &mut Near,
-    held: &mut Option<Statement>,
-    call: &str,
-) -> Result<String, AllocError> {
-    if let Some(text) = call.strip_prefix("lend ") {
-        return lend(alloc, client, held, text);
-    }
-    if let Some(rest) = call.strip_prefix("tx ") {
-        let (end, inner) = rest.split_once(' ').unwrap_or((rest, ""));
-        return in_transaction(alloc, client, held, end, inner);
-    }
-    answer_at(alloc, client, held, call)
-}
-
-// Whether each line after the first returns what it should.
-fn goes_on(alloc: Global, client: &mut Near, talk: &str) -> bool {
-    let mut held = None;
-    let mut well = true;
-    for line in talk.lines().skip(1) {
-        match client_answer(alloc, client, &mut held, field(line, 0)) {
-            Ok(text) => well = well && text.as_str() == field(line, 2),
-            Err(_) => well = false,
-        }
-    }
-    drop(held);
-    well
-}
-
-// Whether the calls of a talk return what it says.
-fn is_right(alloc: Global, talk: &str) -> bool {
-    match client_of(alloc, talk) {
-        Ok(client) => {
-            let mut client = client;
-            let right = goes_on(alloc, &mut client, talk);
-            drop(client);
-            right
-        }
         Err(error) => {
             drop(error);
-            false
+            None
         }
     }
+}
+
+// A client, which may be lent for a call, or begin a transaction for it.
+impl<L: BlockingLink> Answers for Client<L> {
+    fn answer(
+        &mut self,
+        alloc: Global,
+        held: &mut Option<Statement>,
+        call: &str,
+    ) -> Result<String, AllocError> {
+        if let Some(text) = call.strip_prefix("lend ") {
+            return lend(alloc, self, held, text);
+        }
+        if let Some(rest) = call.strip_prefix("tx ") {
+            let (end, inner) = rest.split_once(' ').unwrap_or((rest, ""));
+            return in_transaction(alloc, self, held, end, inner);
+        }
+        answer_at(alloc, self, held, call)
+    }
+}
+
+// A client that is lent for all calls.
+impl<L: BlockingLink> Answers for Lent<'_, Client<L>> {
+    fn answer(
+        &mut self,
+        alloc: Global,
+        held: &mut Option<Statement>,
+        call: &str,
+    ) -> Result<String, AllocError> {
+        answer_at(alloc, self, held, call)
+    }
+}
+
+fn lent_on(alloc: Global, client: &mut Near, talk: &str) -> bool {
+    let mut lent = Lent::new(client);
+    goes_on(alloc, &mut lent, talk)
+}
+
+// Whether the calls of a talk return what it says at a client, which may be lent for all of them.
+fn is_right(alloc: Global, talk: &str, lent: bool) -> bool {
+    let Some(mut client) = client_of(alloc, talk) else {
+        return false;
+    };
+    let right = if lent {
+        lent_on(alloc, &mut client, talk)
+    } else {
+        goes_on(alloc, &mut client, talk)
+    };
+    drop(client);
+    right
 }
 
 #[test]
-fn ample_client(rt: HostRuntime) -> Result<(), Fail> {
+fn ample_query(rt: HostRuntime) -> Result<(), Fail> {
     let mut ran = 0u64;
     for talk in ASKED.split("\n\n") {
-        assert!(rt; is_right(rt.alloc(), talk), "{talk}");
+        let lends = talk.contains("\nlend ");
+        assert!(rt; is_asked(rt.alloc(), talk), "{talk}");
+        assert!(rt; is_right(rt.alloc(), talk, false), "{talk}");
+        assert!(rt; lends || is_right(rt.alloc(), talk, true), "{talk}");
         ran = ran.wrapping_add(1);
     }
     assert!(rt; ran == 17);
@@ -114,9 +124,9 @@ connect | @greeting turn @login_ok | ok
 tx commit send begin | turn @ok turn @ok | error nested ok";
 
 // What a call returns in a transaction, and what ends it then.
-fn in_transaction(
+fn in_transaction<L: BlockingLink>(
     alloc: Global,
-    client: &mut Near,
+    client: &mut Client<L>,
     held: &mut Option<Statement>,
     end: &str,
     call: &str,
@@ -141,54 +151,10 @@ fn in_transaction(
     }
 }
 
-// The same at a client that is lent.
-fn lent_on(alloc: Global, client: &mut Near, talk: &str) -> bool {
-    let mut lent = Lent::new(client);
-    let mut held = None;
-    let mut well = true;
-    for line in talk.lines().skip(1) {
-        match answer_at(alloc, &mut lent, &mut held, field(line, 0)) {
-            Ok(text) => well = well && text.as_str() == field(line, 2),
-            Err(_) => well = false,
-        }
-    }
-    drop(held);
-    well
-}
-
-// Whether the calls of a talk return what it says at a client that is lent.
-fn is_lent(alloc: Global, talk: &str) -> bool {
-    match client_of(alloc, talk) {
-        Ok(client) => {
-            let mut client = client;
-            let right = lent_on(alloc, &mut client, talk);
-            drop(client);
-            right
-        }
-        Err(error) => {
-            drop(error);
-            false
-        }
-    }
-}
-
-#[test]
-fn ample_lent(rt: HostRuntime) -> Result<(), Fail> {
-    let mut ran = 0u64;
-    for talk in ASKED.split("\n\n") {
-        if !talk.contains("\nlend ") {
-            assert!(rt; is_lent(rt.alloc(), talk), "{talk}");
-            ran = ran.wrapping_add(1);
-        }
-    }
-    assert!(rt; ran == 16);
-    Ok(())
-}
-
 #[test]
 fn clients_have_transactions(rt: HostRuntime) -> Result<(), Fail> {
     for talk in TRANSACTIONS.split("\n\n") {
-        assert!(rt; is_right(rt.alloc(), talk), "{talk}");
+        assert!(rt; is_right(rt.alloc(), talk, false), "{talk}");
     }
     Ok(())
 }
@@ -225,26 +191,17 @@ connect | @greeting turn @login_ok | ok
 send ping | turn @changed | ok";
 
 fn tells(alloc: Global) -> bool {
-    match client_of(alloc, TOLD) {
-        Ok(client) => {
-            let mut client = client;
-            let right = goes_on(alloc, &mut client, TOLD) && is_told(&mut client);
-            is_again(alloc, client) && right
-        }
-        Err(error) => {
-            drop(error);
-            false
-        }
-    }
+    let Some(mut client) = client_of(alloc, TOLD) else {
+        return false;
+    };
+    let right = goes_on(alloc, &mut client, TOLD) && is_told(&mut client);
+    is_again(alloc, client) && right
 }
 
 fn quits(alloc: Global) -> bool {
     match client_of(alloc, TOLD) {
-        Ok(client) => word_of(client.quit(alloc), &mut None) == "ok",
-        Err(error) => {
-            drop(error);
-            false
-        }
+        Some(client) => word_of(client.quit(alloc), &mut None) == "ok",
+        None => false,
     }
 }
 

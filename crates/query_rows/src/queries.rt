@@ -4,37 +4,14 @@ ghost use Rattle.std.specs.Prelude.{◌≡◌, None};
 
 use my_conn::Conn;
 use my_link::BlockingLink;
-use my_query::{Lent, QueryError, Queryable, StatementLike};
+use my_query::{Lent, Queryable, StatementLike};
 use my_statements::Statement;
 use my_value::Row;
-use near_talks::{copy_of, failure, lists_of, params_of, sent, word_of};
+use near_talks::{copy_of, lists_of, params_of, sent, shown, word_of};
 use std::alloc::{AllocError, Global};
-use std::fmt::Debug;
 
-/// What an error is.
-pub fn refused(error: &QueryError) -> &'static str {
-    match error {
-        QueryError::Client(error) => failure(error),
-        QueryError::FromRow(row) if row.len() == 2 => "error row of 2",
-        QueryError::FromRow(_) => "error row",
-    }
-}
-
-/// What a call returned.
-pub fn shown<T: Debug + Drop>(
-    alloc: Global,
-    answer: Result<T, QueryError>,
-) -> Result<String, AllocError> {
-    let text = match &answer {
-        Ok(value) => format!(in alloc; "{value:?}"),
-        Err(error) => String::from_str(alloc, refused(error)),
-    };
-    drop(answer);
-    text
-}
-
-/// What a call returned, without its value.
-pub fn said(alloc: Global, word: &'static str) -> Result<String, AllocError> {
+// What a call returned, without its value.
+fn said(alloc: Global, word: &'static str) -> Result<String, AllocError> {
     String::from_str(alloc, word)
 }
 

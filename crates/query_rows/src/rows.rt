@@ -18,7 +18,7 @@ connect | @greeting turn @login_ok | ok
 map SELECT n, t FROM people | turn @people | [7, 9]
 
 connect | @greeting turn @login_ok | ok
-first_numbers SELECT n, t FROM people | turn @people | error row of 2
+first_numbers SELECT n, t FROM people | turn @people | error row
 first SELECT n, t FROM people | turn @people | Some((7, \"ann\"))
 
 connect | @greeting turn @login_ok | ok

@@ -1,16 +1,40 @@
-//! Talks of a connection.
+//! Talks, and those of a connection.
 
 use crate::queries::asked;
-use crate::rows::ASKED;
-use near_talks::{Waiting, field, new_by};
-use std::alloc::Global;
-use std::test::Fail;
+use my_conn::Conn;
+use my_link::BlockingLink;
+use my_statements::Statement;
+use near_talks::{field, new_by};
+use std::alloc::{AllocError, Global};
 
-fn asks_on(alloc: Global, conn: &mut Waiting, talk: &str) -> bool {
+/// What answers the calls of a talk.
+pub trait Answers {
+    /// What a call returns, in the text of `{:?}`.
+    fn answer(
+        &mut self,
+        alloc: Global,
+        held: &mut Option<Statement>,
+        call: &str,
+    ) -> Result<String, AllocError>;
+}
+
+impl<L: BlockingLink> Answers for Conn<L> {
+    fn answer(
+        &mut self,
+        alloc: Global,
+        held: &mut Option<Statement>,
+        call: &str,
+    ) -> Result<String, AllocError> {
+        asked(alloc, self, held, call)
+    }
+}
+
+/// Whether each line of a talk after the first returns what it says.
+pub fn goes_on<A: Answers>(alloc: Global, holder: &mut A, talk: &str) -> bool {
     let mut held = None;
     let mut well = true;
     for line in talk.lines().skip(1) {
-        match asked(alloc, conn, &mut held, field(line, 0)) {
+        match holder.answer(alloc, &mut held, field(line, 0)) {
             Ok(text) => well = well && text.as_str() == field(line, 2),
             Err(_) => well = false,
         }
@@ -19,12 +43,12 @@ fn asks_on(alloc: Global, conn: &mut Waiting, talk: &str) -> bool {
     well
 }
 
-// Whether the calls of a talk return at once what it says.
-fn is_asked(alloc: Global, talk: &str) -> bool {
+/// Whether the calls of a talk return what it says at a connection.
+pub fn is_asked(alloc: Global, talk: &str) -> bool {
     match new_by(alloc, talk) {
         Ok(conn) => {
             let mut conn = conn;
-            let right = asks_on(alloc, &mut conn, talk);
+            let right = goes_on(alloc, &mut conn, talk);
             drop(conn);
             right
         }
@@ -33,15 +57,4 @@ fn is_asked(alloc: Global, talk: &str) -> bool {
             false
         }
     }
-}
-
-#[test]
-fn ample_query(rt: HostRuntime) -> Result<(), Fail> {
-    let mut ran = 0u64;
-    for talk in ASKED.split("\n\n") {
-        assert!(rt; is_asked(rt.alloc(), talk), "{talk}");
-        ran = ran.wrapping_add(1);
-    }
-    assert!(rt; ran == 17);
-    Ok(())
 }

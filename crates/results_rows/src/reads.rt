@@ -1,12 +1,12 @@
 //! Results that are read.
 
 use crate::rows::ROWS;
-use crate::streams::{firsts, sets, small, streamed};
+use crate::streams::{sets, small, streamed};
 use crate::tried::kinds;
 use my_results::{
     Error, Lent, Params, QueryError, QueryResult, Results, Row, TextProtocol, Value, positional,
 };
-use near_rows::{Near, Numbered, add, client_of, ends_so, failure, row_of, shown};
+use near_rows::{Near, Numbered, Reads, add, failure, rows_read, shown};
 use std::alloc::{AllocError, Global};
 use std::test::Fail;
 
@@ -56,8 +56,7 @@ fn read(alloc: Global, answer: &mut Answer<'_>, how: &str) -> Result<String, All
         "facts" => facts(alloc, answer),
         "stream" => streamed(alloc, answer),
         "small" => small(alloc, answer),
-        "sets" => sets(alloc, answer),
-        "firsts" => firsts(alloc, answer),
+        "sets" | "firsts" => sets(alloc, answer, how),
         "collect" => shown(alloc, answer.collect::<Numbered>(alloc)),
         "try_collect" => kinds(alloc, answer.try_collect::<Numbered>(alloc)),
         "try_small" => kinds(alloc, answer.try_collect::<u8>(alloc)),
@@ -137,34 +136,21 @@ fn made(alloc: Global, client: &mut Near, how: &str) -> Result<String, AllocErro
     }
 }
 
-fn is_right(alloc: Global, line: &str) -> bool {
-    let row = row_of(line);
-    match client_of(alloc, row.names) {
-        Ok(client) => {
-            let mut client = client;
-            let text = match row.how {
-                "exec" => executed(alloc, &mut client),
-                "of" | "new" => made(alloc, &mut client, row.how),
-                how => answered(alloc, &mut client, how),
-            };
-            let right = ends_so(alloc, &mut client, text, &row);
-            drop(client);
-            right
-        }
-        Err(error) => {
-            drop(error);
-            false
+struct ResultReads;
+
+impl Reads for ResultReads {
+    fn read(alloc: Global, client: &mut Near, how: &str) -> Result<String, AllocError> {
+        match how {
+            "exec" => executed(alloc, client),
+            "of" | "new" => made(alloc, client, how),
+            _ => answered(alloc, client, how),
         }
     }
 }
 
 #[test]
 fn results_are_read(rt: HostRuntime) -> Result<(), Fail> {
-    let mut ran = 0u64;
-    for line in ROWS.lines() {
-        assert!(rt; is_right(rt.alloc(), line), "{line}");
-        ran = ran.wrapping_add(1);
-    }
-    assert!(rt; ran == 39);
+    let ran = rows_read::<ResultReads>(rt.alloc(), ROWS);
+    assert!(rt; ran == Ok(39), "{ran:?}");
     Ok(())
 }

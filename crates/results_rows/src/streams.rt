@@ -1,7 +1,7 @@
 //! Results that are streamed.
 
 use crate::reads::Answer;
-use my_results::Row;
+use my_results::{QueryError, Row};
 use near_rows::{Numbered, add, failed, number_word, refused, shown};
 use std::alloc::{AllocError, Global};
 
@@ -45,56 +45,51 @@ pub fn small(alloc: Global, answer: &mut Answer<'_>) -> Result<String, AllocErro
     Ok(text)
 }
 
-/// The rows of each set, up to the third.
-pub fn sets(alloc: Global, answer: &mut Answer<'_>) -> Result<String, AllocError> {
-    let mut text = String::new(alloc);
-    for _ in 0..3u8 {
-        match answer.stream::<Row>(alloc) {
-            Ok(found) => {
-                let Some(mut stream) = found else {
-                    add(&mut text, "none")?;
-                    continue;
-                };
-                let rows = stream.collect(alloc);
-                let word = match &rows {
-                    Ok(rows) if rows.len() == 2 => "2",
-                    Ok(rows) if rows.len() == 1 => "1",
-                    Ok(_) => "other",
-                    Err(error) => refused(error),
-                };
-                let added = add(&mut text, word);
-                drop(rows);
-                added?;
-            }
-            Err(error) => add(&mut text, failed(error))?,
-        }
-    }
-    Ok(text)
+// How many rows there are.
+fn count_word(rows: Result<Vec<Row>, QueryError>) -> &'static str {
+    let word = match &rows {
+        Ok(rows) if rows.len() == 2 => "2",
+        Ok(rows) if rows.len() == 1 => "1",
+        Ok(_) => "other",
+        Err(error) => refused(error),
+    };
+    drop(rows);
+    word
 }
 
-/// One row of each set, up to the third.
-pub fn firsts(alloc: Global, answer: &mut Answer<'_>) -> Result<String, AllocError> {
+// How many columns a row has.
+fn row_word(row: Result<Option<Row>, QueryError>) -> &'static str {
+    let word = match &row {
+        Ok(Some(row)) if row.len() == 2 => "2",
+        Ok(Some(_)) => "1",
+        Ok(None) => "end",
+        Err(error) => refused(error),
+    };
+    drop(row);
+    word
+}
+
+// The rows of the next set, or one of them.
+fn set_word(alloc: Global, answer: &mut Answer<'_>, how: &str) -> &'static str {
+    match answer.stream::<Row>(alloc) {
+        Ok(found) => {
+            let Some(mut stream) = found else {
+                return "none";
+            };
+            match how {
+                "sets" => count_word(stream.collect(alloc)),
+                _ => row_word(stream.next(alloc)),
+            }
+        }
+        Err(error) => failed(error),
+    }
+}
+
+/// The rows of each set, up to the third, or one row of each.
+pub fn sets(alloc: Global, answer: &mut Answer<'_>, how: &str) -> Result<String, AllocError> {
     let mut text = String::new(alloc);
     for _ in 0..3u8 {
-        match answer.stream::<Row>(alloc) {
-            Ok(found) => {
-                let Some(mut stream) = found else {
-                    add(&mut text, "none")?;
-                    continue;
-                };
-                let row = stream.next(alloc);
-                let word = match &row {
-                    Ok(Some(row)) if row.len() == 2 => "2",
-                    Ok(Some(_)) => "1",
-                    Ok(None) => "end",
-                    Err(error) => refused(error),
-                };
-                let added = add(&mut text, word);
-                drop(row);
-                added?;
-            }
-            Err(error) => add(&mut text, failed(error))?,
-        }
+        add(&mut text, set_word(alloc, answer, how))?;
     }
     Ok(text)
 }

@@ -1,7 +1,7 @@
-//! The time that a run took.
+//! The time that rounds took.
 
+use std::fs;
 use std::rt::{Clock, Files};
-use std::{fs, io};
 
 /// The system counts a process' time in hundredths of a second.
 const TICK_NANOS: u64 = 10000000;
@@ -39,20 +39,23 @@ fn read_ticks<R: Files + AllocGlobal>(rt: &R) -> Ticks {
     }
 }
 
-fn nanos<R: Clock>(rt: &R) -> io::Result<u64> {
-    Ok(rt.monotonic()?.as_nanos().min(u64::MAX as u128) as u64)
+// By the clock; 0 where it can't be read.
+fn nanos<R: Clock>(rt: &R) -> u64 {
+    match rt.monotonic() {
+        Ok(time) => time.as_nanos().min(u64::MAX as u128) as u64,
+        Err(_) => 0,
+    }
 }
 
 impl Times {
-    /// The times so far.
-    pub fn now<R: Clock + Files + AllocGlobal>(rt: &R) -> io::Result<Times> {
+    /// The times so far; 0 where the system doesn't tell one.
+    pub fn now<R: Clock + Files + AllocGlobal>(rt: &R) -> Times {
         let ticks = read_ticks(rt);
-        let wall = nanos(rt)?;
-        Ok(Times {
-            wall,
+        Times {
+            wall: nanos(rt),
             user: ticks.user.saturating_mul(TICK_NANOS),
             system: ticks.system.saturating_mul(TICK_NANOS),
-        })
+        }
     }
 
     /// The times since these earlier ones.

@@ -1,5 +1,0 @@
-use Rattle.std.proofs.Common.{◌≡◌, None}
-use Rattle.my_bench.proofs.rounds.gather.Given as goal
-
-abbrev pub invariant-rows : goal.invariant-rows
-invariant-rows g l = l.conn.pending ≡ None
