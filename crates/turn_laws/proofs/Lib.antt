@@ -4,3 +4,4 @@ pub mod Leading
 pub mod Refusing
 pub mod Standing
 pub mod Turning
+pub mod Making

@@ -1,3 +1,4 @@
 pub mod Decided
 pub mod Explained
 pub mod Turns
+pub mod Makings

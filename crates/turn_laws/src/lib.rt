@@ -4,6 +4,7 @@
 
 ghost use Rattle.turn_laws.specs.Decided.{EachCallReturns, EachErrorIsOwn, EachHasCause, EachIsAnswer, EachIsDecided, EachIsReturned, EachStepReturns};
 ghost use Rattle.turn_laws.specs.Explained.{BegunIsExplained, CancelledIsExplained, NothingIsExplained, PolledIsExplained, RestIsRead, StandsIsExplained, WaitingIsRead};
+ghost use Rattle.turn_laws.specs.Makings.{NoMissedCancel, NoPassedRefusal, NoUnreadResult};
 ghost use Rattle.turn_laws.specs.Turns.{NoEarlyLogin, NoEarlyPing, NoFaultOutOfTurn, NoReadingOn, PingInTurn, RightLogin};
 
 /// No poll has one of these: a login that is sent before the greeting was read (`login`), a ping that is sent before the answer to
@@ -51,4 +52,12 @@ pub fn polls_are_explained()
     ensures rest { RestIsRead }
     ensures waiting { WaitingIsRead }
     ensures stands { StandsIsExplained }
+{}
+
+/// No making of a connection sends a text before the result of the one in front of it was read (`unread`), or is done where the aid
+/// refuses (`refusal`). No call that was cancelled stays open on the tape (`cancel`).
+pub fn wrong_makings_are_refuted()
+    ensures unread { NoUnreadResult }
+    ensures refusal { NoPassedRefusal }
+    ensures cancel { NoMissedCancel }
 {}
