@@ -1,6 +1,6 @@
 //! What a client answers to a nonce.
 
-ghost use Rattle.std.specs.Prelude.{◌≡◌, [], IfOk};
+ghost use Rattle.std.specs.Prelude.{◌≡◌, ◌≢◌, ◌≤◌, [], length, IfOk};
 ghost use Rattle.my_auth.specs.Scrambles.{answer, caching_scramble, native_scramble, xor_bytes};
 
 use crate::plugin::AuthPlugin;
@@ -10,7 +10,8 @@ use sha2::{Digest, Sha256};
 use std::alloc::{AllocError, Global};
 
 fn xor(alloc: Global, first: &[u8], second: &[u8]) -> Result<Vec<u8>, AllocError>
-    ensures { IfOk result (λ v. v.items ≡ xor_bytes first.now second.now) }
+    ensures value { IfOk result (λ v. v.items ≡ xor_bytes first.now second.now) }
+    ensures short { IfOk result (λ v. length v.items ≤ length first.now) }
 {
     first
         .iter()
@@ -21,7 +22,8 @@ fn xor(alloc: Global, first: &[u8], second: &[u8]) -> Result<Vec<u8>, AllocError
 
 #[tactic(auto, unfolding(crate::specs::Scrambles::native_scramble))]
 fn native_scramble(alloc: Global, password: &[u8], nonce: &[u8]) -> Result<Vec<u8>, AllocError>
-    ensures { IfOk result (λ v. v.items ≡ native_scramble password.now nonce.now) }
+    ensures value { IfOk result (λ v. v.items ≡ native_scramble password.now nonce.now) }
+    ensures short { IfOk result (λ v. length v.items ≤ 20) }
 {
     let first = Sha1::digest(password);
     let second = Sha1::digest(&first);
@@ -34,7 +36,8 @@ fn native_scramble(alloc: Global, password: &[u8], nonce: &[u8]) -> Result<Vec<u
 
 #[tactic(auto, unfolding(crate::specs::Scrambles::caching_scramble))]
 fn caching_scramble(alloc: Global, password: &[u8], nonce: &[u8]) -> Result<Vec<u8>, AllocError>
-    ensures { IfOk result (λ v. v.items ≡ caching_scramble password.now nonce.now) }
+    ensures value { IfOk result (λ v. v.items ≡ caching_scramble password.now nonce.now) }
+    ensures short { IfOk result (λ v. length v.items ≤ 32) }
 {
     let first = Sha256::digest(password);
     let second = Sha256::digest(&first);
@@ -55,14 +58,16 @@ fn clear_password(alloc: Global, password: &[u8]) -> Result<Vec<u8>, NoMemory>
     Ok(bytes)
 }
 
-/// What a client with this password answers to this nonce by this plugin. Without a password the scrambles are empty.
+/// What a client with this password answers to this nonce by this plugin. Without a password the scrambles are empty;
+/// a scramble has at most 32 bytes.
 pub fn answer_of(
     alloc: Global,
     plugin: AuthPlugin,
     password: &[u8],
     nonce: &[u8],
 ) -> Result<Blob, NoMemory>
-    ensures { IfOk result (λ bytes. bytes ≡ answer plugin password.now nonce.now) }
+    ensures value { IfOk result (λ bytes. bytes ≡ answer plugin password.now nonce.now) }
+    ensures short { plugin ≢ AuthPlugin.Clear → IfOk result (λ bytes. length bytes ≤ 32) }
 {
     match plugin {
         AuthPlugin::Clear => Ok(Blob::from(clear_password(alloc, password)?)),

@@ -23,9 +23,9 @@ use Rattle.my_client.specs.Kept.{Asked, Kept, asking, ended_by, first_asked, fir
 use Rattle.my_client.specs.Reads.{EndedRead, IsWaiting, place_kept}
 use Rattle.my_client.proofs.TapeRead.{no_bytes}
 use Rattle.my_client.proofs.TapeRead.Stopping.{place_open}
-use Rattle.my_session.specs.View.{View}
-use Rattle.my_client.specs.declared.conn.TapedConn.{TapedConn}
-use Rattle.my_client.specs.Conn.{kept_of}
+use Rattle.my_client.specs.declared.tape.Tape.{Tape}
+use Rattle.my_client.specs.Makes.{ConnectsFor}
+use Rattle.my_client.specs.Notes.{Agrees}
 use Rattle.my_client.specs.Drives.{CancelLeaves, closes_by}
 use Rattle.my_client.specs.Stands.{Stands, StandsAsked, StandsAt, StandsIdle, StandsOpen, Stopped, Waits}
 use Rattle.my_client.proofs.Ending.{cancelled_read}
@@ -123,14 +123,14 @@ first_stands login s w = record {
 pub first_begins : (login : Login) (s : Seen) → IsBegun login s → StandsAsked login (begun calls.Connect s) first_kept first_asked
 first_begins login s w = begun_open login s nothing_kept calls.Connect None (first_stands login s w) refl w.closed
 
--- a connection whose handshake is begun
-pub first_asks : {L : Type 0} (login : Login) (c d : TapedConn L) (t : Seen) → IsBegun login c.session.seen → kept_of c ≡ nothing_kept → kept_of d ≡ asking (kept_of c) calls.Connect None
-    → d.session ≡ c.session → t ≡ begun calls.Connect d.session.seen → StandsAsked login t (kept_of d) first_asked
-first_asks login c d t w none kept same is =
-    let t_is : t ≡ begun calls.Connect c.session.seen = is ∙ ap (λ (v : View). begun calls.Connect v.seen) same in
-    let kept_is : kept_of d ≡ first_kept = kept ∙ ap (λ (k : Kept). asking k calls.Connect None) none in
-    subst (λ (k : Kept). StandsAsked login t k first_asked) (sym kept_is)
-    (subst (λ (u : Seen). StandsAsked login u first_kept first_asked) (sym t_is) (first_begins login c.session.seen w))
+-- a session whose handshake is begun, with its tape
+pub first_connects : (login : Login) (s t : Seen) (p q : Option Tape) → IsBegun login s → t ≡ begun calls.Connect s → Agrees p nothing_kept
+    → ((k : Kept) → Agrees p k → Agrees q (asking k calls.Connect None)) → ConnectsFor login t q first_kept first_asked
+first_connects login s t p q w is agrees noted = record {
+  asked = subst (λ (u : Seen). StandsAsked login u first_kept first_asked) (sym is) (first_begins login s w);
+  agrees = noted nothing_kept agrees;
+  connects = refl;
+}
 
 -- the call is cancelled
 same_closing : (c : CallKind) (p : Place) → closes_at c (context_of p.talk).spot ≡ closes_cancelled c p

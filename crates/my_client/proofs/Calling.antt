@@ -57,7 +57,7 @@ same_asked : (a b : Asked) → Some a ≡ Some b → a ≡ b
 same_asked a b e = cc
 
 -- the open call was polled
-pub polled_call : (s t : Seen) (x y : Looks) (p q r : Option Tape) (m : Met) (after : After) → m.taken ≤ MOST_TAKEN → EachPoll Agrees s t x y p q m after → NotesAfter q r after
+pub polled_call : (s t : Seen) (x y : Looks) (p q r : Option Tape) (m : Met) (after : After) → m.taken ≤ MOST_TAKEN → EachPoll s t x y p q m after → NotesAfter q r after
     → EachCall None s t x y p r m after
 polled_call s t x y p q r m after within each noted login k w agrees =
     let u : PollFor (Agrees q) s t x y k m after = each k agrees in

@@ -1,14 +1,13 @@
 -- A poll, with what it returned kept.
-use Rattle.std.proofs.Common.{◌≡◌, ◌≤◌, List, Option, sym, ◌∙◌, subst}
+use Rattle.std.proofs.Common.{◌≡◌, ◌≤◌, sym, ◌∙◌, subst}
 use Rattle.my_frame.specs.declared.limits.TheConstants.{MOST_TAKEN}
-use Rattle.my_value.specs.RowParts.{RowParts}
 use Rattle.my_grammar.specs.declared.login.Login.{Login}
 use Rattle.my_link.specs.declared.met.Met.{Met}
 use Rattle.my_link.specs.Looks.{Looks}
 use Rattle.my_session.specs.Sessions.{Seen}
 use Rattle.my_client.specs.declared.poll.After.{After}
 use Rattle.my_client.specs.declared.poll.After.TheVariants.{Pending, Answered, Failed}
-use Rattle.my_client.specs.Ends.{KeepsBy, RowsBy, kept_after}
+use Rattle.my_client.specs.Ends.{KeepsBy, kept_after}
 use Rattle.my_client.specs.Kept.{Asked, Kept}
 use Rattle.my_client.specs.Drives.{Drives}
 use Rattle.my_client.specs.Polls.{moved_by}
@@ -42,7 +41,3 @@ module _ (holds : Kept → Type 0) (s t : Seen) (x y : Looks) (k : Kept) (m : Me
         stands = subst (Stands login t) (sym is) rest.stands;
         waits = waits_on login t (moved_by k w.moves) end a after is rest.waits;
       }
-
-  -- the rows that it gathered
-  pub rows_for : (rows : Option (List RowParts)) → RowsBy (moved_by k w.moves) after rows → RowsBy k after rows
-  rows_for rows by a e = by a (all_pending k w.moves ∙ e)

@@ -10,7 +10,6 @@ pub mod Resting
 pub mod Stepping
 pub mod Stopping
 pub mod TapeRead
-pub mod Noting
 pub mod Polled
 pub mod Calling
 pub mod Standing

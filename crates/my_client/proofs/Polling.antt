@@ -20,8 +20,9 @@ use Rattle.my_session.specs.Sessions.{Seen, owed_by, with_sent as session_sent, 
 use Rattle.my_client.specs.declared.poll.After.{After}
 use Rattle.my_client.specs.declared.poll.After.TheVariants.{Pending, Answered, Failed}
 use Rattle.my_client.specs.declared.tape.Said.TheVariants as says
+use Rattle.my_client.specs.declared.tape.Tape.{Tape}
 use Rattle.my_client.specs.Kept.{Asked, Kept}
-use Rattle.my_client.specs.Notes.{NotesSent, NotesTaken, with_sent, with_taken}
+use Rattle.my_client.specs.Notes.{Agrees, NotesSent, NotesTaken, with_sent, with_taken}
 use Rattle.my_client.specs.Reads.{facts_kept, place_kept}
 use Rattle.my_client.specs.declared.poll.Halt.{Halt}
 use Rattle.my_client.specs.declared.poll.Turn.{Turn}
@@ -93,131 +94,130 @@ met_of n halt = record nothing_met { taken = n; faults = faults_at (stop_at halt
 abbrev sent_stand_of : Seen → ℕ → Stand
 sent_stand_of s n = with_owed (drop n s.stand.owed) s.stand
 
-module _ {T : Type 0} (keeps : T → Kept → Type 0) where
-  -- bytes were sent
-  pub went : (s t : Seen) (x y : Looks) (p q : T) (room n : ℕ) (bytes : List ℕ) → bytes ≡ take n (owed_by s) → t ≡ session_sent n s → 0 < n → n ≤ length (owed_by s)
-      → Sends (length (owed_by s)) (take n (owed_by s)) x y → NotesSent keeps p q bytes → EachTurn (Stopped Owes) keeps s t x y p q room turns.Sent
-  went s t x y p q room n bytes e is some within looks noted = λ k w. record {
-    offered = length (owed_by s);
-    bytes = take n (owed_by s);
-    moves = (omega (arith, length-take-le n (owed_by s) within, some), looks);
-    noted = subst (λ (b : List ℕ). keeps q (with_sent k b)) e (noted k w);
-    turn = λ login a h.
-        let here = sent_turn login s k a n h in
-        (here.0, subst (λ (b : List ℕ). begins_with (owed (place_kept login k)) (take n b) ≡ true) (sym (owes h.so_far.unclosed)) here.1);
-    rests = λ login a h.
-        subst (λ (u : Seen). StandsAsked login u (with_sent k (take n (owed_by s))) a) (sym (is ∙ sends h.so_far.unclosed))
-        (subst (λ (b : List ℕ). StandsAsked login (record s { stand = sent_stand_of s n }) (with_sent k (take n b)) a) (sym (owes h.so_far.unclosed)) (sent_asked login s k a n h));
-  }
-    where
-      owes : s.closed ≡ false → owed_by s ≡ s.stand.owed
-      owes e = ap (λ b. cond b [] s.stand.owed) e
+-- bytes were sent
+pub went : (s t : Seen) (x y : Looks) (p q : Option Tape) (room n : ℕ) (bytes : List ℕ) → bytes ≡ take n (owed_by s) → t ≡ session_sent n s → 0 < n → n ≤ length (owed_by s)
+    → Sends (length (owed_by s)) (take n (owed_by s)) x y → NotesSent p q bytes → EachTurn (Stopped Owes) s t x y p q room turns.Sent
+went s t x y p q room n bytes e is some within looks noted = λ k w. record {
+  offered = length (owed_by s);
+  bytes = take n (owed_by s);
+  moves = (omega (arith, length-take-le n (owed_by s) within, some), looks);
+  noted = subst (λ (b : List ℕ). Agrees q (with_sent k b)) e (noted k w);
+  turn = λ login a h.
+      let here = sent_turn login s k a n h in
+      (here.0, subst (λ (b : List ℕ). begins_with (owed (place_kept login k)) (take n b) ≡ true) (sym (owes h.so_far.unclosed)) here.1);
+  rests = λ login a h.
+      subst (λ (u : Seen). StandsAsked login u (with_sent k (take n (owed_by s))) a) (sym (is ∙ sends h.so_far.unclosed))
+      (subst (λ (b : List ℕ). StandsAsked login (record s { stand = sent_stand_of s n }) (with_sent k (take n b)) a) (sym (owes h.so_far.unclosed)) (sent_asked login s k a n h));
+}
+  where
+    owes : s.closed ≡ false → owed_by s ≡ s.stand.owed
+    owes e = ap (λ b. cond b [] s.stand.owed) e
 
-      sends : s.closed ≡ false → session_sent n s ≡ record s { stand = sent_stand_of s n }
-      sends e = ap (λ (b : Bool). cond b s (record s { stand = sent_stand_of s n })) e
+    sends : s.closed ≡ false → session_sent n s ≡ record s { stand = sent_stand_of s n }
+    sends e = ap (λ (b : Bool). cond b s (record s { stand = sent_stand_of s n })) e
 
-  -- bytes were received
-  pub came : (s t : Seen) (x y : Looks) (p q : T) (room n : ℕ) (got bytes : List ℕ) → bytes ≡ take n got → n ≤ length got → t ≡ session_taken bytes s → 0 < n
-      → Receives (take n got) x y → NotesTaken keeps p q bytes → EachTurn (Stopped Awaits) keeps s t x y p q room (turns.Took n)
-  came s t x y p q room n got bytes e within is some looks noted = λ k w.
-      let count : length bytes ≡ n = ap length e ∙ length-take-le n got within in
+-- bytes were received
+pub came : (s t : Seen) (x y : Looks) (p q : Option Tape) (room n : ℕ) (got bytes : List ℕ) → bytes ≡ take n got → n ≤ length got → t ≡ session_taken bytes s → 0 < n
+    → Receives (take n got) x y → NotesTaken p q bytes → EachTurn (Stopped Awaits) s t x y p q room (turns.Took n)
+came s t x y p q room n got bytes e within is some looks noted = λ k w.
+    let count : length bytes ≡ n = ap length e ∙ length-take-le n got within in
+    record {
+      bytes = bytes;
+      count = count;
+      moves = (omega (arith, count, some), subst (λ (b : List ℕ). Receives b x y) (sym e) looks);
+      noted = noted k w;
+      turn = λ login a h. stop_stopped Awaits login s k a h;
+      rests = λ login a h. subst (λ (u : Seen). StandsAsked login u (with_taken k bytes) a) (sym is) (taken_asked login s k a bytes h);
+    }
+
+-- the poll is over
+pub over_so : (stands : Login → Seen → Kept → Asked → Type 0) (s t : Seen) (x y : Looks) (p : Option Tape) (room : ℕ) (halt : Halt) (after : After) → StopsAt (stop_at halt) x y
+    → ((login : Login) (k : Kept) (a : Asked) → stands login s k a → Over login t k a room (stop_at halt) after) → EachTurn stands s t x y p p room (turns.Over halt after)
+over_so stands s t x y p room halt after stops rests = λ k w. record { stops = stops; noted = w; rests = λ login a h. rests login k a h }
+
+-- a step that asked for the turn
+pub behind : (stands : Login → Seen → Kept → Asked → Type 0) (s r t : Seen) (x y : Looks) (p q : Option Tape) (room : ℕ) (turn : Turn) → ((login : Login) (k : Kept) (a : Asked) → StandsAsked login s k a → stands login r k a)
+    → EachTurn stands r t x y p q room turn → EachTurn StandsAsked s t x y p q room turn
+behind stands s r t x y p q room turns.Sent held each = λ k w.
+    let here : SentFor stands (Agrees q) r t x y k = each k w in
+    record {
+      offered = here.offered;
+      bytes = here.bytes;
+      moves = here.moves;
+      noted = here.noted;
+      turn = λ login a h. here.turn login a (held login k a h);
+      rests = λ login a h. here.rests login a (held login k a h);
+    }
+behind stands s r t x y p q room (turns.Took n) held each = λ k w.
+    let here : TookFor stands (Agrees q) r t x y k n = each k w in
+    record {
+      bytes = here.bytes;
+      count = here.count;
+      moves = here.moves;
+      noted = here.noted;
+      turn = λ login a h. here.turn login a (held login k a h);
+      rests = λ login a h. here.rests login a (held login k a h);
+    }
+behind stands s r t x y p q room (turns.Over halt after) held each = λ k w.
+    let here : OverFor stands (Agrees q) r t x y k room (stop_at halt) after = each k w in
+    record { stops = here.stops; noted = here.noted; rests = λ login a h. here.rests login a (held login k a h) }
+
+-- so far in a poll, for what was kept before it
+pub record PollSoFar (s t : Seen) (x y : Looks) (q : Option Tape) (k : Kept) (n : ℕ) : Type 0 where
+  pub moves : List Move
+  pub leads : Leads moves x y
+  pub count : n ≡ length (received_by moves)
+  pub noted : Agrees q (moved_by k moves)
+  pub turns : (login : Login) (a : Asked) → StandsAsked login s k a → AreInTurn login k moves
+  pub rests : (login : Login) (a : Asked) → StandsAsked login s k a → StandsAsked login t (moved_by k moves) a
+
+abbrev pub EachSoFar : Seen → Seen → Looks → Looks → Option Tape → Option Tape → ℕ → Type 0
+EachSoFar s t x y p q n = (k : Kept) → Agrees p k → PollSoFar s t x y q k n
+
+pub nothing_yet : (s : Seen) (x : Looks) (p : Option Tape) → EachSoFar s s x x p p 0
+nothing_yet s x p k w = record { moves = []; leads = refl; count = refl; noted = w; turns = λ login a h. tt; rests = λ login a h. h }
+
+module _ (s r t : Seen) (x z y : Looks) (p o q : Option Tape) (n room : ℕ) (so : EachSoFar s r x z p o n) where
+  pub sent_on : EachTurn StandsAsked r t z y o q room turns.Sent → EachSoFar s t x y p q n
+  sent_on each k w =
+      let was : PollSoFar s r x z o k n = so k w in
+      let here : SentFor StandsAsked (Agrees q) r t z y (moved_by k was.moves) = each (moved_by k was.moves) was.noted in
       record {
-        bytes = bytes;
-        count = count;
-        moves = (omega (arith, count, some), subst (λ (b : List ℕ). Receives b x y) (sym e) looks);
-        noted = noted k w;
-        turn = λ login a h. stop_stopped Awaits login s k a h;
-        rests = λ login a h. subst (λ (u : Seen). StandsAsked login u (with_taken k bytes) a) (sym is) (taken_asked login s k a bytes h);
-      }
-
-  -- the poll is over
-  pub over_so : (stands : Login → Seen → Kept → Asked → Type 0) (s t : Seen) (x y : Looks) (p : T) (room : ℕ) (halt : Halt) (after : After) → StopsAt (stop_at halt) x y
-      → ((login : Login) (k : Kept) (a : Asked) → stands login s k a → Over login t k a room (stop_at halt) after) → EachTurn stands keeps s t x y p p room (turns.Over halt after)
-  over_so stands s t x y p room halt after stops rests = λ k w. record { stops = stops; noted = w; rests = λ login a h. rests login k a h }
-
-  -- a step that asked for the turn
-  pub behind : (stands : Login → Seen → Kept → Asked → Type 0) (s r t : Seen) (x y : Looks) (p q : T) (room : ℕ) (turn : Turn) → ((login : Login) (k : Kept) (a : Asked) → StandsAsked login s k a → stands login r k a)
-      → EachTurn stands keeps r t x y p q room turn → EachTurn StandsAsked keeps s t x y p q room turn
-  behind stands s r t x y p q room turns.Sent held each = λ k w.
-      let here : SentFor stands (keeps q) r t x y k = each k w in
-      record {
-        offered = here.offered;
-        bytes = here.bytes;
-        moves = here.moves;
+        moves = Sent here.offered here.bytes ∷ was.moves;
+        leads = (z, was.leads, here.moves);
+        count = was.count;
         noted = here.noted;
-        turn = λ login a h. here.turn login a (held login k a h);
-        rests = λ login a h. here.rests login a (held login k a h);
+        turns = λ login a h. (was.turns login a h, here.turn login a (was.rests login a h));
+        rests = λ login a h. here.rests login a (was.rests login a h);
       }
-  behind stands s r t x y p q room (turns.Took n) held each = λ k w.
-      let here : TookFor stands (keeps q) r t x y k n = each k w in
+
+  pub took_on : (m : ℕ) → EachTurn StandsAsked r t z y o q room (turns.Took m) → EachSoFar s t x y p q (n + m)
+  took_on m each k w =
+      let was : PollSoFar s r x z o k n = so k w in
+      let here : TookFor StandsAsked (Agrees q) r t z y (moved_by k was.moves) m = each (moved_by k was.moves) was.noted in
       record {
-        bytes = here.bytes;
-        count = here.count;
-        moves = here.moves;
+        moves = Received here.bytes ∷ was.moves;
+        leads = (z, was.leads, here.moves);
+        count = omega (arith, was.count, here.count, length-append (received_by was.moves) here.bytes);
         noted = here.noted;
-        turn = λ login a h. here.turn login a (held login k a h);
-        rests = λ login a h. here.rests login a (held login k a h);
+        turns = λ login a h. (was.turns login a h, here.turn login a (was.rests login a h));
+        rests = λ login a h. here.rests login a (was.rests login a h);
       }
-  behind stands s r t x y p q room (turns.Over halt after) held each = λ k w.
-      let here : OverFor stands (keeps q) r t x y k room (stop_at halt) after = each k w in
-      record { stops = here.stops; noted = here.noted; rests = λ login a h. here.rests login a (held login k a h) }
 
-  -- so far in a poll, for what was kept before it
-  pub record PollSoFar (s t : Seen) (x y : Looks) (q : T) (k : Kept) (n : ℕ) : Type 0 where
-    pub moves : List Move
-    pub leads : Leads moves x y
-    pub count : n ≡ length (received_by moves)
-    pub noted : keeps q (moved_by k moves)
-    pub turns : (login : Login) (a : Asked) → StandsAsked login s k a → AreInTurn login k moves
-    pub rests : (login : Login) (a : Asked) → StandsAsked login s k a → StandsAsked login t (moved_by k moves) a
-
-  abbrev pub EachSoFar : Seen → Seen → Looks → Looks → T → T → ℕ → Type 0
-  EachSoFar s t x y p q n = (k : Kept) → keeps p k → PollSoFar s t x y q k n
-
-  pub nothing_yet : (s : Seen) (x : Looks) (p : T) → EachSoFar s s x x p p 0
-  nothing_yet s x p k w = record { moves = []; leads = refl; count = refl; noted = w; turns = λ login a h. tt; rests = λ login a h. h }
-
-  module _ (s r t : Seen) (x z y : Looks) (p o q : T) (n room : ℕ) (so : EachSoFar s r x z p o n) where
-    pub sent_on : EachTurn StandsAsked keeps r t z y o q room turns.Sent → EachSoFar s t x y p q n
-    sent_on each k w =
-        let was : PollSoFar s r x z o k n = so k w in
-        let here : SentFor StandsAsked (keeps q) r t z y (moved_by k was.moves) = each (moved_by k was.moves) was.noted in
-        record {
-          moves = Sent here.offered here.bytes ∷ was.moves;
-          leads = (z, was.leads, here.moves);
-          count = was.count;
-          noted = here.noted;
-          turns = λ login a h. (was.turns login a h, here.turn login a (was.rests login a h));
-          rests = λ login a h. here.rests login a (was.rests login a h);
-        }
-
-    pub took_on : (m : ℕ) → EachTurn StandsAsked keeps r t z y o q room (turns.Took m) → EachSoFar s t x y p q (n + m)
-    took_on m each k w =
-        let was : PollSoFar s r x z o k n = so k w in
-        let here : TookFor StandsAsked (keeps q) r t z y (moved_by k was.moves) m = each (moved_by k was.moves) was.noted in
-        record {
-          moves = Received here.bytes ∷ was.moves;
-          leads = (z, was.leads, here.moves);
-          count = omega (arith, was.count, here.count, length-append (received_by was.moves) here.bytes);
-          noted = here.noted;
-          turns = λ login a h. (was.turns login a h, here.turn login a (was.rests login a h));
-          rests = λ login a h. here.rests login a (was.rests login a h);
-        }
-
-    pub is_over : (halt : Halt) (after : After) (m : Met) → EachTurn StandsAsked keeps r t z y o q room (turns.Over halt after) → n + room ≡ MOST_TAKEN
-        → m ≡ record nothing_met { taken = n; faults = faults_at (stop_at halt); holds = holds_at (stop_at halt); ends = ends_at (stop_at halt) } → EachPoll keeps s t x y p q m after
-    is_over halt after m each all is k w =
-        let was : PollSoFar s r x z o k n = so k w in
-        let here : OverFor StandsAsked (keeps q) r t z y (moved_by k was.moves) room (stop_at halt) after = each (moved_by k was.moves) was.noted in
-        record {
-          moves = was.moves;
-          stop = stop_at halt;
-          moved = z;
-          leads = was.leads;
-          stops = here.stops;
-          met = is ∙ ap (λ (c : ℕ). met_of c halt) was.count;
-          noted = here.noted;
-          rests = λ login a h.
-              let rest : Over login t (moved_by k was.moves) a room (stop_at halt) after = here.rests login a (was.rests login a h) in
-              record { turns = was.turns login a h; comes = rest.comes m.taken (omega (arith, ap (λ (u : Met). u.taken) is, all)); stands = rest.stands; waits = rest.waits };
-        }
+  pub is_over : (halt : Halt) (after : After) (m : Met) → EachTurn StandsAsked r t z y o q room (turns.Over halt after) → n + room ≡ MOST_TAKEN
+      → m ≡ record nothing_met { taken = n; faults = faults_at (stop_at halt); holds = holds_at (stop_at halt); ends = ends_at (stop_at halt) } → EachPoll s t x y p q m after
+  is_over halt after m each all is k w =
+      let was : PollSoFar s r x z o k n = so k w in
+      let here : OverFor StandsAsked (Agrees q) r t z y (moved_by k was.moves) room (stop_at halt) after = each (moved_by k was.moves) was.noted in
+      record {
+        moves = was.moves;
+        stop = stop_at halt;
+        moved = z;
+        leads = was.leads;
+        stops = here.stops;
+        met = is ∙ ap (λ (c : ℕ). met_of c halt) was.count;
+        noted = here.noted;
+        rests = λ login a h.
+            let rest : Over login t (moved_by k was.moves) a room (stop_at halt) after = here.rests login a (was.rests login a h) in
+            record { turns = was.turns login a h; comes = rest.comes m.taken (omega (arith, ap (λ (u : Met). u.taken) is, all)); stands = rest.stands; waits = rest.waits };
+      }

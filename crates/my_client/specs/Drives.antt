@@ -1,6 +1,5 @@
 -- What a poll of the open call does, once what it returned is kept, and what a cancelling leaves.
-use Rattle.std.specs.Prelude.{◌≡◌, ◌&&◌, List, Option, Bool, not}
-use Rattle.my_value.specs.RowParts.{RowParts}
+use Rattle.std.specs.Prelude.{◌≡◌, ◌&&◌, Bool, not}
 use Rattle.my_grammar.specs.declared.login.Login.{Login}
 use Rattle.my_link.specs.declared.met.Met.{Met}
 use Rattle.my_link.specs.Looks.{Looks}
@@ -9,13 +8,10 @@ use Rattle.my_reading.specs.Endings.{closes_cancelled}
 use Rattle.my_session.specs.Sessions.{Seen}
 use Rattle.my_client.specs.declared.poll.After.{After}
 use Rattle.my_client.specs.declared.tape.Said.TheVariants as says
-use Rattle.my_client.specs.Ends.{RowsBy}
 use Rattle.my_client.specs.Kept.{Asked, Kept, ended_by}
 use Rattle.my_client.specs.Reads.{place_kept}
-use Rattle.my_client.specs.declared.conn.TapedConn.{TapedConn}
-use Rattle.my_client.specs.Conn.{kept_of}
 use Rattle.my_client.specs.Polls.{IsPolled}
-use Rattle.my_client.specs.Stands.{Stands, StandsAsked, Waits}
+use Rattle.my_client.specs.Stands.{Stands}
 use Rattle.my_client.specs.Turns.{WaitsBy}
 
 -- The poll, and the session after it: it is where the reading of what is kept is, and where the call is still open it waits for
@@ -25,14 +21,6 @@ pub record Drives (login : Login) (a : Asked) (t : Seen) (x y : Looks) (k end : 
   pub stands : Stands login t end
   pub waits : WaitsBy login t end a after
 
--- of each call that may be open
-abbrev pub EachDrives : {L : Type 0} → (L → Looks) → TapedConn L → TapedConn L → Met → After → Type 0
-EachDrives look c d m after = (login : Login) (a : Asked) → StandsAsked login c.session.seen (kept_of c) a
-    → Drives login a d.session.seen (look c.link) (look d.link) (kept_of c) (kept_of d) m after
-
-abbrev pub EachRows : {L : Type 0} → TapedConn L → After → Option (List RowParts) → Type 0
-EachRows c after rows = RowsBy (kept_of c) after rows
-
 -- whether a cancelling closed the session
 abbrev pub closes_by : Seen → Seen → Bool
 closes_by s t = t.closed && not s.closed
@@ -41,7 +29,3 @@ closes_by s t = t.closed && not s.closed
 pub record CancelLeaves (login : Login) (s t : Seen) (k : Kept) (a : Asked) : Type 0 where
   pub closes : closes_by s t ≡ closes_cancelled (kind_of a.call) (place_kept login k)
   pub stands : Stands login t (ended_by k a (says.Cancelled (closes_by s t)))
-
--- of each call that may wait for its link
-abbrev pub EachCancels : {L : Type 0} → TapedConn L → TapedConn L → Type 0
-EachCancels c d = (login : Login) (a : Asked) → Waits login c.session.seen (kept_of c) a → CancelLeaves login c.session.seen d.session.seen (kept_of c) a

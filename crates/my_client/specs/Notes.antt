@@ -16,9 +16,9 @@ with_sent k bytes = record { sent = k.sent ++ bytes; taken = k.taken; calls = k.
 abbrev pub with_taken : Kept → List ℕ → Kept
 with_taken k bytes = record { sent = k.sent; taken = k.taken ++ bytes; calls = k.calls; pending = k.pending }
 
--- notes that agreed with what was kept agree with it and these bytes
-abbrev pub NotesSent : {T : Type 0} → (T → Kept → Type 0) → T → T → List ℕ → Type 0
-NotesSent keeps p q bytes = (k : Kept) → keeps p k → keeps q (with_sent k bytes)
+-- a tape that agreed with what was kept agrees with it and these bytes
+abbrev pub NotesSent : Option Tape → Option Tape → List ℕ → Type 0
+NotesSent p q bytes = (k : Kept) → Agrees p k → Agrees q (with_sent k bytes)
 
-abbrev pub NotesTaken : {T : Type 0} → (T → Kept → Type 0) → T → T → List ℕ → Type 0
-NotesTaken keeps p q bytes = (k : Kept) → keeps p k → keeps q (with_taken k bytes)
+abbrev pub NotesTaken : Option Tape → Option Tape → List ℕ → Type 0
+NotesTaken p q bytes = (k : Kept) → Agrees p k → Agrees q (with_taken k bytes)

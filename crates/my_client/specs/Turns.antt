@@ -1,5 +1,5 @@
 -- What a turn of a poll, and a poll, do to whatever a connection may have done before.
-use Rattle.std.specs.Prelude.{ℕ, ◌≡◌, ◌≢◌, ◌+◌, List, length, Some}
+use Rattle.std.specs.Prelude.{ℕ, ◌≡◌, ◌≢◌, ◌+◌, List, length, Option, Some}
 use Rattle.my_frame.specs.declared.limits.TheConstants.{MOST_TAKEN}
 use Rattle.my_grammar.specs.declared.login.Login.{Login}
 use Rattle.my_link.specs.declared.met.Met.{Met}
@@ -14,7 +14,8 @@ use Rattle.my_client.specs.declared.poll.After.{After}
 use Rattle.my_client.specs.declared.poll.After.TheVariants.{Pending}
 use Rattle.my_client.specs.Ends.{kept_after}
 use Rattle.my_client.specs.Kept.{Asked, Kept}
-use Rattle.my_client.specs.Notes.{with_sent, with_taken}
+use Rattle.my_client.specs.Notes.{Agrees, with_sent, with_taken}
+use Rattle.my_client.specs.declared.tape.Tape.{Tape}
 use Rattle.my_client.specs.declared.poll.Halt.{Halt}
 use Rattle.my_client.specs.declared.poll.Halt.TheVariants as halts
 use Rattle.my_client.specs.declared.poll.Turn.{Turn}
@@ -80,9 +81,9 @@ abbrev pub took_by : Turn → ℕ
 took_by (turns.Took n) = n
 took_by turn = 0
 
--- for each kept thing with which the notes agreed
-abbrev pub EachTurn : {T : Type 0} → (Login → Seen → Kept → Asked → Type 0) → (T → Kept → Type 0) → Seen → Seen → Looks → Looks → T → T → ℕ → Turn → Type 0
-EachTurn stands keeps s t x y p q room turn = (k : Kept) → keeps p k → TurnFor stands (keeps q) s t x y k room turn
+-- for each kept thing with which the tape agreed
+abbrev pub EachTurn : (Login → Seen → Kept → Asked → Type 0) → Seen → Seen → Looks → Looks → Option Tape → Option Tape → ℕ → Turn → Type 0
+EachTurn stands s t x y p q room turn = (k : Kept) → Agrees p k → TurnFor stands (Agrees q) s t x y k room turn
 
 -- Where the session stood for what was kept: each move was in turn, the poll returned what the reading says, and the session stands for
 -- what is kept then.
@@ -103,5 +104,5 @@ pub record PollFor (notes : Kept → Type 0) (s t : Seen) (x y : Looks) (k : Kep
   pub noted : notes (moved_by k moves)
   pub rests : (login : Login) (a : Asked) → StandsAsked login s k a → PollRests login t k a moves stop m after
 
-abbrev pub EachPoll : {T : Type 0} → (T → Kept → Type 0) → Seen → Seen → Looks → Looks → T → T → Met → After → Type 0
-EachPoll keeps s t x y p q m after = (k : Kept) → keeps p k → PollFor (keeps q) s t x y k m after
+abbrev pub EachPoll : Seen → Seen → Looks → Looks → Option Tape → Option Tape → Met → After → Type 0
+EachPoll s t x y p q m after = (k : Kept) → Agrees p k → PollFor (Agrees q) s t x y k m after

@@ -1,17 +1,17 @@
 //! A call on a session, from its beginning to its end, noted on the tape, where one is kept.
-ghost use Rattle.std.specs.Prelude.{◌≡◌, Some, None, true, false, is_some, IfOk, OnOk};
+ghost use Rattle.std.specs.Prelude.{◌≡◌, Some, None, is_some, IfOk, OnOk};
 ghost use Rattle.my_link.specs.Met.{nothing_met};
 ghost use Rattle.my_grammar.specs.declared.login.Login.{Login};
 ghost use Rattle.my_client.specs.Ends.{kept_after};
-ghost use Rattle.my_client.specs.Kept.{Asked, Kept, asking, ended_by};
+ghost use Rattle.my_client.specs.Kept.{Asked, Kept};
 ghost use Rattle.my_client.specs.Notes.{Agrees};
 ghost use Rattle.my_client.specs.Drives.{CancelLeaves, closes_by};
 ghost use Rattle.my_client.specs.Lives.{made_in};
 ghost use Rattle.my_client.specs.Stands.{Waits};
-ghost use Rattle.my_client.specs.Turns.{EachPoll};
 ghost use Rattle.my_client.specs.Calls.{EachCall, Leaves, MayStart};
 ghost use Rattle.my_client.specs.Cancels.{EachCancel};
 
+use crate::notes::{note_after, note_call, note_end};
 use crate::poll::{After, poll_session};
 use crate::tape::{Said, Tape};
 use my_frame::NoMemory;
@@ -19,60 +19,6 @@ use my_link::{Link, Met};
 use my_reading::{Call, Error};
 use my_session::Session;
 use std::alloc::Global;
-
-// Notes that this call begins.
-pub(crate) fn note_call(alloc: Global, tape: &mut Option<Tape>, call: &Call) -> Result<(), NoMemory>
-    ensures noted { OnOk result ((k : Kept) → Agrees tape.old k → Agrees tape.new (asking k call.now None)) }
-    ensures keeps { OnOk result (is_some tape.new ≡ is_some tape.old) }
-{
-    match tape {
-        None => Ok(()),
-        Some(tape) => {
-            let copy = call.copy(alloc)?;
-            tape.ask(copy, None)?;
-            Ok(())
-        }
-    }
-}
-
-// Notes what a poll of the open call returned.
-fn note_after(alloc: Global, tape: &mut Option<Tape>, after: &After) -> Result<(), NoMemory>
-    ensures noted { OnOk result ((k : Kept) (a : Asked) → Agrees tape.old k → k.pending ≡ Some a
-        → Agrees tape.new (kept_after k a after.now)) }
-    ensures keeps { OnOk result (is_some tape.new ≡ is_some tape.old) }
-{
-    match tape {
-        None => Ok(()),
-        Some(tape) => {
-            drop(tape.keep(alloc, after)?);
-            Ok(())
-        }
-    }
-}
-
-// Polls the session's open call over the link, and notes its bytes on the tape, where one is kept.
-fn poll_noted<L: Link>(
-    alloc: Global,
-    session: &mut Session,
-    link: &mut L,
-    tape: &mut Option<Tape>,
-    now: u64,
-) -> Result<(After, Met), NoMemory>
-    ensures polls { IfOk result (λ p. EachPoll Agrees session.old.seen session.new.seen
-        (L.looks link.old) (L.looks link.new) tape.old tape.new p.1 p.0) }
-    ensures leaves { IfOk result (λ p. Leaves now p.1.taken session.old session.new tape.old tape.new) }
-    ensures made { made_in session.new ≡ made_in session.old }
-{
-    match tape {
-        Some(kept) => poll_session(alloc, session, link, kept, now),
-        None => {
-            let mut none = None;
-            let polled = poll_session(alloc, session, link, &mut none, now);
-            drop(none);
-            polled
-        }
-    }
-}
 
 /// Polls the open call once, at the moment `now`.
 pub(crate) fn poll_open<L: Link>(
@@ -87,7 +33,7 @@ pub(crate) fn poll_open<L: Link>(
     ensures leaves { IfOk result (λ p. Leaves now p.1.taken session.old session.new tape.old tape.new) }
     ensures made { made_in session.new ≡ made_in session.old }
 {
-    let (after, met) = poll_noted(alloc, session, link, tape, now)?;
+    let (after, met) = poll_session(alloc, session, link, tape, now)?;
     match note_after(alloc, tape, &after) {
         Ok(()) => Ok((after, met)),
         Err(NoMemory) => {
@@ -164,17 +110,6 @@ pub fn poll_once<L: Link>(
     match call {
         None => return poll_open(alloc, session, link, tape, now),
         Some(call) => return begin_call(alloc, session, link, tape, call, now),
-    }
-}
-
-// Notes how the open call ended.
-pub(crate) fn note_end(tape: &mut Option<Tape>, said: Said)
-    ensures noted { (k : Kept) (a : Asked) → Agrees tape.old k → k.pending ≡ Some a → Agrees tape.new (ended_by k a said) }
-    ensures keeps { is_some tape.new ≡ is_some tape.old }
-{
-    match tape {
-        None => drop(said),
-        Some(tape) => drop(tape.note(said)),
     }
 }
 

@@ -2,7 +2,7 @@
 ghost use Rattle.std.specs.Prelude.{◌≡◌, None, is_some, IfOk, OnOk};
 ghost use Rattle.my_client.specs.Forgets.{EachAnswered, EachForget};
 
-use crate::begin::{note_call, note_end};
+use crate::notes::{note_call, note_end};
 use crate::tape::{Said, Tape};
 use my_frame::NoMemory;
 use my_reading::{Answer, Call};

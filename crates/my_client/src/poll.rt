@@ -1,6 +1,6 @@
 //! Polls a session's open call over a link until it returns or the link isn't ready.
 
-ghost use Rattle.std.specs.Prelude.{ℕ, ◌≡◌, ◌≢◌, ◌≤◌, ◌<◌, length, IfOk};
+ghost use Rattle.std.specs.Prelude.{ℕ, ◌≡◌, ◌≢◌, ◌≤◌, ◌<◌, is_some, length, IfOk};
 ghost use Rattle.my_link.specs.Met.{nothing_met};
 ghost use Rattle.my_link.specs.Moves.{ends_at, faults_at, holds_at};
 ghost use Rattle.my_reading.specs.Course.{Awaits, Owes};
@@ -8,7 +8,8 @@ ghost use Rattle.my_client.specs.Lives.{Lives, made_in};
 ghost use Rattle.my_client.specs.Stands.{StandsAsked, Stopped};
 ghost use Rattle.my_client.specs.Turns.{EachPoll, EachTurn, FailsNow, stop_at, took_by};
 
-use crate::notes::Notes;
+use crate::notes::{note_sent, note_taken};
+use crate::tape::Tape;
 use my_frame::NoMemory;
 use my_frame::limits::MOST_TAKEN;
 use my_link::{Link, Met, ReadStep, WriteStep};
@@ -75,25 +76,26 @@ fn fail_now(alloc: Global, session: &mut Session, now: u64) -> Result<Error, NoM
 }
 
 // Sends some of what is owed. A session that stands at a place of the reading owes some where it asks to send.
-fn send<L: Link, T: Notes>(
+fn send<L: Link>(
     alloc: Global,
     session: &mut Session,
     link: &mut L,
-    notes: &mut T,
+    tape: &mut Option<Tape>,
     now: u64,
 ) -> Result<Turn, NoMemory>
-    ensures turn { IfOk result (λ turn. (room : ℕ) → EachTurn (Stopped Owes) T.keeps session.old.seen session.new.seen
-        (L.looks link.old) (L.looks link.new) notes.old notes.new room turn) }
+    ensures turn { IfOk result (λ turn. (room : ℕ) → EachTurn (Stopped Owes) session.old.seen session.new.seen
+        (L.looks link.old) (L.looks link.new) tape.old tape.new room turn) }
     ensures took { IfOk result (λ turn. took_by turn ≡ 0) }
     ensures lives { IfOk result (λ turn. Lives now (took_by turn) session.old session.new) }
     ensures made { made_in session.new ≡ made_in session.old }
+    ensures keeps { is_some tape.new ≡ is_some tape.old }
 {
     if session.owed().is_empty() {
         return Err(NoMemory);
     }
     match link.write(session.owed()) {
         WriteStep::Took(n) => {
-            notes.note_sent(&session.owed()[..n])?;
+            note_sent(tape, &session.owed()[..n])?;
             session.sent(n);
             Ok(Turn::Sent)
         }
@@ -108,28 +110,29 @@ fn send<L: Link, T: Notes>(
 }
 
 // Receives some of what the link has, at most `room` bytes, by a buffer that isn't empty.
-fn receive_into<L: Link, T: Notes>(
+fn receive_into<L: Link>(
     alloc: Global,
     session: &mut Session,
     link: &mut L,
-    notes: &mut T,
+    tape: &mut Option<Tape>,
     now: u64,
     room: u64,
     buffer: &mut [u8],
 ) -> Result<Turn, NoMemory>
     requires room { 0 < room }
     requires buffer { 0 < length buffer.old }
-    ensures turn { IfOk result (λ turn. EachTurn (Stopped Awaits) T.keeps session.old.seen session.new.seen
-        (L.looks link.old) (L.looks link.new) notes.old notes.new room turn) }
+    ensures turn { IfOk result (λ turn. EachTurn (Stopped Awaits) session.old.seen session.new.seen
+        (L.looks link.old) (L.looks link.new) tape.old tape.new room turn) }
     ensures took { IfOk result (λ turn. took_by turn ≤ room) }
     ensures lives { IfOk result (λ turn. Lives now (took_by turn) session.old session.new) }
     ensures made { made_in session.new ≡ made_in session.old }
+    ensures keeps { is_some tape.new ≡ is_some tape.old }
 {
     let most = room.min(buffer.len() as u64) as usize;
     match link.read(&mut buffer[..most]) {
         ReadStep::Got(n) => {
             session.take(&buffer[..n])?;
-            notes.note_taken(&buffer[..n])?;
+            note_taken(tape, &buffer[..n])?;
             Ok(Turn::Took(n as u64))
         }
         ReadStep::NotYet => Ok(Turn::Over(Halt::ReadHeld, After::Pending)),
@@ -147,49 +150,51 @@ fn receive_into<L: Link, T: Notes>(
 }
 
 // Receives some of what the link has, at most `room` bytes.
-fn receive<L: Link, T: Notes>(
+fn receive<L: Link>(
     alloc: Global,
     session: &mut Session,
     link: &mut L,
-    notes: &mut T,
+    tape: &mut Option<Tape>,
     now: u64,
     room: u64,
 ) -> Result<Turn, NoMemory>
     requires room { 0 < room }
-    ensures turn { IfOk result (λ turn. EachTurn (Stopped Awaits) T.keeps session.old.seen session.new.seen
-        (L.looks link.old) (L.looks link.new) notes.old notes.new room turn) }
+    ensures turn { IfOk result (λ turn. EachTurn (Stopped Awaits) session.old.seen session.new.seen
+        (L.looks link.old) (L.looks link.new) tape.old tape.new room turn) }
     ensures took { IfOk result (λ turn. took_by turn ≤ room) }
     ensures lives { IfOk result (λ turn. Lives now (took_by turn) session.old session.new) }
     ensures made { made_in session.new ≡ made_in session.old }
+    ensures keeps { is_some tape.new ≡ is_some tape.old }
 {
     let mut buffer = session.lend_buffer(alloc)?;
-    let turn = receive_into(alloc, session, link, notes, now, room, &mut buffer);
+    let turn = receive_into(alloc, session, link, tape, now, room, &mut buffer);
     session.keep_buffer(buffer);
     turn
 }
 
 // One turn: what the session asks for is done with the link.
-fn take_turn<L: Link, T: Notes>(
+fn take_turn<L: Link>(
     alloc: Global,
     session: &mut Session,
     link: &mut L,
-    notes: &mut T,
+    tape: &mut Option<Tape>,
     now: u64,
     room: u64,
 ) -> Result<Turn, NoMemory>
-    ensures turn { IfOk result (λ turn. EachTurn StandsAsked T.keeps session.old.seen session.new.seen
-        (L.looks link.old) (L.looks link.new) notes.old notes.new room turn) }
+    ensures turn { IfOk result (λ turn. EachTurn StandsAsked session.old.seen session.new.seen
+        (L.looks link.old) (L.looks link.new) tape.old tape.new room turn) }
     ensures took { IfOk result (λ turn. took_by turn ≤ room) }
     ensures lives { IfOk result (λ turn. Lives now (took_by turn) session.old session.new) }
     ensures made { made_in session.new ≡ made_in session.old }
+    ensures keeps { is_some tape.new ≡ is_some tape.old }
 {
     match session.step(alloc, now) {
-        SessionStep::Send => send(alloc, session, link, notes, now),
+        SessionStep::Send => send(alloc, session, link, tape, now),
         SessionStep::Need => {
             if room == 0 {
                 return Ok(Turn::Over(Halt::Ready, After::Pending));
             }
-            receive(alloc, session, link, notes, now, room)
+            receive(alloc, session, link, tape, now, room)
         }
         SessionStep::Done(answer) => Ok(Turn::Over(Halt::Ready, After::Answered(answer))),
         SessionStep::Fault(error) => Ok(Turn::Over(Halt::Ready, After::Failed(fault(error)?))),
@@ -221,22 +226,23 @@ fn met_at(taken: u64, halt: Halt) -> Met
 ///
 /// The result is what the poll returned and what it met. `now`, in milliseconds, is the moment of the payloads that are read. A poll
 /// that takes more turns than can be counted is out of memory.
-pub fn poll_session<L: Link, T: Notes>(
+pub(crate) fn poll_session<L: Link>(
     alloc: Global,
     session: &mut Session,
     link: &mut L,
-    notes: &mut T,
+    tape: &mut Option<Tape>,
     now: u64,
 ) -> Result<(After, Met), NoMemory>
-    ensures polls { IfOk result (λ p. EachPoll T.keeps session.old.seen session.new.seen
-        (L.looks link.old) (L.looks link.new) notes.old notes.new p.1 p.0) }
+    ensures polls { IfOk result (λ p. EachPoll session.old.seen session.new.seen
+        (L.looks link.old) (L.looks link.new) tape.old tape.new p.1 p.0) }
     ensures within { IfOk result (λ p. p.1.taken ≤ MOST_TAKEN) }
     ensures lives { IfOk result (λ p. Lives now p.1.taken session.old session.new) }
     ensures made { made_in session.new ≡ made_in session.old }
+    ensures keeps { is_some tape.new ≡ is_some tape.old }
 {
     let mut taken = 0;
     'turns: for _ in 0..u64::MAX {
-        match take_turn(alloc, session, link, notes, now, MOST_TAKEN - taken)? {
+        match take_turn(alloc, session, link, tape, now, MOST_TAKEN - taken)? {
             Turn::Sent => {}
             Turn::Took(n) => taken = taken + n,
             Turn::Over(halt, after) => return Ok((after, met_at(taken, halt))),

@@ -5,7 +5,6 @@ ghost use Rattle.my_client.specs.Room.{open_count};
 use crate::poll::After;
 use my_frame::NoMemory;
 use my_reading::{Answer, Call, Error};
-use my_value::Row;
 use std::alloc::Global;
 use std::mem;
 
@@ -35,8 +34,6 @@ pub struct OpenCall {
     /// How many bytes were sent, and received, when it began.
     pub sent_from: u64,
     pub taken_from: u64,
-    /// The rows that came so far, where it gathers a set's rows.
-    pub rows: Option<Vec<Row>>,
 }
 
 /// What a connection did. While a call is open there is room for how it ends.
@@ -52,9 +49,9 @@ pub struct Tape {
 }
 
 impl Tape {
-    ghost use Rattle.std.specs.Prelude.{◌≡◌, None, option_map, IfOk, OnErr, OnOk};
+    ghost use Rattle.std.specs.Prelude.{◌≡◌, None, OnErr, OnOk};
     ghost use Rattle.my_client.specs.Conn.{kept_in};
-    ghost use Rattle.my_client.specs.Ends.{RowsBy, EndsBy, KeepsBy, GathersBy};
+    ghost use Rattle.my_client.specs.Ends.{EndsBy, KeepsBy};
     ghost use Rattle.my_client.specs.Kept.{asking, nothing_kept};
 
     /// A tape of nothing.
@@ -69,69 +66,50 @@ impl Tape {
         }
     }
 
-    /// Keeps that this call is open, and the rows that it gathers, where it gathers any. It takes room for how the call
-    /// ends.
-    pub fn ask(&mut self, call: Call, rows: Option<Vec<Row>>) -> Result<(), NoMemory>
-        ensures kept { OnOk result (
-            kept_in self.new ≡ asking (kept_in self.old) call (option_map (λ rows. rows.items) rows)) }
+    /// Keeps that this call is open. It takes room for how the call ends.
+    pub fn ask(&mut self, call: Call) -> Result<(), NoMemory>
+        ensures kept { OnOk result (kept_in self.new ≡ asking (kept_in self.old) call None) }
         ensures same { OnErr result (kept_in self.new ≡ kept_in self.old) }
     {
         if self.calls.reserve(1).is_err() {
             drop(call);
-            drop(rows);
             return Err(NoMemory);
         }
         let open = OpenCall {
             call,
             sent_from: self.sent.len() as u64,
             taken_from: self.taken.len() as u64,
-            rows,
         };
         drop(mem::replace(&mut self.pending, Some(open)));
         Ok(())
     }
 
-    /// Keeps how the open call ended, and returns the rows that it gathered. It takes no memory.
-    pub fn note(&mut self, said: Said) -> Option<Vec<Row>>
-        ensures rows { GathersBy (kept_in self.old) (option_map (λ v. v.items) result) }
+    /// Keeps how the open call ended. It takes no memory.
+    pub fn note(&mut self, said: Said)
         ensures kept { EndsBy (kept_in self.old) (kept_in self.new) said }
-        ensures none { (kept_in self.old).pending ≡ None → result ≡ None }
         ensures still { (kept_in self.old).pending ≡ None → kept_in self.new ≡ kept_in self.old }
     {
         match self.pending.take() {
-            None => {
-                drop(said);
-                None
-            }
-            Some(open) => {
-                self.calls.push_reserved(DoneCall {
-                    call: open.call,
-                    sent_from: open.sent_from,
-                    taken_from: open.taken_from,
-                    said,
-                });
-                open.rows
-            }
+            None => drop(said),
+            Some(open) => self.calls.push_reserved(DoneCall {
+                call: open.call,
+                sent_from: open.sent_from,
+                taken_from: open.taken_from,
+                said,
+            }),
         }
     }
 
-    /// Keeps what a poll of the open call returned, and returns the rows that the call gathered, where it ended.
-    pub fn keep(&mut self, alloc: Global, after: &After) -> Result<Option<Vec<Row>>, NoMemory>
-        ensures rows { IfOk result (λ rows. RowsBy (kept_in self.old) after.now (option_map (λ v. v.items) rows)) }
+    /// Keeps what a poll of the open call returned.
+    pub fn keep(&mut self, alloc: Global, after: &After) -> Result<(), NoMemory>
         ensures kept { OnOk result (KeepsBy (kept_in self.old) (kept_in self.new) after.now) }
-        ensures none { IfOk result (λ rows. (kept_in self.old).pending ≡ None → rows ≡ None) }
         ensures still { (kept_in self.old).pending ≡ None → kept_in self.new ≡ kept_in self.old }
     {
         match after {
-            After::Pending => Ok(None),
-            After::Answered(answer) => {
-                let copy = answer.copy(alloc)?;
-                Ok(self.note(Said::Answered(copy)))
-            }
-            After::Failed(error) => {
-                let copy = error.copy(alloc)?;
-                Ok(self.note(Said::Failed(copy)))
-            }
+            After::Pending => {}
+            After::Answered(answer) => self.note(Said::Answered(answer.copy(alloc)?)),
+            After::Failed(error) => self.note(Said::Failed(error.copy(alloc)?)),
         }
+        Ok(())
     }
 }

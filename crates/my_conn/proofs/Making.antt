@@ -15,14 +15,12 @@ use Rattle.my_opts.specs.Opts.{OptsView}
 use Rattle.my_opts_parts.specs.declared.error.UrlError.{UrlError}
 use Rattle.my_session.specs.Login.{login_of}
 use Rattle.my_client.specs.declared.tape.Tape.{Tape}
-use Rattle.my_client.specs.Conn.{kept_in}
 use Rattle.my_client.specs.Kept.{Kept, first_asked, first_kept}
-use Rattle.my_client.specs.Notes.{Agrees}
 use Rattle.my_client.specs.Reads.{EndedRead}
 use Rattle.my_session.proofs.Keeping.{leads_shorter}
 use Rattle.my_session.specs.Sessions.{Seen}
 use Rattle.my_session.specs.View.{View}
-use Rattle.my_client.specs.Stands.{StandsAsked, StandsAt, StandsOpen}
+use Rattle.my_client.specs.Stands.{StandsAt, StandsOpen}
 use Rattle.my_client.proofs.Resting.{at_unread}
 use Rattle.my_client.specs.Makes.{ConnectsFor, IsMade, IsMaking, MakesFor, MakesTo, StaysMaking}
 use Rattle.my_client.specs.declared.making.MakeStep.{MakeStep}
@@ -31,23 +29,8 @@ use Rattle.my_client.specs.Waits.{IsShaken}
 use Rattle.my_client.specs.declared.texts.Making.{Making}
 use Rattle.my_client.specs.declared.texts.Making.TheVariants.{Shakes, Asks, Drops}
 use Rattle.my_conn.specs.Conn.{Standing}
-use Rattle.my_conn.specs.Connects.{kept_by}
 use Rattle.my_conn.specs.News.{FromUrlIs, Given, IsFirst, IsNew, first_fixed, untaped}
 use Rattle.my_conn.specs.declared.conn.Fixed.{Fixed}
-
-pub begun_connects : (login : Login) (s : Seen) (k : Kept) → StandsAsked login s k first_asked → k ≡ first_kept → ConnectsFor login s None first_kept first_asked
-begun_connects login s k asked kept = record { asked = subst (λ (k : Kept). StandsAsked login s k first_asked) kept asked; agrees = tt; connects = refl }
-
-agrees_by : (keep : Bool) (t : Tape) (k : Kept) → kept_in t ≡ k → Agrees (kept_by keep t) k
-agrees_by true t k e = e
-agrees_by false t k e = tt
-
-pub kept_connects : (login : Login) (s : Seen) (keep : Bool) (t : Tape) → StandsAsked login s (kept_in t) first_asked → kept_in t ≡ first_kept → ConnectsFor login s (kept_by keep t) first_kept first_asked
-kept_connects login s keep t asked kept = record { asked = subst (λ (k : Kept). StandsAsked login s k first_asked) kept asked; agrees = agrees_by keep t first_kept kept; connects = refl }
-
-pub keeps_by : (keep : Bool) (t : Tape) → is_some (kept_by keep t) ≡ keep
-keeps_by true t = refl
-keeps_by false t = refl
 
 -- nothing was received before the first call
 no_length : (xs : List ℕ) → length xs ≤ 0 → xs ≡ []
@@ -70,10 +53,8 @@ module _ (login : Login) (s : Seen) where
   asked_unread (inl o) = open_unread o
   asked_unread (inr c) = absurd (true≢false (first_before true c.before c.ended).1)
 
-pub unread_first : (login : Login) (s : Seen) (k : Kept) → StandsAsked login s k first_asked → k ≡ first_kept → s.stand.unread ≡ []
-unread_first login s k w kept =
-    let at : StandsAsked login s first_kept first_asked = subst (λ (k : Kept). StandsAsked login s k first_asked) kept w in
-    asked_unread login s at.stands.at
+pub unread_first : (login : Login) (s : Seen) (t : Option Tape) → ConnectsFor login s t first_kept first_asked → s.stand.unread ≡ []
+unread_first login s t w = asked_unread login s w.asked.stands.at
 
 -- a making continues, or is done
 pub making_on : (texts : Texts) (now : ℕ) (at to : Making) (x y : Looks) (u v : View) (p q : Option Tape) (met : Met) → StaysMaking texts now at to x y u v p q met → IsMaking at u.seen p → IsMaking to v.seen q

@@ -1,5 +1,5 @@
 -- What clauses see of a connection that is being made, and what a poll of it that fails does.
-use Rattle.std.specs.Prelude.{◌≡◌, ◌⊎◌, Bool, true, false, Option, Some, None, is_some}
+use Rattle.std.specs.Prelude.{◌≡◌, ◌⊎◌, Option, None, is_some}
 use Rattle.my_link.specs.Aid.{Texts}
 use Rattle.my_link.specs.Looks.{Looks}
 use Rattle.my_link.specs.Met.{nothing_met}
@@ -40,8 +40,3 @@ pub record IsLeft {L : Type 0} (look : L → Looks) (texts : Texts) (old : Conne
 
 abbrev pub ConnectFails : {L : Type 0} → (L → Looks) → Texts → ConnectSeen L → Met → Unmade L → Type 0
 ConnectFails look texts old m u = RanOut m u ⊎ IsLeft look texts old m u
-
--- a tape that is kept, or isn't
-abbrev pub kept_by : Bool → Tape → Option Tape
-kept_by true t = Some t
-kept_by false t = None

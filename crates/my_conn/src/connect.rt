@@ -9,7 +9,8 @@ ghost use Rattle.my_reading.specs.declared.error.Error.TheVariants as errors;
 
 use crate::conn::{Conn, Fixed};
 use crate::unmade::Unmade;
-use my_client::{TapedConn, begin_over, shake_hands};
+use my_client::{begin_session, shake_hands};
+use my_frame::NoMemory;
 use my_link::BlockingLink;
 use my_opts::{Opts, UrlFault};
 use my_reading::Error;
@@ -31,17 +32,18 @@ impl<L: BlockingLink> Conn<L> {
         ensures { NewIs L.looks opts (given_by L.looks L.socket link now random) result }
     {
         let fixed = Fixed::first(&opts, now);
-        let begun = match begin_over(alloc, opts, link, now, random) {
+        let (mut session, mut tape) = match begin_session(
+            alloc,
+            opts,
+            link.is_socket(),
+            now,
+            random,
+            false,
+        ) {
             Ok(begun) => begun,
-            Err(link) => return Err(Unmade::untaped(Error::NoMemory, link)),
+            Err(NoMemory) => return Err(Unmade::untaped(Error::NoMemory, link)),
         };
-        let TapedConn {
-            mut session,
-            mut link,
-            tape,
-        } = begun;
-        drop(tape);
-        let mut tape = None;
+        let mut link = link;
         match shake_hands(alloc, &mut session, &mut link, &mut tape, now) {
             Ok(()) => return Ok(Conn::made(alloc, session, link, tape, fixed)),
             Err(error) => {

@@ -8,12 +8,11 @@ ghost use Rattle.my_client.specs.Makes.{ConnectsFor};
 ghost use Rattle.my_client.specs.declared.texts.Making.TheVariants.{Shakes};
 ghost use Rattle.my_conn.specs.Cancels.{MakingCancels};
 ghost use Rattle.my_conn.specs.Connected.{ConnectIs};
-ghost use Rattle.my_conn.specs.Connects.{kept_by};
 ghost use Rattle.my_conn.specs.News.{first_fixed};
 
 use crate::conn::{Conn, Fixed};
 use crate::unmade::Unmade;
-use my_client::{MakeStep, Making, Tape, TapedConn, begin_over, cancel_open, make};
+use my_client::{MakeStep, Making, Tape, begin_session, cancel_open, make};
 use my_frame::NoMemory;
 use my_link::{Aid, Link, Met};
 use my_opts::Opts;
@@ -59,17 +58,6 @@ pub enum Connected<L> {
     Made(Conn<L>),
     /// It failed: what is left of it.
     Failed(Unmade<L>),
-}
-
-// A tape that is kept, or isn't.
-fn kept(tape: Tape, keep: bool) -> Option<Tape>
-    ensures { result ≡ kept_by keep tape }
-{
-    if keep {
-        return Some(tape);
-    }
-    drop(tape);
-    None
 }
 
 impl<L> Connecting<L> {
@@ -141,19 +129,16 @@ impl<L: Link> Connecting<L> {
         ensures back { IfErr result (λ l. l ≡ link) }
     {
         let fixed = Fixed::first(&opts, now);
-        let begun = begin_over(alloc, opts, link, now, random)?;
-        let TapedConn {
-            session,
-            link,
-            tape,
-        } = begun;
-        Ok(Connecting {
-            session,
-            link,
-            tape: kept(tape, keep_tape),
-            at: Making::Shakes,
-            fixed,
-        })
+        match begin_session(alloc, opts, link.is_socket(), now, random, keep_tape) {
+            Ok((session, tape)) => Ok(Connecting {
+                session,
+                link,
+                tape,
+                at: Making::Shakes,
+                fixed,
+            }),
+            Err(NoMemory) => Err(link),
+        }
     }
 
     /// Continues the making of the connection: the handshake, and then each text that the aid tells, with its result

@@ -89,7 +89,7 @@ fn response_to(
     greeting: &Greeting,
 ) -> Result<HandshakeResponse, NoMemory>
     ensures value { IfOk result (λ packet. packet ≡ response_to login.now greeting.now) }
-    ensures short { IfOk result (λ packet. length packet.scramble ≤ 20) }
+    ensures short { IfOk result (λ packet. length packet.scramble ≤ 32) }
 {
     let scramble = native_answer(alloc, &login.password, greeting.nonce.as_slice())?;
     Ok(HandshakeResponse {

@@ -5,7 +5,8 @@ use Rattle.std.specs.Int.Bits.{xor_assoc, xor_self, xor_zero_r}
 use Rattle.std.specs.Cmp.{unsigned_Decides}
 use Rattle.std.proofs.lemmas.Slice.Eq.{bytes_eq-Decides}
 use Rattle.sha1.specs.Sha1.{digest_bytes, sha1}
-use Rattle.my_grammar.specs.Scramble.{native_answer, native_scramble, xor_bytes}
+use Rattle.my_grammar.specs.Scramble.{native_answer}
+use Rattle.my_auth.specs.Scrambles.{native_scramble, xor_bytes}
 use Rattle.my_server.specs.Machine.{knows_password}
 
 length_of_hash : (m : List ℕ) → length (sha1 m) ≡ 20

@@ -10,7 +10,7 @@ use Rattle.my_reply.specs.OkPacket.{fields_at}
 use Rattle.my_handshake.specs.Greeting.{settings_at}
 use Rattle.my_handshake.specs.Version.{dotted_at}
 use Rattle.my_grammar.specs.Response.{response}
-use Rattle.my_grammar.specs.Scramble.{native_scramble}
+use Rattle.my_auth.specs.Scrambles.{native_scramble}
 use Rattle.sha1.specs.Sha1.{first_words, schedule, rounds, compress, hash_after, digest_bytes, sha1}
 use Rattle.my_reading.specs.Course.{step, run}
 use Rattle.my_reading.specs.Endings.{IsOpen, IsCancelled}

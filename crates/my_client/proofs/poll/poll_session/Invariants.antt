@@ -1,4 +1,4 @@
-use Rattle.std.proofs.Common.{◌≡◌, ◌≤◌}
+use Rattle.std.proofs.Common.{◌≡◌, ◌≤◌, is_some}
 use Rattle.my_frame.specs.declared.limits.TheConstants.{MOST_TAKEN}
 use Rattle.my_client.specs.Lives.{Lives, made_in}
 use Rattle.my_client.proofs.Polling.{EachSoFar}
@@ -9,5 +9,6 @@ invariant-turns g l = record {
   within : l.taken ≤ MOST_TAKEN;
   lives : Lives l.fn.now l.taken l.fn.session l.session;
   made : made_in l.session ≡ made_in l.fn.session;
-  so : EachSoFar g.T.Notes.keeps l.fn.session.seen l.session.seen (g.L.Link.looks l.fn.link) (g.L.Link.looks l.link) l.fn.notes l.notes l.taken;
+  keeps : is_some l.tape ≡ is_some l.fn.tape;
+  so : EachSoFar l.fn.session.seen l.session.seen (g.L.Link.looks l.fn.link) (g.L.Link.looks l.link) l.fn.tape l.tape l.taken;
 }

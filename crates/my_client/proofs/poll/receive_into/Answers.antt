@@ -12,24 +12,24 @@ use Rattle.my_client.proofs.poll.receive_into.Goals as goal
 
 pub returns-in_ok-note_taken-in-Got-clause-turn : goal.returns-in_ok-note_taken-in-Got-clause-turn
 returns-in_ok-note_taken-in-Got-clause-turn g c =
-    came g.T.Notes.keeps c.args.session.now.seen c.take.new.self.seen _ _ c.args.notes.now c.note_taken.new.self c.args.room c.in-Got.n c.read.new.buf _ (take-append-le c.in-Got.n c.read.new.buf _ c.in-Got.ensures.looks.1) c.in-Got.ensures.looks.1
+    came c.args.session.now.seen c.take.new.self.seen _ _ c.args.tape.now c.note_taken.new.tape c.args.room c.in-Got.n c.read.new.buf _ (take-append-le c.in-Got.n c.read.new.buf _ c.in-Got.ensures.looks.1) c.in-Got.ensures.looks.1
     c.in_ok-take-in-Got.ensures.ok c.in-Got.ensures.looks.0 c.in-Got.ensures.looks.2 c.in_ok-note_taken-in-Got.ensures.noted
 
 pub returns-in-NotYet-clause-turn : goal.returns-in-NotYet-clause-turn
 returns-in-NotYet-clause-turn g c =
-    over_so g.T.Notes.keeps (Stopped Awaits) c.args.session.now.seen c.args.session.now.seen _ _ c.args.notes.now c.args.room halts.ReadHeld Pending c.in-NotYet.ensures.looks
+    over_so (Stopped Awaits) c.args.session.now.seen c.args.session.now.seen _ _ c.args.tape.now c.args.room halts.ReadHeld Pending c.in-NotYet.ensures.looks
     (λ login k a w. held_read login c.args.session.now.seen c.args.session.now.seen k a c.args.room w)
 
 pub returns-in_ok-error-in-End-clause-turn : goal.returns-in_ok-error-in-End-clause-turn
 returns-in_ok-error-in-End-clause-turn g c =
     let e = c.in_ok-error-in-End.error in
-    over_so g.T.Notes.keeps (Stopped Awaits) c.args.session.now.seen c.fail_now.new.session.seen _ _ c.args.notes.now c.args.room halts.Ended (Failed e) c.in-End.ensures.looks
+    over_so (Stopped Awaits) c.args.session.now.seen c.fail_now.new.session.seen _ _ c.args.tape.now c.args.room halts.Ended (Failed e) c.in-End.ensures.looks
     (λ login k a w. ended_so login c.args.session.now.seen c.fail_now.new.session.seen k a c.args.room e w (subst (λ (u : Seen). FailsNow u c.fail_now.new.session.seen e) c.end.ensures.seen c.in_ok-error-in-End.ensures.fails))
 
 pub returns-in_ok-error-in-Failed-clause-turn : goal.returns-in_ok-error-in-Failed-clause-turn
 returns-in_ok-error-in-Failed-clause-turn g c =
     let e = c.in_ok-error-in-Failed.error in
-    over_so g.T.Notes.keeps (Stopped Awaits) c.args.session.now.seen c.fail_now-in-Failed.new.session.seen _ _ c.args.notes.now c.args.room halts.ReadFailed (Failed e) c.in-Failed.ensures.looks
+    over_so (Stopped Awaits) c.args.session.now.seen c.fail_now-in-Failed.new.session.seen _ _ c.args.tape.now c.args.room halts.ReadFailed (Failed e) c.in-Failed.ensures.looks
     (λ login k a w. broke_read login c.args.session.now.seen c.fail_now-in-Failed.new.session.seen k a c.args.room e w (subst (λ (u : Seen). FailsNow u c.fail_now-in-Failed.new.session.seen e) c.fail.ensures.seen c.in_ok-error-in-Failed.ensures.fails))
 
 pub returns-in_ok-note_taken-in-Got-clause-lives : goal.returns-in_ok-note_taken-in-Got-clause-lives

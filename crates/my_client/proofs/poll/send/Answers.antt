@@ -11,17 +11,17 @@ use Rattle.my_client.proofs.poll.send.Goals as goal
 
 pub returns-in_ok-note_sent-in-Took-clause-turn : goal.returns-in_ok-note_sent-in-Took-clause-turn
 returns-in_ok-note_sent-in-Took-clause-turn g c = λ room.
-    went g.T.Notes.keeps c.args.session.now.seen c.sent.new.self.seen _ _ c.args.notes.now c.note_sent.new.self room c.in-Took.n _ (search rules) c.sent.ensures.seen (search rules) (search rules) (search rules) c.in_ok-note_sent-in-Took.ensures.noted
+    went c.args.session.now.seen c.sent.new.self.seen _ _ c.args.tape.now c.note_sent.new.tape room c.in-Took.n _ (search rules) c.sent.ensures.seen (search rules) (search rules) (search rules) c.in_ok-note_sent-in-Took.ensures.noted
 
 pub returns-in-NotYet-clause-turn : goal.returns-in-NotYet-clause-turn
 returns-in-NotYet-clause-turn g c = λ room.
-    over_so g.T.Notes.keeps (Stopped Owes) c.args.session.now.seen c.args.session.now.seen _ _ c.args.notes.now room halts.WriteHeld Pending c.in-NotYet.ensures.looks
+    over_so (Stopped Owes) c.args.session.now.seen c.args.session.now.seen _ _ c.args.tape.now room halts.WriteHeld Pending c.in-NotYet.ensures.looks
     (λ login k a w. held_write login c.args.session.now.seen c.args.session.now.seen k a room w)
 
 pub returns-in_ok-error-in-Failed-clause-turn : goal.returns-in_ok-error-in-Failed-clause-turn
 returns-in_ok-error-in-Failed-clause-turn g c = λ room.
     let e = c.in_ok-error-in-Failed.error in
-    over_so g.T.Notes.keeps (Stopped Owes) c.args.session.now.seen c.fail_now.new.session.seen _ _ c.args.notes.now room halts.WriteFailed (Failed e) c.in-Failed.ensures.looks
+    over_so (Stopped Owes) c.args.session.now.seen c.fail_now.new.session.seen _ _ c.args.tape.now room halts.WriteFailed (Failed e) c.in-Failed.ensures.looks
     (λ login k a w. broke_write login c.args.session.now.seen c.fail_now.new.session.seen k a room e w (subst (λ (u : Seen). FailsNow u c.fail_now.new.session.seen e) c.fail.ensures.seen c.in_ok-error-in-Failed.ensures.fails))
 
 pub returns-in_ok-note_sent-in-Took-clause-lives : goal.returns-in_ok-note_sent-in-Took-clause-lives

@@ -15,30 +15,30 @@ use Rattle.my_client.proofs.poll.take_turn.Goals as goal
 
 pub returns-then-room-eq0-clause-turn : goal.returns-then-room-eq0-clause-turn
 returns-then-room-eq0-clause-turn g c =
-    over_so g.T.Notes.keeps StandsAsked c.args.session.now.seen c.step.new.self.seen _ _ c.args.notes.now c.args.room halts.Ready Pending refl
+    over_so StandsAsked c.args.session.now.seen c.step.new.self.seen _ _ c.args.tape.now c.args.room halts.Ready Pending refl
     (λ login k a w. full_so login c.step.new.self.seen c.step.new.self.seen k a c.args.room c.if-room-eq0.true (step_leaves login c.args.session.now.seen c.step.new.self.seen k a steps.Need w c.in-Need.ensures.reads))
 
 pub returns-in-Send-clause-turn : goal.returns-in-Send-clause-turn
 returns-in-Send-clause-turn g c = IfOk-weaker c.send.result _ _
-    (λ turn f. behind g.T.Notes.keeps (Stopped Owes) c.args.session.now.seen c.step.new.self.seen c.send.new.session.seen _ _ _ _ c.args.room turn
+    (λ turn f. behind (Stopped Owes) c.args.session.now.seen c.step.new.self.seen c.send.new.session.seen _ _ _ _ c.args.room turn
     (λ login k a w. step_leaves login c.args.session.now.seen c.step.new.self.seen k a steps.Send w c.in-Send.ensures.reads) (f c.args.room))
     c.send.ensures.turn
 
 pub returns-else-room-eq0-clause-turn : goal.returns-else-room-eq0-clause-turn
 returns-else-room-eq0-clause-turn g c = IfOk-weaker c.receive.result _ _
-    (λ turn f. behind g.T.Notes.keeps (Stopped Awaits) c.args.session.now.seen c.step.new.self.seen c.receive.new.session.seen _ _ _ _ c.args.room turn
+    (λ turn f. behind (Stopped Awaits) c.args.session.now.seen c.step.new.self.seen c.receive.new.session.seen _ _ _ _ c.args.room turn
     (λ login k a w. step_leaves login c.args.session.now.seen c.step.new.self.seen k a steps.Need w c.in-Need.ensures.reads) f)
     c.receive.ensures.turn
 
 pub returns-in-Done-clause-turn : goal.returns-in-Done-clause-turn
 returns-in-Done-clause-turn g c =
-    over_so g.T.Notes.keeps StandsAsked c.args.session.now.seen c.step.new.self.seen _ _ c.args.notes.now c.args.room halts.Ready (Answered c.in-Done.answer) refl
+    over_so StandsAsked c.args.session.now.seen c.step.new.self.seen _ _ c.args.tape.now c.args.room halts.Ready (Answered c.in-Done.answer) refl
     (λ login k a w. answered_so login c.args.session.now.seen c.step.new.self.seen k a c.args.room c.in-Done.answer (step_leaves login c.args.session.now.seen c.step.new.self.seen k a (steps.Done c.in-Done.answer) w c.in-Done.ensures.reads))
 
 pub returns-in_ok-fault-in-Fault-clause-turn : goal.returns-in_ok-fault-in-Fault-clause-turn
 returns-in_ok-fault-in-Fault-clause-turn g c =
     let e = c.in_ok-fault-in-Fault.field-0 in
-    over_so g.T.Notes.keeps StandsAsked c.args.session.now.seen c.step.new.self.seen _ _ c.args.notes.now c.args.room halts.Ready (Failed e) refl
+    over_so StandsAsked c.args.session.now.seen c.step.new.self.seen _ _ c.args.tape.now c.args.room halts.Ready (Failed e) refl
     (λ login k a w. failed_so login c.args.session.now.seen c.step.new.self.seen k a c.args.room e
     (step_leaves login c.args.session.now.seen c.step.new.self.seen k a (steps.Fault e) w
     (λ o x. subst (λ (y : Error). IsStep o c.args.session.now.seen c.step.new.self.seen (steps.Fault y)) (sym c.in_ok-fault-in-Fault.ensures.value) (c.in-Fault.ensures.reads o x))
