@@ -12,8 +12,8 @@ use my_frame::Blob;
 use my_link::BlockingLink;
 use my_opts_parts::TxOpts;
 use my_params::Params;
-use my_query::{Calls, Queryable};
 use my_reading::Error;
+use my_rows::Calls;
 use my_statements::Statement;
 use std::alloc::Global;
 use std::marker::Model;
@@ -221,5 +221,3 @@ impl<L: BlockingLink> Calls for Client<L> {
         self.conn.send_rollback(alloc)
     }
 }
-
-impl<L: BlockingLink> Queryable for Client<L> {}

@@ -15,10 +15,10 @@ pub use my_link::{BlockingLink, World};
 pub use my_opts::Opts;
 pub use my_opts_parts::TxOpts;
 pub use my_params::Params;
-pub use my_query::{
-    AsQuery, Calls, Lent, QueryError, Queryable, StatementLike, bytes, named, positional, text,
-};
 pub use my_reading::Error;
+pub use my_rows::{
+    AsQuery, Calls, Lent, QueryError, StatementLike, bytes, named, positional, text,
+};
 pub use my_statements::Statement;
 pub use my_value::{FromRow, Row, Value};
 pub use transaction::Transaction;

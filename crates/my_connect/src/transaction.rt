@@ -17,8 +17,8 @@ use my_frame::Blob;
 use my_link::BlockingLink;
 use my_opts_parts::TxOpts;
 use my_params::Params;
-use my_query::{Calls, Queryable};
 use my_reading::Error;
+use my_rows::Calls;
 use my_statements::Statement;
 use std::alloc::Global;
 
@@ -160,5 +160,3 @@ impl<'a, L: BlockingLink> Calls for Transaction<'a, L> {
         self.client.send_rollback(alloc)
     }
 }
-
-impl<'a, L: BlockingLink> Queryable for Transaction<'a, L> {}

@@ -2,7 +2,7 @@
 
 use crate::rounds::{meetings, rounds};
 use crate::times::Times;
-use my_sets::{BlockingLink, QueryError, World, connect};
+use my_query::{BlockingLink, QueryError, World, connect};
 use std::alloc::Global;
 use std::rt::{Clock, Files};
 

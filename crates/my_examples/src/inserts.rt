@@ -1,6 +1,6 @@
 //! A statement that is prepared once: executed in a loop, and in a batch.
 
-use my_sets::{
+use my_query::{
     BlockingLink, Client, Params, QueryError, Queryable, Statement, Value, positional, text,
 };
 use std::alloc::Global;

@@ -11,7 +11,7 @@ mod streamed;
 mod times;
 mod transfer;
 
-use my_sets::{BlockingLink, Client, QueryError, TcpWorld, World, connect};
+use my_query::{BlockingLink, Client, QueryError, TcpWorld, World, connect};
 use std::alloc::{AllocError, Global};
 use std::io::Eprint;
 use std::process::ExitCode;

@@ -1,6 +1,6 @@
 //! A password that is wrong, answered in one line.
 
-use my_sets::{BlockingLink, Error, QueryError, World, connect};
+use my_query::{BlockingLink, Error, QueryError, World, connect};
 use std::alloc::Global;
 
 /// Whether the server lets the user of this URL in.

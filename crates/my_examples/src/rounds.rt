@@ -1,8 +1,8 @@
 //! Rounds of one call each, and what they give.
 
-use my_sets::{
-    BlockingLink, Client, Error, Lent, Params, QueryError, Queryable, Row, SetStream, Statement,
-    Streams, TextProtocol, Value, World, connect,
+use my_query::{
+    BlockingLink, Client, Error, Lent, Params, QueryError, Queryable, ResultSetStream, Row,
+    Statement, TextProtocol, Value, World, connect,
 };
 use std::alloc::Global;
 
@@ -88,7 +88,7 @@ fn kept<L: BlockingLink>(alloc: Global, client: &mut Client<L>) -> Result<u64, Q
 // The bytes of the rows of a stream, none of which is kept.
 fn add_up<L: BlockingLink>(
     alloc: Global,
-    rows: &mut SetStream<Lent<'_, Client<L>>, Row, TextProtocol>,
+    rows: &mut ResultSetStream<Lent<'_, Client<L>>, Row, TextProtocol>,
 ) -> Result<u64, QueryError> {
     let mut sum = 0u64;
     for _ in 0..u64::MAX {

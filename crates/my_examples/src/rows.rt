@@ -1,6 +1,6 @@
 //! Rows that become tuples.
 
-use my_sets::{BlockingLink, Client, QueryError, Queryable};
+use my_query::{BlockingLink, Client, QueryError, Queryable};
 use std::alloc::Global;
 
 /// The people, by their ids.

@@ -1,6 +1,6 @@
 //! A large set, of which one row at a time is in memory.
 
-use my_sets::{BlockingLink, Client, Error, QueryError, Results};
+use my_query::{BlockingLink, Client, Error, QueryError, Queryable};
 use std::alloc::Global;
 
 /// How many numbers there are, and their sum.

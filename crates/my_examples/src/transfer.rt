@@ -1,6 +1,6 @@
 //! A transaction that is rolled back on an error.
 
-use my_sets::{BlockingLink, Client, QueryError, Queryable, TxOpts};
+use my_query::{BlockingLink, Client, QueryError, Queryable, TxOpts};
 use std::alloc::Global;
 
 const ACCOUNTS: &str = "CREATE TEMPORARY TABLE account (id INT, cents INT UNSIGNED); \

@@ -1,7 +1,7 @@
 //! Prints the customers of a shop.
 #![tactic(auto)]
 
-use my_sets::{BlockingLink, QueryError, Queryable, TcpWorld, World, connect};
+use my_query::{BlockingLink, QueryError, Queryable, TcpWorld, World, connect};
 use std::alloc::Global;
 use std::io::{self, Eprint};
 

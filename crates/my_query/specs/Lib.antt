@@ -1,6 +1,4 @@
-pub mod Fatal
-pub mod Begins
-pub mod Reads
-pub mod Gathers
-pub mod Answers
-pub mod Calls
+pub mod Taken
+pub mod Streams
+pub mod Starts
+pub mod Tried

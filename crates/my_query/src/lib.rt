@@ -1,27 +1,21 @@
-//! Rows in one call: queries and statements whose rows are collected, folded or mapped, at a connection or at one that
-//! is lent.
+//! The calls of what holds a connection: rows in one call, results, streams, and queries that are made of a text or a
+//! statement and its parameters. It hands on what a program needs beside them.
 #![tactic(auto)]
 
-mod as_query;
-mod begins;
-mod calls;
-mod error;
-mod gather;
-mod given;
-mod lent;
+mod first;
+pub mod laws;
+mod queries;
 mod queryable;
-mod read;
-mod rest;
-mod statement_like;
+mod starts;
 
-pub use as_query::AsQuery;
-pub use begins::{execute, send_text};
-pub use calls::Calls;
-pub use error::QueryError;
-pub use gather::{Collected, Folded, Gather, Mapped};
-pub use given::{bytes, named, positional, text};
-pub use lent::Lent;
+pub use first::take_first;
+pub use my_results::{
+    AsQuery, BinaryProtocol, Blob, BlockingLink, Calls, Client, Column, Conn, Each, Error, FromRow,
+    FromRowError, Lent, Listed, NextAnswer, NoMemory, OkPacket, Opts, Params, QueryError,
+    QueryResult, ResultSetStream, Row, SetColumns, SetStream, Statement, StatementLike, TakenSet,
+    TcpWorld, TextProtocol, Transaction, Tried, TxOpts, Value, World, bytes, connect, connect_with,
+    named, positional, text,
+};
+pub use queries::{BatchQuery, Query};
 pub use queryable::Queryable;
-pub use read::{next_item, read_set};
-pub use rest::{collect_answer, drop_after, drop_answer, first_of_answer, fold_answer, map_answer};
-pub use statement_like::{StatementLike, ToStatementResult};
+pub use starts::{QueryWithParams, Starts, WithParams};

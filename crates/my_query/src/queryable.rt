@@ -1,32 +1,35 @@
 //! Rows in one call.
-ghost use Rattle.std.specs.Prelude.{◌≡◌, None};
+ghost use Rattle.std.specs.Prelude.{◌≡◌, None, IfOk};
 ghost use Rattle.my_reading.specs.declared.call.Call.TheVariants as calls;
 ghost use Rattle.my_reading.specs.declared.call.CallKind.TheVariants as kinds;
 
-use crate::as_query::AsQuery;
-use crate::begins::{execute, execute_each, prepare_text, send_text};
-use crate::calls::Calls;
-use crate::error::QueryError;
-use crate::rest::{collect_answer, drop_answer, first_of_answer, fold_answer, map_answer};
-use crate::statement_like::StatementLike;
-use my_conn::Conn;
-use my_link::BlockingLink;
+use crate::queries::Query;
+use crate::starts::QueryWithParams;
 use my_params::Params;
 use my_reading::Error;
+use my_results::{BinaryProtocol, QueryResult, ResultSetStream, TextProtocol};
+use my_rows::{
+    AsQuery, Calls, Lent, QueryError, StatementLike, collect_answer, drop_answer, execute,
+    execute_each, first_of_answer, fold_answer, map_answer, prepare_text, send_text,
+};
 use my_statements::Statement;
 use my_value::FromRow;
 use std::alloc::Global;
+use std::marker::PhantomData;
 
-/// Rows in one call, at what holds a connection. Each call begins an answer, reads what it needs of the first set,
-/// and drops the rest. The first of these that fails is the last, and its error is returned. None may be made while a
-/// call that was polled is open, and none is open afterwards.
+/// The calls of what holds a connection. Most begin an answer, read what they need of the first set, and drop the rest:
+/// the first of these that fails is the last, and its error is returned. A call that gives a result or a stream lends
+/// it the holder. None may be made while a call that was polled is open, and none is open afterwards.
 pub trait Queryable: Calls {
-    ghost use Rattle.my_query.specs.Answers.{AnswerIs, NothingIs};
-    ghost use Rattle.my_query.specs.Calls.{CollectsFirst, FoldsFirst, MapsFirst};
-    ghost use Rattle.my_query.specs.Reads.{ItemIs};
-    ghost use Rattle.my_query.specs.Begins.{BatchIs, ExecuteIs, QueryIs, StatementIs};
-    ghost use Rattle.my_query.specs.declared.statement_like.ToStatementResult.TheVariants as likes;
+    ghost use Rattle.my_rows.specs.Answers.{AnswerIs, NothingIs};
+    ghost use Rattle.my_rows.specs.Calls.{CollectsFirst, FoldsFirst, MapsFirst};
+    ghost use Rattle.my_rows.specs.Reads.{ItemIs};
+    ghost use Rattle.my_rows.specs.Begins.{BatchIs, ExecuteIs, QueryIs, StatementIs};
+    ghost use Rattle.my_rows.specs.declared.statement_like.ToStatementResult.TheVariants as likes;
     ghost use Rattle.my_conn.specs.Drives.{DoneIs};
+    ghost use Rattle.my_results.specs.Results.{BegunIs};
+    ghost use Rattle.my_query.specs.Streams.{BegunStreamIs};
+    ghost use Rattle.my_query.specs.Taken.{TakesFirst};
 
     /// Sends a query, and returns what the rows of the first set became, in order. The rest of the answer is dropped.
     ///
@@ -269,6 +272,92 @@ pub trait Queryable: Calls {
     {
         execute_each::<S, Self>(self, alloc, stmt, lists)
     }
+
+    /// Sends a query, and returns its result: its rows are still to be read.
+    fn query_iter<Q: AsQuery>(
+        &mut self,
+        alloc: Global,
+        query: &Q,
+    ) -> Result<QueryResult<Lent<'_, Self>, TextProtocol>, Error>
+        requires { (Self.conn_of self.old).pending ≡ None }
+        ensures idle { IfOk result (λ r. (Self.conn_of r.holder.holder.now).pending ≡ None) }
+        ensures loans { IfOk result (λ r. Self.loans_of r.holder.holder.now ≡ Self.loans_of self.old) }
+        ensures name { IfOk result (λ r. r.holder.holder.ghost_name ≡ self.entry.ghost_name) }
+        ensures begun { BegunIs (λ c. Self.conn_of c)
+            (QueryIs Self.L.looks (Q.text_of query.now) (Self.conn_of self.old)) result }
+    {
+        match send_text::<Q, Self>(self, alloc, query) {
+            Ok(()) => Ok(QueryResult {
+                holder: Lent { holder: self },
+                protocol: PhantomData,
+            }),
+            Err(error) => Err(error),
+        }
+    }
+
+    /// Executes the statement that is named with these parameters, and returns its result: its rows are still to be
+    /// read.
+    fn exec_iter<S: StatementLike>(
+        &mut self,
+        alloc: Global,
+        stmt: &S,
+        params: Params,
+    ) -> Result<QueryResult<Lent<'_, Self>, BinaryProtocol>, Error>
+        requires { (Self.conn_of self.old).pending ≡ None }
+        ensures idle { IfOk result (λ r. (Self.conn_of r.holder.holder.now).pending ≡ None) }
+        ensures loans { IfOk result (λ r. Self.loans_of r.holder.holder.now ≡ Self.loans_of self.old) }
+        ensures name { IfOk result (λ r. r.holder.holder.ghost_name ≡ self.entry.ghost_name) }
+        ensures begun { BegunIs (λ c. Self.conn_of c)
+            (ExecuteIs Self.L.looks (S.like_of stmt.now) params (Self.conn_of self.old)) result }
+    {
+        match execute::<S, Self>(self, alloc, stmt, params) {
+            Ok(()) => Ok(QueryResult {
+                holder: Lent { holder: self },
+                protocol: PhantomData,
+            }),
+            Err(error) => Err(error),
+        }
+    }
+
+    /// Sends a query, and returns the rows of the first set of its answer as a stream.
+    fn query_stream<T: FromRow, Q: AsQuery>(
+        &mut self,
+        alloc: Global,
+        query: &Q,
+    ) -> Result<ResultSetStream<Lent<'_, Self>, T, TextProtocol>, Error>
+        requires { (Self.conn_of self.old).pending ≡ None }
+        ensures idle { IfOk result (λ s. (Self.conn_of s.result.holder.holder.now).pending ≡ None) }
+        ensures loans { IfOk result (λ s. Self.loans_of s.result.holder.holder.now ≡ Self.loans_of self.old) }
+        ensures name { IfOk result (λ s. s.result.holder.holder.ghost_name ≡ self.entry.ghost_name) }
+        ensures begun { BegunStreamIs (λ c. Self.conn_of c)
+            (TakesFirst Self.L.looks (QueryIs Self.L.looks (Q.text_of query.now)) (Self.conn_of self.old)) result }
+    {
+        query.stream::<T, Self>(alloc, self)
+    }
+
+    /// Executes the statement that is named with these parameters, and returns the rows of the first set of its
+    /// answer as a stream.
+    fn exec_stream<T: FromRow, S: StatementLike>(
+        &mut self,
+        alloc: Global,
+        stmt: &S,
+        params: Params,
+    ) -> Result<ResultSetStream<Lent<'_, Self>, T, BinaryProtocol>, Error>
+        requires { (Self.conn_of self.old).pending ≡ None }
+        ensures idle { IfOk result (λ s. (Self.conn_of s.result.holder.holder.now).pending ≡ None) }
+        ensures loans { IfOk result (λ s. Self.loans_of s.result.holder.holder.now ≡ Self.loans_of self.old) }
+        ensures name { IfOk result (λ s. s.result.holder.holder.ghost_name ≡ self.entry.ghost_name) }
+        ensures begun { BegunStreamIs (λ c. Self.conn_of c)
+            (TakesFirst Self.L.looks (ExecuteIs Self.L.looks (S.like_of stmt.now) params) (Self.conn_of self.old))
+            result }
+    {
+        let started = QueryWithParams {
+            query: stmt,
+            params,
+        };
+        started.stream::<T, Self>(alloc, self)
+    }
 }
 
-impl<L: BlockingLink> Queryable for Conn<L> {}
+/// Whatever holds a connection has these calls.
+impl<C: Calls> Queryable for C {}

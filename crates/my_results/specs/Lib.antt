@@ -1,4 +1,6 @@
 pub mod Gathers
 pub mod Sets
 pub mod Results
+pub mod Unread
+pub mod Taken
 pub mod Streams

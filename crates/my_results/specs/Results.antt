@@ -3,7 +3,7 @@ use Rattle.std.specs.declared.result.Result.{Result}
 use Rattle.std.specs.declared.result.Result.TheVariants.{Ok, Err}
 use Rattle.my_reading.specs.declared.error.Error.{Error}
 use Rattle.my_conn.specs.Conn.{ConnSeen}
-use Rattle.my_query.specs.declared.lent.Lent.{Lent}
+use Rattle.my_rows.specs.declared.lent.Lent.{Lent}
 use Rattle.my_results.specs.declared.result.QueryResult.{QueryResult}
 
 -- A call began the answer so, and the holder is lent as it left it; or it failed with this error.

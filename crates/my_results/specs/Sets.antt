@@ -9,11 +9,11 @@ use Rattle.my_reading.specs.declared.error.Error.{Error}
 use Rattle.my_conn.specs.Conn.{ConnSeen}
 use Rattle.my_conn.specs.Drives.{NextIs}
 use Rattle.my_conn.specs.declared.drive.NextAnswer.TheVariants.{Row}
-use Rattle.my_query.specs.Answers.{ReadIs}
-use Rattle.my_query.specs.Calls.{CollectedBy, FoldedBy, IsListIn, MappedBy, part_in}
-use Rattle.my_query.specs.Gathers.{Collects, Folds, Maps, SetIs}
-use Rattle.my_query.specs.Reads.{ReadsEnd}
-use Rattle.my_query.specs.declared.error.QueryError.{QueryError}
+use Rattle.my_rows.specs.Answers.{ReadIs}
+use Rattle.my_rows.specs.Calls.{CollectedBy, FoldedBy, IsListIn, MappedBy, part_in}
+use Rattle.my_rows.specs.Gathers.{Collects, Folds, Maps, SetIs}
+use Rattle.my_rows.specs.Reads.{ReadsEnd}
+use Rattle.my_rows.specs.declared.error.QueryError.{QueryError}
 use Rattle.my_results.specs.Gathers.{Runs, Tries}
 use Rattle.my_results.specs.declared.gather.Each.{Each}
 use Rattle.my_results.specs.declared.gather.Tried.{Tried}

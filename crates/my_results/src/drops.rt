@@ -7,8 +7,8 @@ ghost use Rattle.my_results.specs.Sets.{CollectsSet, DropsAfter, FoldsSet, MapsS
 
 use crate::result::QueryResult;
 use crate::sets::{collect_set, fold_set, map_set, run_set, try_set};
-use my_query::{Calls, Lent, QueryError, drop_after};
 use my_reading::Error;
+use my_rows::{Calls, Lent, QueryError, drop_after};
 use my_value::{FromRow, FromRowError, Row};
 use std::alloc::Global;
 

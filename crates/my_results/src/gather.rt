@@ -2,7 +2,7 @@
 ghost use Rattle.std.specs.Prelude.{◌≡◌, IfOk};
 ghost use Rattle.my_results.specs.Gathers.{Runs, TriedIs, Tries};
 
-use my_query::Gather;
+use my_rows::Gather;
 use my_value::{FromRow, FromRowError, Row};
 use std::alloc::{AllocError, Global};
 

@@ -4,19 +4,24 @@
 
 mod drops;
 mod gather;
-mod iterates;
+mod owned;
 mod result;
 mod sets;
 mod stream;
+mod taken;
+mod unread;
 
 pub use gather::{Each, Tried};
-pub use iterates::Results;
 pub use my_connect::{
     AsQuery, Blob, BlockingLink, Calls, Client, Conn, Error, FromRow, Lent, Listed, NextAnswer,
-    NoMemory, Opts, Params, QueryError, Queryable, Row, Statement, StatementLike, Transaction,
-    TxOpts, Value, World, bytes, connect, connect_with, named, positional, text,
+    NoMemory, Opts, Params, QueryError, Row, Statement, StatementLike, Transaction, TxOpts, Value,
+    World, bytes, connect, connect_with, named, positional, text,
 };
 pub use my_net::TcpWorld;
+pub use my_reading::SetColumns;
+pub use my_reply::{Column, OkPacket};
 pub use my_value::FromRowError;
+pub use owned::ResultSetStream;
 pub use result::{BinaryProtocol, QueryResult, TextProtocol};
-pub use stream::{ResultSetStream, collect_left, next_left};
+pub use stream::{SetStream, collect_left, next_left};
+pub use taken::{TakenSet, take_next};

@@ -4,8 +4,8 @@ ghost use Rattle.my_conn.specs.Facts.{affected_by, info_by, insert_by, warnings_
 ghost use Rattle.my_results.specs.Sets.{RowIs};
 
 use my_conn::NextAnswer;
-use my_query::{Calls, Lent};
 use my_reading::Error;
+use my_rows::{Calls, Lent};
 use my_value::Row;
 use std::alloc::Global;
 use std::marker::PhantomData;

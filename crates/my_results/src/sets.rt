@@ -4,7 +4,7 @@ ghost use Rattle.my_results.specs.Sets.{CollectsSet, FoldsSet, MapsSet, RunsSet,
 
 use crate::gather::{Each, Tried};
 use crate::result::QueryResult;
-use my_query::{Calls, Collected, Folded, Mapped, QueryError, read_set};
+use my_rows::{Calls, Collected, Folded, Mapped, QueryError, read_set};
 use my_value::{FromRow, FromRowError, Row};
 use std::alloc::Global;
 

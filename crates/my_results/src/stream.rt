@@ -5,8 +5,8 @@ ghost use Rattle.my_conn.specs.Streams.{StreamWaits};
 
 use crate::result::QueryResult;
 use crate::sets::collect_set;
-use my_query::{Calls, QueryError, next_item};
 use my_reading::Error;
+use my_rows::{Calls, QueryError, next_item};
 use my_value::FromRow;
 use std::alloc::Global;
 use std::marker::PhantomData;
@@ -14,7 +14,7 @@ use std::marker::PhantomData;
 /// The rows of one set of a result that is lent: the set is the stream's own, and ends where it ends. A stream that is
 /// let go before leaves the rest of its set, which the next stream passes over.
 #[derive(Drop)]
-pub struct ResultSetStream<'r, C, T, P> {
+pub struct SetStream<'r, C, T, P> {
     pub over: &'r mut QueryResult<C, P>,
     /// The end was read, or a read failed: nothing more is read. A row that doesn't convert doesn't end it.
     pub ended: bool,
@@ -27,13 +27,13 @@ impl<C: Calls, P> QueryResult<C, P> {
     pub fn stream<T: FromRow>(
         &mut self,
         alloc: Global,
-    ) -> Result<Option<ResultSetStream<'_, C, T, P>>, Error>
+    ) -> Result<Option<SetStream<'_, C, T, P>>, Error>
         requires { (C.conn_of self.old.holder).pending ≡ None }
         ensures stream { StreamIs (λ q. C.conn_of q.holder) self.entry.ghost_name
             (λ new r. StreamWaits C.L.looks (C.conn_of self.old.holder) new r) result }
     {
         match self.holder.take_set(alloc) {
-            Ok(true) => Ok(Some(ResultSetStream {
+            Ok(true) => Ok(Some(SetStream {
                 over: self,
                 ended: false,
                 item: PhantomData,
@@ -115,7 +115,7 @@ pub fn collect_left<T: FromRow + Drop, C: Calls>(
     items
 }
 
-impl<'r, C: Calls, T: FromRow, P> ResultSetStream<'r, C, T, P> {
+impl<'r, C: Calls, T: FromRow, P> SetStream<'r, C, T, P> {
     /// What the next row becomes, as in `next_left`.
     pub fn next(&mut self, alloc: Global) -> Result<Option<T>, QueryError>
         requires { (C.conn_of self.old.over.now.holder).pending ≡ None }
@@ -136,7 +136,7 @@ impl<'r, C: Calls, T: FromRow, P> ResultSetStream<'r, C, T, P> {
     }
 }
 
-impl<'r, C: Calls, T: FromRow + Drop, P> ResultSetStream<'r, C, T, P> {
+impl<'r, C: Calls, T: FromRow + Drop, P> SetStream<'r, C, T, P> {
     /// What the rows that are left of the set become, as in `collect_left`.
     pub fn collect(&mut self, alloc: Global) -> Result<Vec<T>, QueryError>
         requires { (C.conn_of self.old.over.now.holder).pending ≡ None }

@@ -1,7 +1,7 @@
 //! What a row says.
 
 use crate::link::{Near, client_of};
-use my_connect::{Calls, NextAnswer, Queryable};
+use my_connect::{Calls, NextAnswer};
 use near_talks::failed;
 use std::alloc::{AllocError, Global};
 
@@ -56,7 +56,7 @@ fn reads_so<R: Reads>(alloc: Global, client: &mut Near, row: &Row<'_>) -> bool {
         Err(_) => false,
     };
     let rest = left(alloc, client) == row.more;
-    client.ping(alloc).is_ok() && right && rest
+    client.send_ping(alloc).is_ok() && right && rest
 }
 
 fn is_right<R: Reads>(alloc: Global, line: &str) -> bool {

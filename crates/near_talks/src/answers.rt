@@ -2,8 +2,8 @@
 
 use my_conn::NextAnswer;
 use my_opts::UrlError;
-use my_query::QueryError;
 use my_reading::{Answer, DriverError, Error, IoError, IoKind};
+use my_rows::QueryError;
 use my_statements::Statement;
 use std::alloc::{AllocError, Global};
 use std::fmt::Debug;

@@ -4,7 +4,7 @@ use crate::words::blob_of;
 use my_opts::ChangeUserOpts;
 use my_opts_parts::{IsolationLevel, TxOpts};
 use my_params::Params;
-use my_query::{named, positional};
+use my_rows::{named, positional};
 use my_statements::Statement;
 use my_value::Value;
 use std::alloc::{AllocError, Global};

@@ -5,7 +5,7 @@ ghost use Rattle.std.specs.Prelude.{◌≡◌, None};
 use crate::answers::word_of;
 use crate::given::{begin_of, copy_of, lists_of, params_of};
 use crate::words::blob_of;
-use my_query::Calls;
+use my_rows::Calls;
 use my_statements::Statement;
 use std::alloc::Global;
 

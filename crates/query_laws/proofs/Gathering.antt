@@ -16,15 +16,15 @@ use Rattle.my_reading.specs.declared.error.Error.{Error}
 use Rattle.my_client.specs.Reads.{place_kept}
 use Rattle.my_conn.specs.Conn.{ConnSeen}
 use Rattle.my_conn.specs.Drives.{DoneIs, NextIs}
-use Rattle.my_query.specs.Answers.{AnswerIs, ReadIs, RestIs, value_after}
-use Rattle.my_query.specs.Begins.{CalledIs, ExecuteIs, NamedIs, QueryIs, StatementIs}
-use Rattle.my_query.specs.Calls.{IsListIn}
-use Rattle.my_query.specs.Gathers.{Collects, Gathered, SetIs}
-use Rattle.my_query.specs.Reads.{ItemIs, ReadsEnd, ReadsRows}
-use Rattle.my_query.specs.declared.error.QueryError.{QueryError}
-use Rattle.my_query.specs.declared.gather.Collected.{Collected}
-use Rattle.my_query.specs.declared.statement_like.ToStatementResult.{ToStatementResult}
-use Rattle.my_query.specs.declared.statement_like.ToStatementResult.TheVariants.{Immediate, Mediate}
+use Rattle.my_rows.specs.Answers.{AnswerIs, ReadIs, RestIs, value_after}
+use Rattle.my_rows.specs.Begins.{CalledIs, ExecuteIs, NamedIs, QueryIs, StatementIs}
+use Rattle.my_rows.specs.Calls.{IsListIn}
+use Rattle.my_rows.specs.Gathers.{Collects, Gathered, SetIs}
+use Rattle.my_rows.specs.Reads.{ItemIs, ReadsEnd, ReadsRows}
+use Rattle.my_rows.specs.declared.error.QueryError.{QueryError}
+use Rattle.my_rows.specs.declared.gather.Collected.{Collected}
+use Rattle.my_rows.specs.declared.statement_like.ToStatementResult.{ToStatementResult}
+use Rattle.my_rows.specs.declared.statement_like.ToStatementResult.TheVariants.{Immediate, Mediate}
 use Rattle.query_laws.specs.Answers.{AnswersExecution, AnswersQuery, Became, ExecutionIsCollected, ExecutionIsFirst, ExecutionIsGathered, ExecutionIsRead, FirstIs, QueryHasSet, QueryIsCollected, QueryIsFirst, QueryIsGathered, QueryIsRead}
 use Rattle.query_laws.specs.Begins.{IsExecution, IsQuery}
 use Rattle.query_laws.specs.Found.{BeginsWith, IsAnswered, IsWhole}

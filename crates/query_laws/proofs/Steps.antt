@@ -22,7 +22,7 @@ use Rattle.my_conn.specs.declared.drive.NextAnswer.TheVariants.{Row, SetEnd, NoS
 use Rattle.my_client.specs.StandsFor.{StandsFor}
 use Rattle.my_client.specs.Kept.{Kept}
 use Rattle.history_laws.specs.Fronts.{Set}
-use Rattle.my_query.specs.Reads.{ReadsEnd, ReadsRows}
+use Rattle.my_rows.specs.Reads.{ReadsEnd, ReadsRows}
 use Rattle.query_laws.specs.Found.{BeginsWith}
 use Rattle.query_laws.specs.Begins.{IsExecution, IsQuery}
 use Rattle.query_laws.proofs.Answering.{At, implies}

@@ -11,12 +11,12 @@ use Rattle.my_client.specs.Reads.{place_kept}
 use Rattle.my_conn.specs.Conn.{ConnSeen}
 use Rattle.my_conn.specs.Drives.{DoneIs, NextIs}
 use Rattle.my_conn.specs.declared.drive.NextAnswer.TheVariants.{NoSet}
-use Rattle.my_query.specs.Answers.{AnswerIs}
-use Rattle.my_query.specs.Begins.{ExecuteIs, QueryIs, StatementIs}
-use Rattle.my_query.specs.Calls.{CollectsFirst}
-use Rattle.my_query.specs.Gathers.{Gathered, SetIs}
-use Rattle.my_query.specs.Reads.{ItemIs, ReadsEnd, ReadsRows}
-use Rattle.my_query.specs.declared.statement_like.ToStatementResult.{ToStatementResult}
+use Rattle.my_rows.specs.Answers.{AnswerIs}
+use Rattle.my_rows.specs.Begins.{ExecuteIs, QueryIs, StatementIs}
+use Rattle.my_rows.specs.Calls.{CollectsFirst}
+use Rattle.my_rows.specs.Gathers.{Gathered, SetIs}
+use Rattle.my_rows.specs.Reads.{ItemIs, ReadsEnd, ReadsRows}
+use Rattle.my_rows.specs.declared.statement_like.ToStatementResult.{ToStatementResult}
 use Rattle.history_laws.specs.Fronts.{Set}
 use Rattle.query_laws.specs.Begins.{IsExecution, IsQuery}
 use Rattle.query_laws.specs.Found.{BeginsWith, IsAnswered, IsWhole}

@@ -7,7 +7,7 @@ ghost use Rattle.query_laws.specs.Made.{NewIsTaped};
 ghost use Rattle.query_laws.specs.Tried.{AreTried};
 
 use my_link::BlockingLink;
-use my_query::Gather;
+use my_rows::Gather;
 use my_value::FromRow;
 
 /// A connection that was made connected, with the login of its options, and did nothing else: so the reading accepts its tape, and each law

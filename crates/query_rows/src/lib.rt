@@ -1,19 +1,15 @@
-//! Talks of a connection and of a client with a server in memory, as rows of text, with ample memory: by calls whose
-//! rows are returned at once. A line of a talk is a call, what the link plays for it, and its answer, separated by `|`;
-//! the first line makes the connection. This crate has tests alone.
+//! What of a client's results is left, streams that own them, and queries made of a text and its parameters, with a server
+//! in memory, as rows of text. A row is how an answer is read, the packets that are the answer, what the reads return, and
+//! what one more read returns, separated by `|`; after each a ping is answered. This crate has tests alone.
 #![tactic(auto)]
 
 #[cfg(test)]
-mod clients;
-#[cfg(test)]
-mod dials;
-#[cfg(test)]
-mod holders;
-#[cfg(test)]
-mod near;
+mod owned;
 #[cfg(test)]
 mod queries;
 #[cfg(test)]
+mod reads;
+#[cfg(test)]
 mod rows;
 #[cfg(test)]
-mod talks;
+mod unread;

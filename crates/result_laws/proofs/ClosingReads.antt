@@ -12,9 +12,9 @@ use Rattle.my_conn.specs.Conn.{ConnSeen}
 use Rattle.my_conn.specs.Drives.{DriveIs}
 use Rattle.my_conn.specs.Streams.{SkipEnds, StreamBegins}
 use Rattle.my_conn.specs.declared.drive.NextAnswer.TheVariants.{Row, SetEnd, NoSet}
-use Rattle.my_query.specs.Reads.{ReadFails, ReadsEnd, ReadsRows}
-use Rattle.my_query.specs.declared.error.QueryError.{QueryError}
-use Rattle.my_query.specs.declared.error.QueryError.TheVariants.{Client, FromRow}
+use Rattle.my_rows.specs.Reads.{ReadFails, ReadsEnd, ReadsRows}
+use Rattle.my_rows.specs.declared.error.QueryError.{QueryError}
+use Rattle.my_rows.specs.declared.error.QueryError.TheVariants.{Client, FromRow}
 use Rattle.result_laws.specs.Closing.{CloseQuery, ClosesBy, DropCloses, ItemCloses, NextCloses, RestsAt, SetCloses, StreamCloses, closes, closes_in, is_closed}
 use Rattle.result_laws.proofs.Closing.{wait_closes}
 

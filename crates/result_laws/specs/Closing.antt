@@ -13,10 +13,10 @@ use Rattle.my_conn.specs.Conn.{ConnSeen, Standing}
 use Rattle.my_conn.specs.Drives.{DoneIs, NextIs}
 use Rattle.my_conn.specs.Streams.{StreamWaits}
 use Rattle.my_conn.specs.declared.drive.NextAnswer.{NextAnswer}
-use Rattle.my_query.specs.Gathers.{SetIs}
-use Rattle.my_query.specs.Reads.{ItemIs}
-use Rattle.my_query.specs.declared.error.QueryError.{QueryError}
-use Rattle.my_query.specs.declared.error.QueryError.TheVariants.{Client, FromRow}
+use Rattle.my_rows.specs.Gathers.{SetIs}
+use Rattle.my_rows.specs.Reads.{ItemIs}
+use Rattle.my_rows.specs.declared.error.QueryError.{QueryError}
+use Rattle.my_rows.specs.declared.error.QueryError.TheVariants.{Client, FromRow}
 
 -- nothing more is sent or read at it
 abbrev pub is_closed : {L : Type 0} → ConnSeen L → Bool

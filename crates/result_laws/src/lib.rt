@@ -5,7 +5,7 @@ ghost use Rattle.result_laws.specs.Closing.{DropCloses, ItemCloses, NextCloses, 
 ghost use Rattle.result_laws.specs.Tried.{ClosingIsTried};
 
 use my_link::BlockingLink;
-use my_query::Gather;
+use my_rows::Gather;
 use my_value::FromRow;
 
 /// A call that reads a row, drops the rest of an answer or takes a set for a stream closes the connection exactly where it

@@ -3,8 +3,8 @@
 use crate::rows::ROWS;
 use crate::streams::{sets, small, streamed};
 use crate::tried::kinds;
-use my_results::{
-    Error, Lent, Params, QueryError, QueryResult, Results, Row, TextProtocol, Value, positional,
+use my_query::{
+    Error, Lent, Params, QueryError, QueryResult, Queryable, Row, TextProtocol, Value, positional,
 };
 use near_rows::{Near, Numbered, Reads, add, failure, rows_read, shown};
 use std::alloc::{AllocError, Global};

@@ -1,7 +1,7 @@
 //! Results that are streamed.
 
 use crate::reads::Answer;
-use my_results::{QueryError, Row};
+use my_query::{QueryError, Row};
 use near_rows::{Numbered, add, failed, number_word, refused, shown};
 use std::alloc::{AllocError, Global};
 

@@ -1,6 +1,6 @@
 //! Rows that may not convert.
 
-use my_results::{FromRowError, QueryError};
+use my_query::{FromRowError, QueryError};
 use near_rows::{add, refused};
 use std::alloc::{AllocError, Global};
 

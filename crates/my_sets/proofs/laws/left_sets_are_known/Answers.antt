@@ -1,5 +1,0 @@
-use Rattle.my_sets.proofs.Trying as law
-use Rattle.my_sets.proofs.laws.left_sets_are_known.Goals as goal
-
-pub returns : goal.returns
-returns g c = law.empty_is_tried

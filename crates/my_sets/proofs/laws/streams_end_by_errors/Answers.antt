@@ -1,5 +1,0 @@
-use Rattle.my_sets.proofs.Trying as law
-use Rattle.my_sets.proofs.laws.streams_end_by_errors.Goals as goal
-
-pub returns : goal.returns
-returns g c = law.streams_are_tried _ _

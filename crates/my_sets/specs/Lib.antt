@@ -1,5 +1,0 @@
-pub mod Unread
-pub mod Taken
-pub mod Streams
-pub mod Starts
-pub mod Tried
