@@ -45,6 +45,8 @@ pub struct Head<'a> {
     pub wait: Option<u64>,
     pub init: &'a str,
     pub setup: &'a str,
+    /// The attributes, each a name, a colon and its value, with commas between them.
+    pub attributes: &'a str,
     /// How many statements are kept.
     pub cached: u64,
     pub then: Then,
@@ -59,6 +61,7 @@ pub fn usual(version: &str) -> Head<'_> {
         wait: Some(28_800),
         init: "",
         setup: "",
+        attributes: "",
         cached: 32,
         then: Then::Cancels,
     }
@@ -78,6 +81,7 @@ fn with_value<'a>(head: Head<'a>, name: &str, value: &'a str) -> Head<'a> {
         "wait" => head.wait = number(value),
         "init" => head.init = value,
         "setup" => head.setup = value,
+        "attributes" => head.attributes = value,
         "cached" => head.cached = number(value).unwrap_or(0),
         _ => {}
     }
@@ -118,6 +122,23 @@ fn texts(alloc: Global, letters: &str) -> Result<Vec<String>, AllocError> {
     Ok(texts)
 }
 
+// Options with these attributes.
+fn with_attributes(
+    alloc: Global,
+    builder: OptsBuilder,
+    attributes: &str,
+) -> Result<OptsBuilder, NoMemory> {
+    let mut builder = builder;
+    for pair in attributes.split(',') {
+        if let Some((name, value)) = pair.split_once(':') {
+            let name = String::from_str(alloc, name)?;
+            let value = String::from_str(alloc, value)?;
+            builder = builder.connect_attribute(alloc, name, value)?;
+        }
+    }
+    Ok(builder)
+}
+
 /// The options of a user `root`, with what the head says.
 pub fn options(alloc: Global, head: &Head) -> Result<Opts, NoMemory> {
     let user = String::from_str(alloc, "root")?;
@@ -130,6 +151,7 @@ pub fn options(alloc: Global, head: &Head) -> Result<Opts, NoMemory> {
         .init(init)
         .setup(setup)
         .stmt_cache_size(head.cached);
+    let builder = with_attributes(alloc, builder, head.attributes)?;
     Ok(Opts::from(builder))
 }
 
