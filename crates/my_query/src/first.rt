@@ -1,12 +1,12 @@
 //! The first set of an answer, taken for a stream.
 ghost use Rattle.std.specs.Prelude.{◌≡◌, None};
-ghost use Rattle.my_sets.specs.Starts.{StartIs};
-ghost use Rattle.my_sets.specs.Taken.{TakesAfter, TakesFirst};
+ghost use Rattle.my_query.specs.Starts.{StartIs};
+ghost use Rattle.my_query.specs.Taken.{TakesAfter, TakesFirst};
 
 use crate::starts::Starts;
-use my_query::Calls;
 use my_reading::Error;
 use my_results::{TakenSet, take_next};
+use my_rows::Calls;
 use std::alloc::Global;
 
 // Takes the first set of an answer that this call began.
