@@ -2,6 +2,7 @@
 use Rattle.std.proofs.Common.{ℕ, ◌≡◌, ◌==◌, ◌<◌, ◌≤◌, ◌⊎◌, inl, inr, zero, suc, List, [], ◌∷◌, ◌++◌, length, map, slice_set, Option, Some, None, option_map, unwrap_or, Bool, true, false, refl, sym, ap, ◌∙◌, subst, arith, eq-eqb, if◌then◌else◌}
 use Rattle.std.proofs.lemmas.List.{append-nil, length-append}
 use Rattle.my_grammar.specs.declared.login.Login.{Login}
+use Rattle.my_frame.specs.Outside.{Rose}
 use Rattle.my_frame.specs.Sources.{SourceSeen}
 use Rattle.my_frame.specs.Sinks.{SinkSeen}
 use Rattle.my_link.specs.declared.link.ReadItem.{ReadItem}
@@ -65,7 +66,7 @@ use Rattle.my_run.proofs.Runs.Fitting.{grown_fit}
 use Rattle.my_steps.specs.Sums.{use_of, quiet, held_use, failed_use}
 use Rattle.my_run.specs.Tapes.{TapeView, tape_view, tape_call, open_call, links_at, links_in, tapes_in, tape_of, tape_at, with_links}
 use Rattle.my_run.specs.Tool.{EndsBy}
-use Rattle.my_run.specs.WrongRuns.{NoPlannedDialFault, NoWaitAsFault, NoHeldDialFault, NoHiddenDials, LinksHaveTapes, NoSecretDial, NoStepsUnread, NoBytesAfter, MayFail, DialFault, NoStillMoment, one_fault, NoEarlyEnd, NoHoldAfterTurn, NoHoldInTurn, NoZeroSent, NoOtherTaken, NoFaultAtRest, HasRead, NoBrokenInput, NoClosedExecution, NoUngivenExecution, NoForgottenRollback}
+use Rattle.my_run.specs.WrongRuns.{NoSourceFault, NoPlannedDialFault, NoWaitAsFault, NoHeldDialFault, NoHiddenDials, LinksHaveTapes, NoSecretDial, NoStepsUnread, NoBytesAfter, MayFail, DialFault, NoStillMoment, one_fault, NoEarlyEnd, NoHoldAfterTurn, NoHoldInTurn, NoZeroSent, NoOtherTaken, NoFaultAtRest, HasRead, NoBrokenInput, NoClosedExecution, NoUngivenExecution, NoForgottenRollback}
 use Rattle.my_run.proofs.Polls.{all_calls, answered_by, met_so, returned_by, sent_so, taken_so, used_so}
 
 -- what was told
@@ -603,6 +604,13 @@ broken_off words world later s r w v t ends.NoMemory e f h c = h
 
 pub no_broken_input : NoBrokenInput
 no_broken_input words world later s r w v report e f h c = broken_off words world later s r w v report.transcript report.status e f h c
+
+-- a source that is said to have failed did
+source_rose : (words : List (List ℕ)) (world later : WorldSeen) (s r : SourceSeen) (w v : SinkSeen) (t : Transcript) (status : Status) → status ≡ ends.SourceFailed → EndsBy words world later s r w v t status → Rose s.faults r.faults
+source_rose words world later s r w v t status e c = (subst (EndsBy words world later s r w v t) e c).3.fault
+
+pub no_source_fault : NoSourceFault
+no_source_fault words world later s r w v report none still e c = let rose = source_rose words world later s r w v report.transcript report.status e c in omega (arith, none, still, rose.1)
 
 -- no statement is at a number that is spent, nor at one that wasn't given
 spent_none : (given : List (Option StatementView)) (number : ℕ) → statement_at (slice_set given number None) number ≡ None

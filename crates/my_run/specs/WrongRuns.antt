@@ -34,7 +34,7 @@ use Rattle.my_steps.specs.Dialing.{Course}
 use Rattle.my_steps.specs.Grows.{AreGrown, Line, statements_of}
 use Rattle.my_run.specs.declared.tool.Report.{Report}
 use Rattle.my_run.specs.declared.tool.Status.{Status}
-use Rattle.my_run.specs.declared.tool.Status.TheVariants.{Done, Unread, SinkFailed}
+use Rattle.my_run.specs.declared.tool.Status.TheVariants.{Done, Unread, SourceFailed, SinkFailed}
 use Rattle.my_script.specs.declared.reading.script.BadLine.{BadLine}
 use Rattle.my_run.specs.Headline.{Headline}
 use Rattle.my_run.specs.Stopped.{Stopped, one_link}
@@ -170,6 +170,11 @@ HasRead _ = ⊥
 abbrev pub NoBrokenInput : Type 0
 NoBrokenInput = (words : List (List ℕ)) (world later : WorldSeen) (s r : SourceSeen) (w v : SinkSeen) (report : Report)
     → s.ends ≡ 0 → r.ends ≡ 0 → HasRead report.status → IsReport words world later s r w v report → ⊥
+
+-- the source is said to have failed, and no read of it did
+abbrev pub NoSourceFault : Type 0
+NoSourceFault = (words : List (List ℕ)) (world later : WorldSeen) (s r : SourceSeen) (w v : SinkSeen) (report : Report)
+    → s.faults ≡ 0 → r.faults ≡ 0 → report.status ≡ SourceFailed → IsReport words world later s r w v report → ⊥
 
 -- a statement is executed in the line after the one that closed it, and isn't refused
 abbrev pub NoClosedExecution : Type 0

@@ -1,5 +1,5 @@
 //! Runs that no user would call right, each of which the headline refutes, and beside them runs that it accepts.
-ghost use Rattle.my_run.specs.WrongRuns.{NoPlannedDialFault, NoWaitAsFault, NoHeldDialFault, NoHiddenDials, LinksHaveTapes, NoSecretDial, NoStepsUnread, NoBytesAfter, DialFault, NoStillMoment, NoEarlyEnd, NoHoldAfterTurn, NoHoldInTurn, NoZeroSent, NoOtherTaken, NoFaultAtRest, NoBrokenInput, NoClosedExecution, NoUngivenExecution, NoForgottenRollback, SentAtStop, NoSecretAtStop, StoppedInSecond};
+ghost use Rattle.my_run.specs.WrongRuns.{NoPlannedDialFault, NoWaitAsFault, NoHeldDialFault, NoHiddenDials, LinksHaveTapes, NoSecretDial, NoStepsUnread, NoBytesAfter, DialFault, NoStillMoment, NoEarlyEnd, NoHoldAfterTurn, NoHoldInTurn, NoZeroSent, NoOtherTaken, NoFaultAtRest, NoBrokenInput, NoSourceFault, NoClosedExecution, NoUngivenExecution, NoForgottenRollback, SentAtStop, NoSecretAtStop, StoppedInSecond};
 
 /// Over a world that planned no wait and no fault of the dial, none is said to have failed.
 pub fn no_planned_dial_fault()
@@ -79,6 +79,11 @@ pub fn no_other_taken()
 /// A call that owes nothing and awaits nothing doesn't fail by its link.
 pub fn no_fault_at_rest()
     ensures { NoFaultAtRest }
+{}
+
+/// A source of which no read failed isn't said to have failed.
+pub fn no_source_fault()
+    ensures { NoSourceFault }
 {}
 
 /// An input that broke off isn't run as if it were whole.
