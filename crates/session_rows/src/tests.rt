@@ -35,7 +35,7 @@ fn talks(rt: HostRuntime) -> Result<(), Fail> {
         "{talks} talks, {connects} connections, {resets} resets, {statements} of statements"
     )?;
     println!(rt; "{transactions} of transactions, {changes} of changes of user and of a pool")?;
-    assert!(rt; talks == 14 && connects == 15 && resets == 23);
+    assert!(rt; talks == 14 && connects == 17 && resets == 23);
     assert!(rt; statements == 12 && transactions == 50 && changes == 27);
     Ok(())
 }
