@@ -12,5 +12,5 @@ mod version;
 pub use attributes::{Attribute, Attributes};
 pub use greeting::{Greeting, NEEDED_CAPABILITIES, greeting_offer, read_greeting};
 pub use login::{ChangeUser, HandshakeResponse, put_change_user, put_response};
-pub use switch::{MoreData, SwitchRequest, read_more_data, read_switch};
+pub use switch::{MoreData, SwitchRequest, read_more_data, read_switch, switch_parts};
 pub use version::{ServerVersion, server_version};

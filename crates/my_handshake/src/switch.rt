@@ -57,11 +57,18 @@ fn request_of(rest: &[u8]) -> Option<(&[u8], &[u8])>
     Some((plugin, without_last_zero(left)))
 }
 
+/// The name of the plugin and the nonce of a request to switch the authentication plugin, if the payload is one.
+pub fn switch_parts(payload: &[u8]) -> Option<(&[u8], &[u8])>
+    ensures { option_map (λ x. record { plugin = x.0.now; nonce = x.1.now }) result ≡ switch_at payload.now }
+{
+    let rest = take_head(payload, 0xFE)?;
+    request_of(rest)
+}
+
 fn switch_of(alloc: Global, payload: &[u8]) -> Result<SwitchRequest, ReadError>
     ensures { Gives result (switch_at payload.now) }
 {
-    let rest = take_head(payload, 0xFE).ok_or(ReadError::Malformed)?;
-    let (plugin, nonce) = request_of(rest).ok_or(ReadError::Malformed)?;
+    let (plugin, nonce) = switch_parts(payload).ok_or(ReadError::Malformed)?;
     Ok(SwitchRequest {
         plugin: Blob::from_slice(alloc, plugin)?,
         nonce: Blob::from_slice(alloc, nonce)?,
