@@ -1,5 +1,5 @@
 -- The names of the plugins by which a client logs in.
-use Rattle.std.specs.Prelude.{ℕ, List, codes, Option, Some, None, if◌then◌else◌}
+use Rattle.std.specs.Prelude.{ℕ, List, Bool, codes, Option, Some, None, if◌then◌else◌}
 use Rattle.std.specs.Str.{bytes_eq}
 use Rattle.my_auth.specs.declared.plugin.AuthPlugin.{AuthPlugin}
 use Rattle.my_auth.specs.declared.plugin.AuthPlugin.TheVariants.{Native, Caching, Clear, Old}
@@ -19,6 +19,6 @@ plugin_named name =
     else if bytes_eq name (codes "mysql_old_password") then Some Old
     else None
 
--- with which a client answers a greeting: where that names another plugin than `caching_sha2_password`, the native one
-abbrev pub greeting_plugin : List ℕ → AuthPlugin
-greeting_plugin name = if bytes_eq name (codes "caching_sha2_password") then Caching else Native
+-- the plugin by which a nonce is answered
+abbrev pub challenge_plugin : Bool → AuthPlugin
+challenge_plugin caching = if caching then Caching else Native

@@ -1,7 +1,7 @@
 //! The plugins by which a client logs in.
 
 ghost use Rattle.std.specs.Prelude.{◌≡◌};
-ghost use Rattle.my_auth.specs.Plugins.{plugin_named, greeting_plugin, plugin_name};
+ghost use Rattle.my_auth.specs.Plugins.{challenge_plugin, plugin_name, plugin_named};
 
 /// A plugin by which a client logs in.
 #[derive(Clone, Copy, PartialEq, Eq)]
@@ -36,14 +36,15 @@ impl AuthPlugin {
         None
     }
 
-    /// The plugin with which a client answers a greeting that names this one: `caching_sha2_password`, or else the native one.
-    pub fn of_greeting(name: &[u8]) -> AuthPlugin
-        ensures { result ≡ greeting_plugin name.now }
+    /// The plugin by which a nonce is answered: `caching_sha2_password`, or the native one.
+    pub fn of_challenge(caching: bool) -> AuthPlugin
+        ensures { result ≡ challenge_plugin caching }
     {
-        if name == b"caching_sha2_password".as_slice() {
-            return AuthPlugin::Caching;
+        if caching {
+            AuthPlugin::Caching
+        } else {
+            AuthPlugin::Native
         }
-        AuthPlugin::Native
     }
 
     /// Its name in packets.

@@ -5,7 +5,7 @@ use Rattle.std.proofs.lemmas.Grind.{flat_map-append}
 use Rattle.my_frame.specs.Chunks.{chunks, number_after_payload}
 use Rattle.my_grammar.specs.declared.spot.Terms.{Terms}
 use Rattle.my_grammar.specs.Sets.{Asking, ByText, ByStatement, Sets, Packet, asking_in, packets_in}
-use Rattle.my_grammar.specs.Talk.{Talk, Start, Unwelcome, Greeted, Settled, Asked, Replied, Queried, Preparing, Silent, Turn, Command, served, sent_ahead, commands_by, turns, number_of, server_bytes, client_bytes, commands_with, commands_in, commands_bytes, origin}
+use Rattle.my_grammar.specs.Talk.{Talk, Start, Unwelcome, Greeted, Asked, Replied, Changing, Queried, Preparing, Silent, Turn, Command, served, sent_ahead, commands_by, turns, number_of, server_bytes, client_bytes, commands_with, commands_in, commands_bytes, origin}
 
 -- payloads that are sent ahead
 pub ahead_bytes : (ps : List (List ℕ)) (ts : List Turn) → client_bytes (sent_ahead ps ts) ≡ client_bytes ts ++ commands_bytes ps
@@ -45,10 +45,10 @@ queried_said terms c x = served_client (packets_in x) (commands_by c (asking_in 
 pub origin_said : (t : Talk) → client_bytes (turns (origin t)) ≡ commands_bytes (commands_in t)
 origin_said (Start login) = refl
 origin_said (Unwelcome login p) = refl
-origin_said (Greeted login p c) = refl
-origin_said (Settled login p c last kind) = refl
+origin_said (Greeted login p offer chain) = refl
 origin_said (Asked terms c) = sym (append-nil (chunks c 0))
 origin_said (Replied terms c last kind) = sym (append-nil (chunks c 0))
+origin_said (Changing terms secret stand c chain) = sym (append-nil (chunks c 0))
 origin_said (Queried terms c x) = commands_said c (asking_in x)
 origin_said (Preparing terms c reply) = sym (append-nil (chunks c 0))
 origin_said (Silent terms c) = sym (append-nil (chunks c 0))
@@ -56,10 +56,10 @@ origin_said (Silent terms c) = sym (append-nil (chunks c 0))
 pub origin_keeps : (t : Talk) → commands_in (origin t) ≡ commands_in t
 origin_keeps (Start login) = refl
 origin_keeps (Unwelcome login p) = refl
-origin_keeps (Greeted login p c) = refl
-origin_keeps (Settled login p c last kind) = refl
+origin_keeps (Greeted login p offer chain) = refl
 origin_keeps (Asked terms c) = refl
 origin_keeps (Replied terms c last kind) = refl
+origin_keeps (Changing terms secret stand c chain) = refl
 origin_keeps (Queried terms c x) = refl
 origin_keeps (Preparing terms c reply) = refl
 origin_keeps (Silent terms c) = refl

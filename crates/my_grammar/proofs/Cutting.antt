@@ -9,7 +9,7 @@ use Rattle.my_frame.proofs.Fronts.{found}
 use Rattle.my_grammar.specs.declared.spot.Kind.{Kind}
 use Rattle.my_grammar.specs.Contexts.{is_bad}
 use Rattle.my_grammar.specs.Kinds.{kind_there}
-use Rattle.my_grammar.specs.Talk.{Talk, Fits, turns, number_of, server_bytes, context_of, described, limit_of, origin, login_in}
+use Rattle.my_grammar.specs.Talk.{Talk, Fits, turns, number_of, server_bytes, context_of, described, limit_of, origin, login_in, secret_in}
 use Rattle.my_grammar.specs.Growth.{grow, Grows}
 use Rattle.my_grammar.specs.Cut.{Read, front_of, kind_of, read_payload, read_front, read_within, read_from}
 use Rattle.my_grammar.specs.CutLaws.{StopsAt}
@@ -69,7 +69,7 @@ goes_on t k p e good short fits r =
     let n = number_of (turns t) in
     record {
       reaches = λ rest.
-          let bytes : server_bytes (turns (grow k t p)) ++ rest ≡ server_bytes (turns t) ++ (chunks p n ++ rest) = ap (λ bs. bs ++ rest) (ap server_bytes (gr.turns_are any_login) ∙ (reads (login_in any_login t) k p (turns t)).server) ∙ append_assoc (server_bytes (turns t)) (chunks p n) rest in
+          let bytes : server_bytes (turns (grow k t p)) ++ rest ≡ server_bytes (turns t) ++ (chunks p n ++ rest) = ap (λ bs. bs ++ rest) (ap server_bytes (gr.turns_are any_login) ∙ (reads (login_in any_login t) (secret_in t) k p (turns t)).server) ∙ append_assoc (server_bytes (turns t)) (chunks p n) rest in
           ap (λ (u : Talk). read_from u (server_bytes (turns (grow k t p)) ++ rest)) gr.origin_is ∙ ap (λ (bs : List ℕ). read_from (origin t) bs) bytes ∙ r.reaches (chunks p n ++ rest) ∙ reads_one t (chunks p n ++ rest) p rest (number_after_payload p n) k (found p rest n (limit_of t) short) e good;
     }
 

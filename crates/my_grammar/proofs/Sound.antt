@@ -17,7 +17,7 @@ use Rattle.my_grammar.specs.declared.spot.Kind.{Kind}
 use Rattle.my_grammar.specs.declared.spot.Kind.TheVariants.{Bad}
 use Rattle.my_grammar.specs.Contexts.{is_bad}
 use Rattle.my_grammar.specs.Kinds.{kind_by}
-use Rattle.my_grammar.specs.Talk.{Talk, Start, Unwelcome, Greeted, Settled, Asked, Replied, Queried, Preparing, Silent, Fits, turns, number_of, server_bytes, packets_of, context_of, described, limit_of, origin, login_in}
+use Rattle.my_grammar.specs.Talk.{Talk, Start, Unwelcome, Greeted, Asked, Replied, Changing, Queried, Preparing, Silent, Fits, turns, number_of, server_bytes, packets_of, context_of, described, limit_of, origin, login_in, secret_in}
 use Rattle.my_grammar.specs.Growth.{grow, Grows}
 use Rattle.my_grammar.specs.Cut.{Read, Trailing, Cut, front_of, kind_of, read_payload, read_front, read_within, read_from, rest_in_front, is_idle, is_over, rest_of, onto, cut_after, cut}
 use Rattle.my_grammar.specs.CutLaws.{StopsAt, IsRead, bytes_of, AreOver, IsCut}
@@ -46,7 +46,7 @@ one_read : (t : Talk) (bytes p rest : List ℕ) (next : ℕ) (k : Kind) (r : Rea
 one_read t bytes p rest next k r are e gr w =
     let n = number_of (turns t) in
     let stands = whole_stands n (limit_of t) bytes p rest next are e in
-    let more : server_bytes (turns (grow k t p)) ≡ server_bytes (turns t) ++ chunks p n = ap server_bytes (gr.turns_are any_login) ∙ (reads (login_in any_login t) k p (turns t)).server in
+    let more : server_bytes (turns (grow k t p)) ≡ server_bytes (turns t) ++ chunks p n = ap server_bytes (gr.turns_are any_login) ∙ (reads (login_in any_login t) (secret_in t) k p (turns t)).server in
     record {
       fits = w.fits;
       origin_is = w.origin_is ∙ gr.origin_is;
@@ -86,10 +86,10 @@ sound t bytes are fits = is_read (length bytes) t bytes (omega arith) are fits
 origin_fits : (t : Talk) → Fits (origin t)
 origin_fits (Start login) = record { kinds = tt; within = tt }
 origin_fits (Unwelcome login p) = record { kinds = tt; within = tt }
-origin_fits (Greeted login p c) = record { kinds = tt; within = tt }
-origin_fits (Settled login p c last kind) = record { kinds = tt; within = tt }
+origin_fits (Greeted login p offer chain) = record { kinds = tt; within = tt }
 origin_fits (Asked terms c) = record { kinds = tt; within = tt }
 origin_fits (Replied terms c last kind) = record { kinds = tt; within = tt }
+origin_fits (Changing terms secret stand c chain) = record { kinds = tt; within = tt }
 origin_fits (Queried terms c sets) = record { kinds = tt; within = tt }
 origin_fits (Preparing terms c r) = record { kinds = tt; within = tt }
 origin_fits (Silent terms c) = record { kinds = tt; within = tt }
@@ -102,10 +102,10 @@ record Begins (t : Talk) : Type 0 where
 begins : (t : Talk) → Begins t
 begins (Start login) = record { bytes = refl; again = refl }
 begins (Unwelcome login p) = record { bytes = refl; again = refl }
-begins (Greeted login p c) = record { bytes = refl; again = refl }
-begins (Settled login p c last kind) = record { bytes = refl; again = refl }
+begins (Greeted login p offer chain) = record { bytes = refl; again = refl }
 begins (Asked terms c) = record { bytes = refl; again = refl }
 begins (Replied terms c last kind) = record { bytes = refl; again = refl }
+begins (Changing terms secret stand c chain) = record { bytes = refl; again = refl }
 begins (Queried terms c sets) = record { bytes = commands_silent c (asking_in sets); again = refl }
 begins (Preparing terms c r) = record { bytes = refl; again = refl }
 begins (Silent terms c) = record { bytes = refl; again = refl }
@@ -158,8 +158,8 @@ exchange_is_cut t ts rest fits = ap (λ (r : Read). cut_after r (cut ts)) ((reac
 
 idle_kind : (s : Spot) (f : RowFormat) (d : Bool) (n : ℕ) (cs : List ColumnPacket) (p : List ℕ) → is_idle s ≡ true → kind_by s f d n cs p ≡ Bad
 idle_kind spots.Idle f d n cs p e = refl
-idle_kind spots.Greeting f d n cs p e = cc
-idle_kind spots.Authentication f d n cs p e = cc
+idle_kind (spots.Greeting rules) f d n cs p e = cc
+idle_kind (spots.Authentication stand) f d n cs p e = cc
 idle_kind spots.Single f d n cs p e = cc
 idle_kind spots.Head f d n cs p e = cc
 idle_kind spots.Further f d n cs p e = cc

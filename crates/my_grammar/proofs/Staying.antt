@@ -63,8 +63,8 @@ ends_from t bytes = ends_within (length bytes) t bytes (omega arith)
 -- after an exchange that is over nothing may be read
 idle_bad : (s : Spot) (rows : RowFormat) (deprecates : Bool) (n : ℕ) (columns : List ColumnPacket) (p : List ℕ) → is_idle s ≡ true → is_bad (kind_by s rows deprecates n columns p) ≡ true
 idle_bad spots.Idle rows deprecates n columns p e = refl
-idle_bad spots.Greeting rows deprecates n columns p e = cc
-idle_bad spots.Authentication rows deprecates n columns p e = cc
+idle_bad (spots.Greeting rules) rows deprecates n columns p e = cc
+idle_bad (spots.Authentication stand) rows deprecates n columns p e = cc
 idle_bad spots.Single rows deprecates n columns p e = cc
 idle_bad spots.Head rows deprecates n columns p e = cc
 idle_bad spots.Further rows deprecates n columns p e = cc

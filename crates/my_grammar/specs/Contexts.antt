@@ -1,5 +1,6 @@
 -- Where the reading of an exchange follows a payload of a kind. MySQL client/server protocol, "Connection Phase" and
--- "COM_QUERY Response" and "COM_STMT_PREPARE Response": a greeting, an answer to it and an OK or ERR make a connection; a response is a chain of sets; a set is a lone
+-- "COM_QUERY Response" and "COM_STMT_PREPARE Response": a greeting, an answer to it, a chain of requests and answers and an OK or ERR
+-- make a connection; a response is a chain of sets; a set is a lone
 -- OK or ERR, or a count, that many columns, an EOF unless the server deprecates it, rows and an end; an OK or an end whose status has
 -- SERVER_MORE_RESULTS_EXISTS is followed by another set; the head of a prepare reply has two numbers, that many column packets for the
 -- parameters and that many for the columns follow, and after each of the two an EOF unless the server deprecates it.
@@ -7,10 +8,14 @@ use Rattle.std.specs.Prelude.{ℕ, ◌-◌, ◌==◌, nat_le, Bool, true, false,
 use Rattle.my_flags.specs.declared.flags.StatusFlags.{StatusFlags}
 use Rattle.my_flags.specs.Sets.{deprecates_eof, has_more_results, intersection}
 use Rattle.my_flags.specs.declared.flags.CapabilityFlags.{CapabilityFlags}
+use Rattle.my_auth.specs.declared.chain.AuthRules.{AuthRules}
+use Rattle.my_auth.specs.declared.chain.AuthStand.{AuthStand}
+use Rattle.my_auth.specs.Chain.{after_ask, first_stand}
+use Rattle.my_auth.specs.Plugins.{challenge_plugin}
 use Rattle.my_grammar.specs.declared.spot.Spot.{Spot}
 use Rattle.my_grammar.specs.declared.spot.Spot.TheVariants.{Idle, Greeting, Authentication, Single, Head, Further, Columns, ColumnsEnd, Rows, Prepare, Parameters, ParametersEnd, Fields, FieldsEnd}
 use Rattle.my_grammar.specs.declared.spot.Kind.{Kind}
-use Rattle.my_grammar.specs.declared.spot.Kind.TheVariants.{Greets, Good, Count, Column, ColumnsDone, Row, End, Prepared, Bad}
+use Rattle.my_grammar.specs.declared.spot.Kind.TheVariants.{Greets, Asks, Good, Count, Column, ColumnsDone, Row, End, Prepared, Bad}
 use Rattle.my_grammar.specs.declared.spot.Context.{Context}
 
 -- after an OK or an end with this status
@@ -26,9 +31,14 @@ abbrev pub after_column : Bool → ℕ → Spot
 after_column deprecates left = if nat_le left 1 then after_columns deprecates else Columns (left - 1)
 
 -- after a payload in the place of a greeting
-abbrev pub after_greeting : Kind → Spot
-after_greeting (Greets capabilities) = Authentication
-after_greeting k = Idle
+abbrev pub after_greeting : AuthRules → Kind → Spot
+after_greeting rules (Greets offer) = Authentication (first_stand rules (challenge_plugin offer.caching))
+after_greeting rules k = Idle
+
+-- after a payload in a chain
+abbrev pub after_authentication : AuthStand → Kind → Spot
+after_authentication stand (Asks ask) = Authentication (after_ask stand ask)
+after_authentication stand k = Idle
 
 -- after a payload in the place of a set's head
 abbrev pub after_head : Kind → Spot
@@ -69,8 +79,8 @@ after_field deprecates left = if nat_le left 1 then (if deprecates then Idle els
 -- what is awaited after a payload of this kind
 abbrev pub spot_after : Bool → Spot → Kind → Spot
 spot_after deprecates Idle k = Idle
-spot_after deprecates Greeting k = after_greeting k
-spot_after deprecates Authentication k = Idle
+spot_after deprecates (Greeting rules) k = after_greeting rules k
+spot_after deprecates (Authentication stand) k = after_authentication stand k
 spot_after deprecates Single k = Idle
 spot_after deprecates Head k = after_head k
 spot_after deprecates Further k = after_head k
@@ -93,7 +103,7 @@ columns_after columns _ = 0
 
 -- the capabilities of both sides, once the server sent its own
 abbrev pub kept_after : CapabilityFlags → Kind → CapabilityFlags
-kept_after kept (Greets capabilities) = intersection kept capabilities
+kept_after kept (Greets offer) = intersection kept offer.capabilities
 kept_after kept k = kept
 
 -- the context after a payload of this kind

@@ -21,12 +21,16 @@ use Rattle.my_reply.specs.Replies.{prepare_ok_at}
 use Rattle.my_value.specs.declared.value.Value.{Value}
 use Rattle.my_value.specs.TextRow.{text_row_at}
 use Rattle.my_value.specs.BinaryRow.{binary_row_at}
+use Rattle.my_auth.specs.declared.chain.AuthStand.{AuthStand}
+use Rattle.my_auth.specs.declared.chain.AuthMove.{AuthMove}
+use Rattle.my_auth.specs.declared.chain.AuthMove.TheVariants.{Over, Ask, Refuse}
+use Rattle.my_auth.specs.Chain.{move_at}
 use Rattle.my_grammar.specs.declared.spot.RowFormat.{RowFormat}
 use Rattle.my_grammar.specs.declared.spot.RowFormat.TheVariants.{Text, Binary}
 use Rattle.my_grammar.specs.declared.spot.Spot.{Spot}
 use Rattle.my_grammar.specs.declared.spot.Spot.TheVariants as spots
 use Rattle.my_grammar.specs.declared.spot.Kind.{Kind}
-use Rattle.my_grammar.specs.declared.spot.Kind.TheVariants.{Greets, Good, Failed, Count, Column, ColumnsDone, Row, End, Prepared, Parameter, Field, Bad}
+use Rattle.my_grammar.specs.declared.spot.Kind.TheVariants.{Greets, Asks, Good, Failed, Count, Column, ColumnsDone, Row, End, Prepared, Parameter, Field, Bad}
 use Rattle.my_grammar.specs.declared.spot.Context.{Context}
 
 -- the first form where the payload has it; else the other
@@ -53,9 +57,10 @@ count_kind (Some columns) = Count columns.count
 abbrev pub is_caching : List ℕ → Bool
 is_caching plugin = bytes_eq plugin (codes "caching_sha2_password")
 
--- a server that deprecates EOF and logs in by the native password
+-- a server that deprecates EOF; where it names another plugin than `caching_sha2_password`, its nonce is answered by the native one
 abbrev pub offer_kind : CapabilityFlags → List ℕ → Kind
-offer_kind capabilities plugin = if deprecates_eof capabilities then (if is_caching plugin then Bad else Greets capabilities) else Bad
+offer_kind capabilities plugin =
+    if deprecates_eof capabilities then Greets (record { capabilities = capabilities; caching = is_caching plugin }) else Bad
 
 -- a greeting
 abbrev pub greets_kind : Option Greeting → Kind
@@ -98,6 +103,15 @@ greeting_kind p = or_else (greets_kind (greeting_at p)) (failed_kind (err_at tru
 abbrev pub single_kind : List ℕ → Kind
 single_kind p = or_else (good_kind (ok_at p)) (failed_kind (err_at false p))
 
+-- What may come in the chain by which a client shows who it is: what the client refuses fits nowhere.
+abbrev pub auth_kind_by : AuthMove → List ℕ → Kind
+auth_kind_by Over p = single_kind p
+auth_kind_by (Ask ask) p = Asks ask
+auth_kind_by (Refuse refusal) p = Bad
+
+abbrev pub auth_kind : AuthStand → List ℕ → Kind
+auth_kind stand p = auth_kind_by (move_at stand p) p
+
 -- What may come as the head of a set.
 abbrev pub head_kind : List ℕ → Kind
 head_kind p = or_else (good_kind (ok_at p)) (or_else (failed_kind (err_at false p)) (count_kind (column_count_at false p)))
@@ -138,8 +152,8 @@ field_kind p = described_kind Field (column_at p)
 -- what a payload is in each place
 abbrev pub kind_by : Spot → RowFormat → Bool → ℕ → List ColumnPacket → List ℕ → Kind
 kind_by spots.Idle rows deprecates n columns p = Bad
-kind_by spots.Greeting rows deprecates n columns p = greeting_kind p
-kind_by spots.Authentication rows deprecates n columns p = single_kind p
+kind_by (spots.Greeting rules) rows deprecates n columns p = greeting_kind p
+kind_by (spots.Authentication stand) rows deprecates n columns p = auth_kind stand p
 kind_by spots.Single rows deprecates n columns p = single_kind p
 kind_by spots.Head rows deprecates n columns p = head_kind p
 kind_by spots.Further rows deprecates n columns p = head_kind p

@@ -10,13 +10,14 @@ use Rattle.my_grammar.specs.declared.cut.CutRest.TheVariants as rests
 use Rattle.my_grammar.specs.declared.cut.Found.{Found}
 use Rattle.my_grammar.specs.Sets.{ByText, ByStatement, NoSets}
 use Rattle.my_grammar.specs.Prepares.{Unanswered}
-use Rattle.my_grammar.specs.Talk.{Talk, Start, Asked, Queried, Preparing, Silent, turns, number_of, client_bytes, packets_of, context_of, described}
+use Rattle.my_grammar.specs.Talk.{Talk, Start, Asked, Changing, Queried, Preparing, Silent, turns, number_of, client_bytes, packets_of, context_of, described, secret_in}
 use Rattle.my_grammar.specs.Cut.{Read, Rest, Trailing, Unfinished, Unfit, Blamed, Cut}
 
 -- the exchange that begins so
 abbrev pub talk_of : Login → Opening → Talk
 talk_of login openings.Connect = Start login
 talk_of login (openings.Simple terms command) = Asked terms command
+talk_of login (openings.Change terms secret stand command) = Changing terms secret stand command []
 talk_of login (openings.Query terms command) = Queried terms command (NoSets ByText)
 talk_of login (openings.Execute terms ahead command) = Queried terms command (NoSets (ByStatement ahead []))
 talk_of login (openings.Prepare terms command) = Preparing terms command Unanswered
@@ -29,6 +30,7 @@ pub record IsAt (t : Talk) (p : Progress) : Type 0 where
   pub number : p.number ≡ number_of (turns t)
   pub packets : p.packets.items ≡ reverse (packets_of t)
   pub sent : p.sent ≡ client_bytes (turns t)
+  pub secret : p.secret ≡ secret_in t
 
 -- each is where its exchange is
 abbrev pub AreAt : List Talk → List Progress → Type 0

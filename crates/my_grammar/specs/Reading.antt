@@ -16,9 +16,10 @@ use Rattle.my_grammar.specs.Growth.{described_after, number_next, said}
 pub record Hears (login : Login) (k : Kind) (p : List ℕ) (old new : Progress) : Type 0 where
   pub context : new.context ≡ context_after old.context k
   pub columns : new.columns.items ≡ described_after old.columns.items k p
-  pub number : new.number ≡ number_next login k p old.number
+  pub number : new.number ≡ number_next login old.secret k p old.number
   pub packets : new.packets.items ≡ old.packets.items ++ record { kind = k; payload = p } ∷ []
-  pub sent : new.sent ≡ old.sent ++ said login k p old.number
+  pub sent : new.sent ≡ old.sent ++ said login old.secret k p old.number
+  pub secret : new.secret ≡ old.secret
 
 -- The bytes begin with the payload that was found, and its span ends after it.
 pub record InFront (n limit : ℕ) (bytes : List ℕ) (framed : FramedPayload) : Type 0 where
@@ -61,3 +62,4 @@ pub record HeardNone (bytes : List ℕ) (old new : Progress) : Type 0 where
   pub number : new.number ≡ old.number
   pub packets : new.packets.items ≡ old.packets.items
   pub sent : new.sent ≡ old.sent
+  pub secret : new.secret ≡ old.secret

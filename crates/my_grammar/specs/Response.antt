@@ -1,5 +1,5 @@
 -- The answer to a server's greeting. MySQL client/server protocol, "Connection Phase Packets": Protocol::HandshakeResponse41.
-use Rattle.std.specs.Prelude.{ℕ, ◌==◌, ◌&&◌, ◌||◌, nat_le, nat_lt, List, [], Option, Some, None, codes, unwrap_or, if◌then◌else◌}
+use Rattle.std.specs.Prelude.{ℕ, ◌==◌, ◌&&◌, ◌||◌, nat_le, nat_lt, List, [], Option, Some, None, unwrap_or, if◌then◌else◌}
 use Rattle.my_flags.specs.Sets.{intersection}
 use Rattle.my_handshake.specs.declared.greeting.Greeting.{Greeting}
 use Rattle.my_handshake.specs.declared.version.ServerVersion.{ServerVersion}
@@ -8,7 +8,9 @@ use Rattle.my_handshake.specs.Greeting.{greeting_at}
 use Rattle.my_handshake.specs.Version.{version_of}
 use Rattle.my_handshake.specs.Login.{response_bytes}
 use Rattle.my_grammar.specs.declared.login.Login.{Login}
-use Rattle.my_grammar.specs.Scramble.{native_answer}
+use Rattle.my_auth.specs.Plugins.{challenge_plugin, plugin_name}
+use Rattle.my_grammar.specs.Kinds.{is_caching}
+use Rattle.my_grammar.specs.Scramble.{password_answer}
 
 -- utf8mb4_general_ci, which servers know from version 5.5.3 on; else utf8_general_ci
 abbrev pub charset_of : ServerVersion → ℕ
@@ -23,9 +25,9 @@ response_to login g = record {
   charset = charset_of (version_of g.version);
   extended = record { 0 = 0 };
   user = unwrap_or login.user [];
-  scramble = native_answer login.password g.nonce;
+  scramble = password_answer (is_caching g.plugin) login.password g.nonce;
   database = unwrap_or login.database [];
-  plugin = codes "mysql_native_password";
+  plugin = plugin_name (challenge_plugin (is_caching g.plugin));
   attributes = login.attributes;
 }
 

@@ -1,9 +1,8 @@
--- The answer to a server's nonce that proves that the client knows the password. MySQL client/server protocol, "Authentication Methods",
--- Secure Password Authentication (mysql_native_password).
-use Rattle.std.specs.Prelude.{ℕ, List, [], Option, unwrap_or}
-use Rattle.my_auth.specs.declared.plugin.AuthPlugin.TheVariants.{Native}
+-- The answer to a server's nonce that proves that the client knows the password.
+use Rattle.std.specs.Prelude.{ℕ, List, [], Option, Bool, unwrap_or}
+use Rattle.my_auth.specs.Plugins.{challenge_plugin}
 use Rattle.my_auth.specs.Scrambles.{answer}
 
--- The answer; an empty password and none have an empty answer.
-abbrev pub native_answer : Option (List ℕ) → List ℕ → List ℕ
-native_answer password nonce = answer Native (unwrap_or password []) nonce
+-- by `caching_sha2_password` or by the native plugin; an empty password and none have an empty answer
+abbrev pub password_answer : Bool → Option (List ℕ) → List ℕ → List ℕ
+password_answer caching password nonce = answer (challenge_plugin caching) (unwrap_or password []) nonce

@@ -1,38 +1,44 @@
 -- An exchange as it was read: a client's command with the server's payloads so far, or the opening of a connection, which begins with
 -- the server. MySQL client/server protocol, "Connection Phase" and "Command Phase". One running sequence id goes over the packets of both
 -- sides, from 0 on, anew from each command of the client on.
-use Rattle.std.specs.Prelude.{◌≡◌, ℕ, ◌≤◌, List, [], ◌∷◌, ◌++◌, length, false}
+use Rattle.std.specs.Prelude.{◌≡◌, ℕ, ◌≤◌, List, [], ◌∷◌, ◌++◌, length, Option, Some, None, false, unwrap_or}
 use Rattle.std.specs.List.{AllByRecursion, flat_map}
 use Rattle.my_flags.specs.declared.flags.CapabilityFlags.{CapabilityFlags}
 use Rattle.my_flags.specs.Sets.{deprecates_eof, intersection}
 use Rattle.my_frame.specs.declared.limits.TheConstants.{DEFAULT_MAX_ALLOWED_PACKET}
 use Rattle.my_frame.specs.Chunks.{chunks, number_after_payload}
+use Rattle.my_auth.specs.declared.chain.AuthStand.{AuthStand}
+use Rattle.my_auth.specs.Chain.{after_ask, first_stand, reply_to}
+use Rattle.my_auth.specs.Plugins.{challenge_plugin}
 use Rattle.my_grammar.specs.declared.login.Login.{Login}
 use Rattle.my_reply.specs.declared.column.Column.{Column}
 use Rattle.my_grammar.specs.declared.spot.RowFormat.TheVariants.{Text}
+use Rattle.my_grammar.specs.declared.spot.Offer.{Offer}
+use Rattle.my_grammar.specs.declared.spot.Spot.{Spot}
 use Rattle.my_grammar.specs.declared.spot.Spot.TheVariants as spots
 use Rattle.my_grammar.specs.declared.spot.Kind.{Kind}
 use Rattle.my_grammar.specs.declared.spot.Kind.TheVariants as kinds
 use Rattle.my_grammar.specs.declared.spot.Terms.{Terms}
 use Rattle.my_grammar.specs.declared.spot.Context.{Context}
 use Rattle.my_grammar.specs.Contexts.{is_bad}
-use Rattle.my_grammar.specs.Kinds.{greeting_kind, single_kind}
+use Rattle.my_grammar.specs.Kinds.{auth_kind, greeting_kind, single_kind}
 use Rattle.my_grammar.specs.Sets.{Asking, ByText, ByStatement, Sets, NoSets, Packet, asking_in, packets_in, context_in, described_in}
 use Rattle.my_grammar.specs.FitSets.{FitSets}
 use Rattle.my_grammar.specs.Prepares.{Reply, Unanswered, packets_in_reply, context_in_reply}
 use Rattle.my_grammar.specs.FitReplies.{FitReply}
 use Rattle.my_grammar.specs.Response.{response}
 
--- Start: a connection before the greeting; Unwelcome: an ERR in its place; Greeted: the greeting and the client's response;
--- Settled: what the server said to that. Asked: a simple command; Replied: with its OK or ERR. Queried: a query, or a statement
--- that is executed, with its sets. Preparing: a statement to prepare with its reply. Silent: a command without a reply.
+-- Start: a connection before the greeting; Unwelcome: an ERR in its place; Greeted: the greeting, the client's response and the chain
+-- after it, the newest payload first. Asked: a simple command; Replied: with its OK or ERR. Changing: a change of user with its chain,
+-- where the client's password is `secret` and `stand` is where the chain begins. Queried: a query, or a statement that is executed,
+-- with its sets. Preparing: a statement to prepare with its reply. Silent: a command without a reply.
 pub data Talk : Type 0 where
   Start : (login : Login) → Talk
   Unwelcome : (login : Login) (p : List ℕ) → Talk
-  Greeted : (login : Login) (p : List ℕ) (capabilities : CapabilityFlags) → Talk
-  Settled : (login : Login) (p : List ℕ) (capabilities : CapabilityFlags) (last : List ℕ) (kind : Kind) → Talk
+  Greeted : (login : Login) (p : List ℕ) (offer : Offer) (chain : List Packet) → Talk
   Asked : (terms : Terms) (command : List ℕ) → Talk
   Replied : (terms : Terms) (command : List ℕ) (last : List ℕ) (kind : Kind) → Talk
+  Changing : (terms : Terms) (secret : List ℕ) (stand : AuthStand) (command : List ℕ) (chain : List Packet) → Talk
   Queried : (terms : Terms) (command : List ℕ) (sets : Sets) → Talk
   Preparing : (terms : Terms) (command : List ℕ) (reply : Reply) → Talk
   Silent : (terms : Terms) (command : List ℕ) → Talk
@@ -48,12 +54,44 @@ start_terms login = record { kept = login.capabilities; limit = default_limit }
 abbrev pub greeted_terms : Login → CapabilityFlags → Terms
 greeted_terms login capabilities = record { kept = intersection login.capabilities capabilities; limit = default_limit }
 
+-- where a chain stands after a payload of this kind; none where it is over
+abbrev pub stand_next : Kind → Option AuthStand → Option AuthStand
+stand_next (kinds.Asks ask) (Some stand) = Some (after_ask stand ask)
+stand_next k stand = None
+
+-- where a chain stands after these payloads
+abbrev pub stand_in : AuthStand → List Packet → Option AuthStand
+stand_in first [] = Some first
+stand_in first (packet ∷ chain) = stand_next packet.kind (stand_in first chain)
+
+abbrev pub chain_spot : Option AuthStand → Spot
+chain_spot None = spots.Idle
+chain_spot (Some stand) = spots.Authentication stand
+
+-- what a payload is where a chain stands so
+abbrev pub chain_kind : Option AuthStand → List ℕ → Kind
+chain_kind None p = kinds.Bad
+chain_kind (Some stand) p = auth_kind stand p
+
+-- each payload of a chain fits where the chain stands then
+abbrev pub FitChain : AuthStand → List Packet → Type 0
+FitChain first [] = Unit {0}
+FitChain first (packet ∷ chain) =
+    FitChain first chain × (chain_kind (stand_in first chain) packet.payload ≡ packet.kind) × (is_bad packet.kind ≡ false)
+
+-- the chain after a greeting begins with the client's response
+abbrev pub greeted_stand : Login → Offer → AuthStand
+greeted_stand login offer = first_stand login.rules (challenge_plugin offer.caching)
+
+abbrev pub password_of : Login → List ℕ
+password_of login = unwrap_or login.password []
+
 -- the server's payloads with what they are, the newest first: facts of an exchange are folds over them
 abbrev pub packets_of : Talk → List Packet
 packets_of (Unwelcome login p) = record { kind = kinds.Failed; payload = p } ∷ []
-packets_of (Greeted login p capabilities) = record { kind = kinds.Greets capabilities; payload = p } ∷ []
-packets_of (Settled login p capabilities last kind) = record { kind = kind; payload = last } ∷ record { kind = kinds.Greets capabilities; payload = p } ∷ []
+packets_of (Greeted login p offer chain) = chain ++ record { kind = kinds.Greets offer; payload = p } ∷ []
 packets_of (Replied terms c last kind) = record { kind = kind; payload = last } ∷ []
+packets_of (Changing terms secret stand c chain) = chain
 packets_of (Queried terms c sets) = packets_in sets
 packets_of (Preparing terms c reply) = packets_in_reply reply
 packets_of _ = []
@@ -75,6 +113,26 @@ abbrev pub sent_ahead : List (List ℕ) → List Turn → List Turn
 sent_ahead [] others = others
 sent_ahead (p ∷ ps) others = sent_ahead ps (Command p ∷ others)
 
+-- what the client answers at once to a payload of this kind in a chain, if anything
+abbrev pub answers : (secret : List ℕ) → Kind → List ℕ → Option (List ℕ)
+answers secret (kinds.Asks ask) p = reply_to secret ask p
+answers secret k p = None
+
+-- and to a payload anywhere: its response to a greeting, too
+abbrev pub says : Login → (secret : List ℕ) → Kind → List ℕ → Option (List ℕ)
+says login secret (kinds.Greets offer) p = Some (response login p)
+says login secret (kinds.Asks ask) p = reply_to secret ask p
+says login secret k p = None
+
+abbrev pub client_turns : Option (List ℕ) → List Turn
+client_turns None = []
+client_turns (Some p) = Client p ∷ []
+
+-- the turns of a chain after other turns, where the client's password is this
+abbrev pub chained : (secret : List ℕ) → List Packet → List Turn → List Turn
+chained secret [] others = others
+chained secret (packet ∷ chain) others = client_turns (answers secret packet.kind packet.payload) ++ Server packet.payload ∷ chained secret chain others
+
 -- the client's turns of a command that sets answer
 abbrev pub commands_by : List ℕ → Asking → List Turn
 commands_by c ByText = Client c ∷ []
@@ -84,10 +142,10 @@ commands_by c (ByStatement ahead known) = Command c ∷ sent_ahead ahead []
 abbrev pub turns : Talk → List Turn
 turns (Start login) = []
 turns (Unwelcome login p) = Server p ∷ []
-turns (Greeted login p capabilities) = Client (response login p) ∷ Server p ∷ []
-turns (Settled login p capabilities last kind) = Server last ∷ Client (response login p) ∷ Server p ∷ []
+turns (Greeted login p offer chain) = chained (password_of login) chain (Client (response login p) ∷ Server p ∷ [])
 turns (Asked terms c) = Client c ∷ []
 turns (Replied terms c last kind) = Server last ∷ Client c ∷ []
+turns (Changing terms secret stand c chain) = chained secret chain (Client c ∷ [])
 turns (Queried terms c sets) = served (packets_in sets) (commands_by c (asking_in sets))
 turns (Preparing terms c reply) = served (packets_in_reply reply) (Client c ∷ [])
 turns (Silent terms c) = Client c ∷ []
@@ -120,6 +178,7 @@ commands_with c (ByStatement ahead known) = ahead ++ c ∷ []
 abbrev pub commands_in : Talk → List (List ℕ)
 commands_in (Asked terms c) = c ∷ []
 commands_in (Replied terms c last kind) = c ∷ []
+commands_in (Changing terms secret stand c chain) = c ∷ []
 commands_in (Queried terms c sets) = commands_with c (asking_in sets)
 commands_in (Preparing terms c reply) = c ∷ []
 commands_in (Silent terms c) = c ∷ []
@@ -131,12 +190,17 @@ commands_bytes ps = flat_map (λ p. chunks p 0) ps
 
 -- the context of the next payload
 abbrev pub context_of : Talk → Context
-context_of (Start login) = record { spot = spots.Greeting; rows = Text; columns = 0; terms = start_terms login }
+context_of (Start login) = record { spot = spots.Greeting login.rules; rows = Text; columns = 0; terms = start_terms login }
 context_of (Unwelcome login p) = record { spot = spots.Idle; rows = Text; columns = 0; terms = start_terms login }
-context_of (Greeted login p capabilities) = record { spot = spots.Authentication; rows = Text; columns = 0; terms = greeted_terms login capabilities }
-context_of (Settled login p capabilities last kind) = record { spot = spots.Idle; rows = Text; columns = 0; terms = greeted_terms login capabilities }
+context_of (Greeted login p offer chain) = record {
+  spot = chain_spot (stand_in (greeted_stand login offer) chain);
+  rows = Text;
+  columns = 0;
+  terms = greeted_terms login offer.capabilities;
+}
 context_of (Asked terms c) = record { spot = spots.Single; rows = Text; columns = 0; terms = terms }
 context_of (Replied terms c last kind) = record { spot = spots.Idle; rows = Text; columns = 0; terms = terms }
+context_of (Changing terms secret stand c chain) = record { spot = chain_spot (stand_in stand chain); rows = Text; columns = 0; terms = terms }
 context_of (Queried terms c sets) = context_in terms sets
 context_of (Preparing terms c reply) = context_in_reply terms reply
 context_of (Silent terms c) = record { spot = spots.Idle; rows = Text; columns = 0; terms = terms }
@@ -149,9 +213,9 @@ described _ = []
 -- each payload is one that fits in its place
 abbrev pub FitKinds : Talk → Type 0
 FitKinds (Unwelcome login p) = greeting_kind p ≡ kinds.Failed
-FitKinds (Greeted login p capabilities) = greeting_kind p ≡ kinds.Greets capabilities
-FitKinds (Settled login p capabilities last kind) = (greeting_kind p ≡ kinds.Greets capabilities) × (single_kind last ≡ kind) × (is_bad kind ≡ false)
+FitKinds (Greeted login p offer chain) = (greeting_kind p ≡ kinds.Greets offer) × FitChain (greeted_stand login offer) chain
 FitKinds (Replied terms c last kind) = (single_kind last ≡ kind) × (is_bad kind ≡ false)
+FitKinds (Changing terms secret stand c chain) = FitChain stand chain
 FitKinds (Queried terms c sets) = FitSets (deprecates_eof terms.kept) sets
 FitKinds (Preparing terms c reply) = FitReply (deprecates_eof terms.kept) reply
 FitKinds _ = Unit {0}
@@ -160,6 +224,7 @@ FitKinds _ = Unit {0}
 abbrev pub limit_of : Talk → ℕ
 limit_of (Asked terms c) = terms.limit
 limit_of (Replied terms c last kind) = terms.limit
+limit_of (Changing terms secret stand c chain) = terms.limit
 limit_of (Queried terms c sets) = terms.limit
 limit_of (Preparing terms c reply) = terms.limit
 limit_of (Silent terms c) = terms.limit
@@ -174,10 +239,10 @@ pub record Fits (t : Talk) : Type 0 where
 abbrev pub origin : Talk → Talk
 origin (Start login) = Start login
 origin (Unwelcome login p) = Start login
-origin (Greeted login p capabilities) = Start login
-origin (Settled login p capabilities last kind) = Start login
+origin (Greeted login p offer chain) = Start login
 origin (Asked terms c) = Asked terms c
 origin (Replied terms c last kind) = Asked terms c
+origin (Changing terms secret stand c chain) = Changing terms secret stand c []
 origin (Queried terms c sets) = Queried terms c (NoSets (asking_in sets))
 origin (Preparing terms c reply) = Preparing terms c Unanswered
 origin (Silent terms c) = Silent terms c
@@ -186,6 +251,13 @@ origin (Silent terms c) = Silent terms c
 abbrev pub login_in : Login → Talk → Login
 login_in any (Start login) = login
 login_in any (Unwelcome login p) = login
-login_in any (Greeted login p capabilities) = login
-login_in any (Settled login p capabilities last kind) = login
+login_in any (Greeted login p offer chain) = login
 login_in any _ = any
+
+-- the password by which the client answers in the exchange's chain; none in others
+abbrev pub secret_in : Talk → List ℕ
+secret_in (Start login) = password_of login
+secret_in (Unwelcome login p) = password_of login
+secret_in (Greeted login p offer chain) = password_of login
+secret_in (Changing terms secret stand c chain) = secret
+secret_in _ = []

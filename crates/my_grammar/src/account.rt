@@ -5,7 +5,8 @@ ghost use Rattle.my_command.specs.Client.Packet.{PartsFit};
 ghost use Rattle.my_grammar.specs.Account.{account_of, change_to};
 
 use crate::login::{Login, charset_for, text_or_none};
-use crate::scramble::native_answer;
+use crate::scramble::password_answer;
+use my_auth::AuthPlugin;
 use my_command::ClientPacket;
 use my_flags::CapabilityFlags;
 use my_frame::{Blob, Copied, NoMemory};
@@ -44,18 +45,19 @@ impl Account {
     }
 }
 
-/// The command that changes to this account, on a connection with these capabilities of both sides, to a server that greeted
-/// with this version and nonce.
+/// The command that changes to this account, on a connection with these capabilities of both sides, to a server of this
+/// version whose last challenge was this nonce, for `caching_sha2_password` or for the native plugin.
 pub fn change_packet(
     alloc: Global,
     login: &Login,
     kept: CapabilityFlags,
     version: &[u8],
+    caching: bool,
     nonce: &[u8],
     account: &Account,
 ) -> Result<ClientPacket, NoMemory>
     ensures value { IfOk result (λ packet. packet ≡
-        ClientPacket.ChangeUser (change_to login.now kept version.now nonce.now account.now)) }
+        ClientPacket.ChangeUser (change_to login.now kept version.now caching nonce.now account.now)) }
     ensures fits { IfOk result (λ packet. PartsFit packet) }
 {
     let attributes = if kept.sends_connect_attrs() {
@@ -65,10 +67,10 @@ pub fn change_packet(
     };
     Ok(ClientPacket::ChangeUser(ChangeUser {
         user: text_or_none(alloc, &account.user)?,
-        scramble: native_answer(alloc, &account.password, nonce)?,
+        scramble: password_answer(alloc, caching, &account.password, nonce)?,
         database: text_or_none(alloc, &account.database)?,
         charset: u16::from(charset_for(server_version(version))),
-        plugin: Blob::from_slice(alloc, b"mysql_native_password")?,
+        plugin: Blob::from_slice(alloc, AuthPlugin::of_challenge(caching).name())?,
         attributes,
     }))
 }

@@ -2,7 +2,7 @@
 
 ghost use Rattle.std.specs.Prelude.{◌≡◌, is_some, true, false};
 ghost use Rattle.my_flags.specs.Sets.{deprecates_eof};
-ghost use Rattle.my_grammar.specs.Kinds.{cells_at, cells_kind, columns_end_kind, count_kind, described_kind, end_kind, failed_kind, good_kind, greeting_kind, greets_kind, head_kind, is_caching, kind_there, offer_kind, or_else, prepare_kind, prepared_kind, row_kind, single_kind};
+ghost use Rattle.my_grammar.specs.Kinds.{auth_kind, cells_at, cells_kind, columns_end_kind, count_kind, described_kind, end_kind, failed_kind, good_kind, greeting_kind, greets_kind, head_kind, is_caching, kind_there, offer_kind, or_else, prepare_kind, prepared_kind, row_kind, single_kind};
 ghost use Rattle.my_reply.specs.ColumnCount.{column_count_at};
 ghost use Rattle.my_reply.specs.Column.{column_at};
 ghost use Rattle.my_reply.specs.ErrPacket.{err_at};
@@ -10,7 +10,8 @@ ghost use Rattle.my_handshake.specs.Greeting.{greeting_at};
 ghost use Rattle.my_reply.specs.OkPacket.{ok_at};
 ghost use Rattle.my_reply.specs.Replies.{prepare_ok_at};
 
-use crate::spot::{Context, Kind, RowFormat, Spot};
+use crate::spot::{Context, Kind, Offer, RowFormat, Spot};
+use my_auth::{AuthMove, AuthStand};
 use my_flags::CapabilityFlags;
 use my_handshake::greeting_offer;
 use my_reply::glance::{end_ok_status, is_column, is_err, ok_status};
@@ -37,7 +38,8 @@ fn first_of(first: Kind, second: Kind) -> Kind
     }
 }
 
-fn is_caching(plugin: &[u8]) -> bool
+/// Whether a plugin's name is `caching_sha2_password`.
+pub(crate) fn is_caching(plugin: &[u8]) -> bool
     ensures { result ≡ is_caching plugin.now }
 {
     plugin == b"caching_sha2_password".as_slice()
@@ -46,8 +48,11 @@ fn is_caching(plugin: &[u8]) -> bool
 fn offer(capabilities: CapabilityFlags, plugin: &[u8]) -> Kind
     ensures { result ≡ offer_kind capabilities plugin.now }
 {
-    if capabilities.deprecates_eof() && !is_caching(plugin) {
-        Kind::Greets(capabilities)
+    if capabilities.deprecates_eof() {
+        Kind::Greets(Offer {
+            capabilities,
+            caching: is_caching(plugin),
+        })
     } else {
         Kind::Bad
     }
@@ -149,6 +154,17 @@ fn single(payload: &[u8]) -> Kind
     first_of(good(payload), failed(payload, false))
 }
 
+// A payload of a chain in which the client shows who it is.
+fn authentication(stand: AuthStand, payload: &[u8]) -> Kind
+    ensures { result ≡ auth_kind stand payload.now }
+{
+    match stand.read(payload) {
+        AuthMove::Over => single(payload),
+        AuthMove::Ask(ask) => Kind::Asks(ask),
+        AuthMove::Refuse(_) => Kind::Bad,
+    }
+}
+
 fn head(payload: &[u8]) -> Kind
     ensures { result ≡ head_kind payload.now }
 {
@@ -199,8 +215,9 @@ pub fn kind_at(context: Context, columns: &[Column], payload: &[u8]) -> Kind
 {
     match context.spot {
         Spot::Idle => Kind::Bad,
-        Spot::Greeting => greeting(payload),
-        Spot::Authentication | Spot::Single => single(payload),
+        Spot::Greeting(_) => greeting(payload),
+        Spot::Authentication(stand) => authentication(stand, payload),
+        Spot::Single => single(payload),
         Spot::Head | Spot::Further => head(payload),
         Spot::Columns(_) => described(Kind::Column, payload),
         Spot::ColumnsEnd | Spot::ParametersEnd(_) | Spot::FieldsEnd => done(payload),

@@ -10,6 +10,7 @@ mod login;
 mod packet;
 mod progress;
 mod queue;
+mod says;
 mod scramble;
 mod spot;
 
@@ -20,5 +21,6 @@ pub use login::{Login, login_response};
 pub use packet::Packet;
 pub use progress::{Opening, Progress};
 pub use queue::Queue;
-pub use scramble::native_answer;
-pub use spot::{Context, Kind, RowFormat, Spot, Terms};
+pub use says::says;
+pub use scramble::password_answer;
+pub use spot::{Context, Kind, Offer, RowFormat, Spot, Terms};

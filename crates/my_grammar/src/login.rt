@@ -4,7 +4,9 @@ ghost use Rattle.std.specs.Prelude.{◌≡◌, ◌≤◌, [], IfOk, length, unwr
 ghost use Rattle.my_handshake.specs.Login.{response_bytes};
 ghost use Rattle.my_grammar.specs.Response.{charset_of, response, response_to};
 
-use crate::scramble::native_answer;
+use crate::kinds::is_caching;
+use crate::scramble::password_answer;
+use my_auth::{AuthPlugin, AuthRules};
 use my_command::{ClientPacket, write_client};
 use my_flags::{CapabilityFlags, MariadbCapabilities};
 use my_frame::{Blob, Copied, Listed, NoMemory, ReadError};
@@ -35,6 +37,8 @@ pub struct Login {
     pub setup: Listed<Blob>,
     /// How many prepared statements are kept, at most 65,535.
     pub statements: u64,
+    /// What the client may answer where a server asks for more than its response.
+    pub rules: AuthRules,
 }
 
 impl Login {
@@ -54,6 +58,7 @@ impl Login {
             init: self.init.copy(alloc)?,
             setup: self.setup.copy(alloc)?,
             statements: self.statements,
+            rules: self.rules,
         })
     }
 }
@@ -91,7 +96,8 @@ fn response_to(
     ensures value { IfOk result (λ packet. packet ≡ response_to login.now greeting.now) }
     ensures short { IfOk result (λ packet. length packet.scramble ≤ 32) }
 {
-    let scramble = native_answer(alloc, &login.password, greeting.nonce.as_slice())?;
+    let caching = is_caching(greeting.plugin.as_slice());
+    let scramble = password_answer(alloc, caching, &login.password, greeting.nonce.as_slice())?;
     Ok(HandshakeResponse {
         capabilities: login.capabilities.intersection(greeting.capabilities),
         max_packet: login.max_packet,
@@ -100,7 +106,7 @@ fn response_to(
         user: text_or_none(alloc, &login.user)?,
         scramble,
         database: text_or_none(alloc, &login.database)?,
-        plugin: Blob::from_slice(alloc, b"mysql_native_password")?,
+        plugin: Blob::from_slice(alloc, AuthPlugin::of_challenge(caching).name())?,
         attributes: login.attributes.copy(alloc)?,
     })
 }

@@ -8,14 +8,16 @@ ghost use Rattle.my_grammar.specs.Reading.{HeardNone, HeardOne, Hears, InFront, 
 ghost use Rattle.my_grammar.specs.Contexts.{is_bad};
 ghost use Rattle.my_frame.specs.Front.{front_at};
 ghost use Rattle.my_grammar.specs.Sets.{ByStatement, NoSets, column_list};
-ghost use Rattle.my_grammar.specs.Talk.{Queried, commands_bytes};
+ghost use Rattle.my_grammar.specs.Talk.{Changing, Queried, commands_bytes};
 ghost use Rattle.my_reply.specs.Column.{column_at};
 
 use crate::kinds::kind_at;
-use crate::login::{Login, login_response};
+use crate::login::{Login, text_or_none};
 use crate::packet::Packet;
 use crate::queue::Queue;
+use crate::says::says;
 use crate::spot::{Context, Kind, RowFormat, Spot, Terms};
+use my_auth::AuthStand;
 use my_frame::{Blob, CodecError, FramedPayload, Listed, NoMemory, ReadError, payload_in_front};
 use my_reply::{Column, read_column};
 use std::alloc::Global;
@@ -27,6 +29,13 @@ pub enum Opening {
     /// A command that one OK or ERR answers.
     Simple {
         terms: Terms,
+        command: Blob,
+    },
+    /// A change of user to one with the password `secret`, whose chain begins so.
+    Change {
+        terms: Terms,
+        secret: Blob,
+        stand: AuthStand,
         command: Blob,
     },
     /// A command that sets answer.
@@ -61,6 +70,17 @@ impl Opening {
             Opening::Connect => Ok(Opening::Connect),
             Opening::Simple { terms, command } => Ok(Opening::Simple {
                 terms: *terms,
+                command: command.copy(alloc)?,
+            }),
+            Opening::Change {
+                terms,
+                secret,
+                stand,
+                command,
+            } => Ok(Opening::Change {
+                terms: *terms,
+                secret: secret.copy(alloc)?,
+                stand: *stand,
                 command: command.copy(alloc)?,
             }),
             Opening::Query { terms, command } => Ok(Opening::Query {
@@ -100,6 +120,8 @@ pub struct Progress {
     pub packets: Vec<Packet>,
     /// The bytes that the client sent.
     pub sent: Queue,
+    /// The password by which the client answers in the exchange's chain, empty in others.
+    pub secret: Blob,
 }
 
 // The bytes of payloads that are sent ahead of a command, of each from the sequence id 0.
@@ -124,7 +146,7 @@ fn asked_after(
 ) -> Result<Progress, NoMemory>
     ensures { IfOk result (λ p. (p.context ≡ record { spot = spot; rows = rows; columns = 0; terms = terms })
         × (p.columns.items ≡ []) × (p.number ≡ number_after_payload command.now 0) × (p.packets.items ≡ [])
-        × (p.sent ≡ sent ++ chunks command.now 0)) }
+        × (p.sent ≡ sent ++ chunks command.now 0) × (p.secret ≡ [])) }
 {
     let number = sent.push_payload(command, 0)?;
     let context = Context {
@@ -139,6 +161,7 @@ fn asked_after(
         number,
         packets: Vec::new(alloc),
         sent,
+        secret: Blob::new(alloc),
     })
 }
 
@@ -146,7 +169,7 @@ fn asked_after(
 fn asked(alloc: Global, spot: Spot, terms: Terms, command: &[u8]) -> Result<Progress, NoMemory>
     ensures { IfOk result (λ p. (p.context ≡ record { spot = spot; rows = RowFormat.Text; columns = 0; terms = terms })
         × (p.columns.items ≡ []) × (p.number ≡ number_after_payload command.now 0) × (p.packets.items ≡ [])
-        × (p.sent ≡ [] ++ chunks command.now 0)) }
+        × (p.sent ≡ [] ++ chunks command.now 0) × (p.secret ≡ [])) }
 {
     asked_after(
         alloc,
@@ -156,6 +179,22 @@ fn asked(alloc: Global, spot: Spot, terms: Terms, command: &[u8]) -> Result<Prog
         terms,
         command,
     )
+}
+
+// A change of user.
+fn changing(
+    alloc: Global,
+    terms: Terms,
+    secret: &Blob,
+    stand: AuthStand,
+    command: &[u8],
+) -> Result<Progress, NoMemory>
+    ensures { IfOk result (λ p. IsAt (Changing terms secret.now stand command.now []) p) }
+{
+    let secret = secret.copy(alloc)?;
+    let mut begun = asked(alloc, Spot::Authentication(stand), terms, command)?;
+    begun.secret = secret;
+    Ok(begun)
 }
 
 // A statement that is executed, after parts of long values.
@@ -225,10 +264,17 @@ impl Progress {
                 number: 0,
                 packets: Vec::new(alloc),
                 sent: Queue::new(alloc),
+                secret: text_or_none(alloc, &login.password)?,
             }),
             Opening::Simple { terms, command } => {
                 asked(alloc, Spot::Single, *terms, command.as_slice())
             }
+            Opening::Change {
+                terms,
+                secret,
+                stand,
+                command,
+            } => changing(alloc, *terms, secret, *stand, command.as_slice()),
             Opening::Query { terms, command } => {
                 asked(alloc, Spot::Head, *terms, command.as_slice())
             }
@@ -246,7 +292,7 @@ impl Progress {
         }
     }
 
-    // What the client sends after a payload: its response to a greeting.
+    // What the client sends after a payload: its response to a greeting, or its answer in a chain.
     fn say(
         &mut self,
         alloc: Global,
@@ -256,19 +302,20 @@ impl Progress {
         next: u8,
     ) -> Result<(), NoMemory>
         requires { next ≡ number_after_payload payload.now self.old.number }
-        ensures sent { OnOk result (self.new.sent ≡ self.old.sent ++ said login.now kind payload.now self.old.number) }
-        ensures number { OnOk result (self.new.number ≡ number_next login.now kind payload.now self.old.number) }
+        ensures sent { OnOk result (self.new.sent
+            ≡ self.old.sent ++ said login.now self.old.secret kind payload.now self.old.number) }
+        ensures number { OnOk result (self.new.number
+            ≡ number_next login.now self.old.secret kind payload.now self.old.number) }
+        ensures secret { self.new.secret ≡ self.old.secret }
         ensures context { self.new.context ≡ self.old.context }
         ensures columns { self.new.columns.items ≡ self.old.columns.items }
         ensures packets { self.new.packets.items ≡ self.old.packets.items }
     {
-        match kind {
-            Kind::Greets(_) => {
-                let response = login_response(alloc, login, payload)?;
-                self.number = self.sent.push_payload(response.as_slice(), next)?;
-            }
-            _ => self.number = next,
-        }
+        let said = says(alloc, login, self.secret.as_slice(), kind, payload)?;
+        self.number = match said {
+            Some(said) => self.sent.push_payload(said.as_slice(), next)?,
+            None => next,
+        };
         Ok(())
     }
 
@@ -280,6 +327,7 @@ impl Progress {
         ensures number { self.new.number ≡ self.old.number }
         ensures packets { self.new.packets.items ≡ self.old.packets.items }
         ensures sent { self.new.sent ≡ self.old.sent }
+        ensures secret { self.new.secret ≡ self.old.secret }
     {
         match kind {
             Kind::Column => add_column(alloc, &mut self.columns, payload)?,

@@ -1,9 +1,10 @@
 //! The place of the reading in an exchange, and how it moves on with each payload.
 
 ghost use Rattle.std.specs.Prelude.{◌≡◌};
-ghost use Rattle.my_grammar.specs.Contexts.{after_column, after_columns, after_field, after_greeting, after_head, after_parameter, after_parameters, after_prepare, after_prepared, after_row, columns_after, context_after, more, spot_after, kept_after};
+ghost use Rattle.my_grammar.specs.Contexts.{after_column, after_authentication, after_columns, after_field, after_greeting, after_head, after_parameter, after_parameters, after_prepare, after_prepared, after_row, columns_after, context_after, more, spot_after, kept_after};
 
 use crate::login::Login;
+use my_auth::{AuthAsk, AuthPlugin, AuthRules, AuthStand};
 use my_flags::{CapabilityFlags, StatusFlags};
 use my_frame::limits::DEFAULT_MAX_ALLOWED_PACKET;
 
@@ -12,10 +13,10 @@ use my_frame::limits::DEFAULT_MAX_ALLOWED_PACKET;
 pub enum Spot {
     /// Nothing: the exchange is over, or has no reply.
     Idle,
-    /// The server's greeting, with which a connection begins.
-    Greeting,
-    /// The server's answer to the client's response to its greeting.
-    Authentication,
+    /// The server's greeting, with which a connection begins: then the client may answer by these rules.
+    Greeting(AuthRules),
+    /// The next payload of the chain in which a client shows who it is, which stands so.
+    Authentication(AuthStand),
     /// The one OK or ERR that answers a simple command.
     Single,
     /// The head of a response's first set.
@@ -49,11 +50,21 @@ pub enum RowFormat {
     Binary,
 }
 
+/// What a server offers in its greeting.
+#[derive(Clone, Copy, PartialEq, Eq)]
+pub struct Offer {
+    pub capabilities: CapabilityFlags,
+    /// Whether its nonce is to be answered by `caching_sha2_password`.
+    pub caching: bool,
+}
+
 /// What a payload is in its context.
 #[derive(Clone, Copy, PartialEq, Eq)]
 pub enum Kind {
-    /// A greeting, of a server with these capabilities.
-    Greets(CapabilityFlags),
+    /// A greeting, of a server that offers this.
+    Greets(Offer),
+    /// A request in a chain in which the client shows who it is.
+    Asks(AuthAsk),
     /// An OK with this status.
     Good(StatusFlags),
     /// An ERR.
@@ -127,11 +138,23 @@ fn at_column(ends_with_ok: bool, left: u16) -> Spot
     }
 }
 
-fn at_greeting(kind: Kind) -> Spot
-    ensures { result ≡ after_greeting kind }
+fn at_greeting(rules: AuthRules, kind: Kind) -> Spot
+    ensures { result ≡ after_greeting rules kind }
 {
     match kind {
-        Kind::Greets(_) => Spot::Authentication,
+        Kind::Greets(offer) => {
+            let plugin = AuthPlugin::of_challenge(offer.caching);
+            Spot::Authentication(AuthStand::first(rules, plugin))
+        }
+        _ => Spot::Idle,
+    }
+}
+
+fn at_authentication(stand: AuthStand, kind: Kind) -> Spot
+    ensures { result ≡ after_authentication stand kind }
+{
+    match kind {
+        Kind::Asks(ask) => Spot::Authentication(stand.after(ask)),
         _ => Spot::Idle,
     }
 }
@@ -219,8 +242,9 @@ fn next_spot(ends_with_ok: bool, spot: Spot, kind: Kind) -> Spot
     ensures { result ≡ spot_after ends_with_ok spot kind }
 {
     match spot {
-        Spot::Idle | Spot::Authentication | Spot::Single | Spot::FieldsEnd => Spot::Idle,
-        Spot::Greeting => at_greeting(kind),
+        Spot::Idle | Spot::Single | Spot::FieldsEnd => Spot::Idle,
+        Spot::Greeting(rules) => at_greeting(rules, kind),
+        Spot::Authentication(stand) => at_authentication(stand, kind),
         Spot::Head | Spot::Further => at_head(kind),
         Spot::Columns(left) => at_column(ends_with_ok, left),
         Spot::ColumnsEnd => Spot::Rows,
@@ -246,7 +270,7 @@ fn next_kept(kept: CapabilityFlags, kind: Kind) -> CapabilityFlags
     ensures { result ≡ kept_after kept kind }
 {
     match kind {
-        Kind::Greets(capabilities) => kept.intersection(capabilities),
+        Kind::Greets(offer) => kept.intersection(offer.capabilities),
         _ => kept,
     }
 }
@@ -259,7 +283,7 @@ impl Context {
         ensures { result ≡ context_of (Start login.now) }
     {
         Context {
-            spot: Spot::Greeting,
+            spot: Spot::Greeting(login.rules),
             rows: RowFormat::Text,
             columns: 0,
             terms: Terms {

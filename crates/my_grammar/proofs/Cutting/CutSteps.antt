@@ -13,7 +13,7 @@ use Rattle.my_grammar.specs.declared.cut.CutRest.TheVariants as rests
 use Rattle.my_grammar.specs.declared.cut.Found.{Found}
 use Rattle.my_grammar.specs.Contexts.{context_after, is_bad}
 use Rattle.my_grammar.specs.Kinds.{kind_there}
-use Rattle.my_grammar.specs.Talk.{Talk, Start, Unwelcome, Greeted, Settled, Asked, Replied, Queried, Preparing, Silent, Fits, Server, turns, number_of, client_bytes, packets_of, context_of, described, limit_of, login_in}
+use Rattle.my_grammar.specs.Talk.{Talk, Start, Unwelcome, Greeted, Asked, Replied, Changing, Queried, Preparing, Silent, Fits, Server, turns, number_of, client_bytes, packets_of, context_of, described, limit_of, login_in, secret_in}
 use Rattle.my_grammar.specs.declared.spot.Context.{Context}
 use Rattle.my_grammar.specs.Growth.{grow, replies, number_next, said, described_after, Grows, Reads}
 use Rattle.my_grammar.specs.Cut.{Read, Trailing, Cut, front_of, kind_of, read_from, is_idle, is_over, onto, cut, rest_of, rest_in_front}
@@ -28,10 +28,10 @@ use Rattle.my_grammar.proofs.Cutting.{reads_one, stops_reads_none}
 limit_is : (t : Talk) → (context_of t).terms.limit ≡ limit_of t
 limit_is (Start login) = refl
 limit_is (Unwelcome login p) = refl
-limit_is (Greeted login p c) = refl
-limit_is (Settled login p c last kind) = refl
+limit_is (Greeted login p offer chain) = refl
 limit_is (Asked terms c) = refl
 limit_is (Replied terms c last kind) = refl
+limit_is (Changing terms secret stand c chain) = refl
 limit_is (Queried terms c sets) = refl
 limit_is (Preparing terms c r) = refl
 limit_is (Silent terms c) = refl
@@ -47,6 +47,7 @@ pub record ReadSoFar (login : Login) (opening : Opening) (bytes : List ℕ) (p :
 opening_fits : (login : Login) (opening : Opening) → Fits (talk_of login opening)
 opening_fits login openings.Connect = record { kinds = tt; within = tt }
 opening_fits login (openings.Simple terms c) = record { kinds = tt; within = tt }
+opening_fits login (openings.Change terms secret stand c) = record { kinds = tt; within = tt }
 opening_fits login (openings.Query terms c) = record { kinds = tt; within = tt }
 opening_fits login (openings.Execute terms ahead c) = record { kinds = tt; within = tt }
 opening_fits login (openings.Prepare terms c) = record { kinds = tt; within = tt }
@@ -55,6 +56,7 @@ opening_fits login (openings.Silent terms c) = record { kinds = tt; within = tt 
 opening_login : (login : Login) (opening : Opening) → login_in login (talk_of login opening) ≡ login
 opening_login login openings.Connect = refl
 opening_login login (openings.Simple terms c) = refl
+opening_login login (openings.Change terms secret stand c) = refl
 opening_login login (openings.Query terms c) = refl
 opening_login login (openings.Execute terms ahead c) = refl
 opening_login login (openings.Prepare terms c) = refl
@@ -76,14 +78,16 @@ front_is t p bytes at = ap (λ n. front_at n p.context.terms.limit bytes) at.num
 -- a payload more
 grown_at : (login : Login) (t : Talk) (k : Kind) (q : List ℕ) (old new : Progress) → IsAt t old → Hears login k q old new → login_in login t ≡ login → Grows t k q → IsAt (grow k t q) new
 grown_at login t k q old new at h is g =
-    let r : Reads login k q (turns t) = reads login k q (turns t) in
-    let ts = g.turns_are login ∙ ap (λ l. replies l k q ++ Server q ∷ turns t) is in
+    let r : Reads login (secret_in t) k q (turns t) = reads login (secret_in t) k q (turns t) in
+    let ts = g.turns_are login ∙ ap (λ l. replies l (secret_in t) k q ++ Server q ∷ turns t) is in
     record {
       context = h.context ∙ ap (λ c. context_after c k) at.context ∙ sym g.context;
       columns = h.columns ∙ ap (λ cs. described_after cs k q) at.columns ∙ sym g.described_is;
-      number = h.number ∙ ap (λ n. number_next login k q n) at.number ∙ sym (ap number_of ts ∙ r.number);
+      number = h.number ∙ ap (λ s. number_next login s k q old.number) at.secret ∙ ap (λ n. number_next login (secret_in t) k q n) at.number ∙ sym (ap number_of ts ∙ r.number);
       packets = h.packets ∙ ap (λ ps. ps ++ record { kind = k; payload = q } ∷ []) at.packets ∙ sym (ap reverse g.packets_are ∙ reverse-append (record { kind = k; payload = q } ∷ []) (packets_of t));
-      sent = h.sent ∙ ap (λ bs. bs ++ said login k q old.number) at.sent ∙ ap (λ n. client_bytes (turns t) ++ said login k q n) at.number ∙ sym (ap client_bytes ts ∙ r.client);
+      sent = h.sent ∙ ap (λ bs. bs ++ said login old.secret k q old.number) at.sent ∙ ap (λ s. client_bytes (turns t) ++ said login s k q old.number) at.secret
+          ∙ ap (λ n. client_bytes (turns t) ++ said login (secret_in t) k q n) at.number ∙ sym (ap client_bytes ts ∙ r.client);
+      secret = h.secret ∙ at.secret ∙ sym g.secret_is;
     }
 
 pub read_one_more : (login : Login) (opening : Opening) (bytes rest after : List ℕ) (old new : Progress) (len : ℕ) → ReadSoFar login opening bytes old rest → HeardOne login rest old new len → after ≡ drop len rest → ReadSoFar login opening bytes new after
@@ -115,7 +119,7 @@ read_all login opening bytes rest old new w h =
     let t = w.talk in
     let stops : StopsAt t (front_of t rest) = stops_at t old.context old.columns.items (front_of t rest) w.at.context w.at.columns (subst (λ x. StopsHere old.context old.columns.items x) (front_is t old rest w.at) h.stops) in
     let whole : read_from (talk_of login opening) bytes ≡ record { talk = t; rest = rest } = w.reached ∙ stops_reads_none t rest stops in
-    let at : IsAt t new = record { context = h.context ∙ w.at.context; columns = h.columns ∙ w.at.columns; number = h.number ∙ w.at.number; packets = h.packets ∙ w.at.packets; sent = h.sent ∙ w.at.sent } in
+    let at : IsAt t new = record { context = h.context ∙ w.at.context; columns = h.columns ∙ w.at.columns; number = h.number ∙ w.at.number; packets = h.packets ∙ w.at.packets; sent = h.sent ∙ w.at.sent; secret = h.secret ∙ w.at.secret } in
     subst (λ (r : Read). IsReadTo r new rest) (sym whole) (record { at = at; rest_is = refl })
 
 -- exchanges in front of a cut

@@ -19,14 +19,15 @@ use Rattle.my_grammar.specs.declared.spot.RowFormat.{RowFormat}
 use Rattle.my_grammar.specs.declared.spot.Spot.{Spot}
 use Rattle.my_grammar.specs.declared.spot.Spot.TheVariants as spots
 use Rattle.my_grammar.specs.declared.spot.Kind.{Kind}
-use Rattle.my_grammar.specs.declared.spot.Kind.TheVariants.{Greets, Good, Failed, Count, Column, ColumnsDone, Row, End, Prepared, Parameter, Field, Bad}
+use Rattle.my_grammar.specs.declared.spot.Offer.{Offer}
+use Rattle.my_grammar.specs.declared.spot.Kind.TheVariants.{Greets, Asks, Good, Failed, Count, Column, ColumnsDone, Row, End, Prepared, Parameter, Field, Bad}
 use Rattle.my_grammar.specs.Contexts.{more, after_head, spot_after}
 use Rattle.my_grammar.specs.Kinds.{or_else, is_caching, good_kind, failed_kind, count_kind, greets_kind, described_kind, prepared_kind, done_kind, ended_kind, eof_kind, cells_at, cells_kind, greeting_kind, single_kind, head_kind, column_kind, columns_end_kind, end_kind, row_kind, prepare_kind, parameter_kind, field_kind, kind_by}
 use Rattle.my_grammar.specs.FitSets.{is_head}
 
 -- what may come in a place, as tests
 abbrev pub is_greeting_kind : Kind → Bool
-is_greeting_kind (Greets capabilities) = true
+is_greeting_kind (Greets offer) = true
 is_greeting_kind Failed = true
 is_greeting_kind Bad = true
 is_greeting_kind k = false
@@ -79,7 +80,8 @@ is_field_kind k = false
 
 -- what holds of both forms holds of the one that the payload has
 either : (P : Kind → Bool) (k l : Kind) → P k ≡ true → P l ≡ true → P (or_else k l) ≡ true
-either P (Greets capabilities) l a b = a
+either P (Greets offer) l a b = a
+either P (Asks ask) l a b = a
 either P (Good status) l a b = a
 either P Failed l a b = a
 either P (Count n) l a b = a
@@ -98,10 +100,9 @@ failed P bad is b p = elim (err_at b p) as (λ o. P (failed_kind o) ≡ true) [ 
 good : (P : Kind → Bool) → P Bad ≡ true → ((s : StatusFlags) → P (Good s) ≡ true) → (p : List ℕ) → P (good_kind (ok_at p)) ≡ true
 good P bad is p = elim (ok_at p) as (λ o. P (good_kind o) ≡ true) [ None ↦ bad | Some ok ↦ is ok.status ]
 
-offer_if : (t caching : Bool) (c : CapabilityFlags) → is_greeting_kind (cond t (cond caching Bad (Greets c)) Bad) ≡ true
-offer_if true true c = refl
-offer_if true false c = refl
-offer_if false caching c = refl
+offer_if : (t : Bool) (offer : Offer) → is_greeting_kind (cond t (Greets offer) Bad) ≡ true
+offer_if true offer = refl
+offer_if false offer = refl
 
 -- a count is no zero
 some : (p : List ℕ) (c : ColumnCount) → column_count_at false p ≡ Some c → leb 1 c.count ≡ true
@@ -121,7 +122,7 @@ counted p (Some c) e = some p c e
 pub known_greeting : (p : List ℕ) → is_greeting_kind (greeting_kind p) ≡ true
 known_greeting p =
     either is_greeting_kind (greets_kind (greeting_at p)) (failed_kind (err_at true p))
-    (elim (greeting_at p) as (λ o. is_greeting_kind (greets_kind o) ≡ true) [ None ↦ refl | Some g ↦ offer_if (deprecates_eof g.capabilities) (is_caching g.plugin) g.capabilities ])
+    (elim (greeting_at p) as (λ o. is_greeting_kind (greets_kind o) ≡ true) [ None ↦ refl | Some g ↦ offer_if (deprecates_eof g.capabilities) (record { capabilities = g.capabilities; caching = is_caching g.plugin }) ])
     (failed is_greeting_kind refl refl true p)
 
 pub known_single : (p : List ℕ) → is_single_kind (single_kind p) ≡ true
@@ -165,8 +166,8 @@ is_then P k l a e = subst (λ x. P x ≡ true) e a
 -- a head's place
 pub head_kind_is : (s : Spot) (f : RowFormat) (d : Bool) (n : ℕ) (cs : List ColumnPacket) (p : List ℕ) → is_head s ≡ true → kind_by s f d n cs p ≡ head_kind p
 head_kind_is spots.Idle f d n cs p h = cc
-head_kind_is spots.Greeting f d n cs p h = cc
-head_kind_is spots.Authentication f d n cs p h = cc
+head_kind_is (spots.Greeting rules) f d n cs p h = cc
+head_kind_is (spots.Authentication stand) f d n cs p h = cc
 head_kind_is spots.Single f d n cs p h = cc
 head_kind_is spots.Head f d n cs p h = refl
 head_kind_is spots.Further f d n cs p h = refl
@@ -181,8 +182,8 @@ head_kind_is spots.FieldsEnd f d n cs p h = cc
 
 pub after_head_is : (s : Spot) (d : Bool) (k : Kind) → is_head s ≡ true → after_head k ≡ spot_after d s k
 after_head_is spots.Idle d k h = cc
-after_head_is spots.Greeting d k h = cc
-after_head_is spots.Authentication d k h = cc
+after_head_is (spots.Greeting rules) d k h = cc
+after_head_is (spots.Authentication stand) d k h = cc
 after_head_is spots.Single d k h = cc
 after_head_is spots.Head d k h = refl
 after_head_is spots.Further d k h = refl

@@ -15,7 +15,7 @@ use Rattle.my_grammar.specs.declared.spot.Spot.TheVariants as spots
 use Rattle.my_grammar.specs.declared.spot.Kind.{Kind}
 use Rattle.my_grammar.specs.declared.spot.Kind.TheVariants.{Failed, ColumnsDone, Prepared, Parameter, Field}
 use Rattle.my_grammar.specs.Contexts.{after_parameters, spot_after, columns_after, is_bad}
-use Rattle.my_grammar.specs.Growth.{not_greets, described_after}
+use Rattle.my_grammar.specs.Growth.{is_calm, described_after}
 use Rattle.my_grammar.specs.Kinds.{or_else, described_kind, done_kind, failed_kind, prepared_kind, prepare_kind, parameter_kind, field_kind, columns_end_kind, kind_by}
 use Rattle.my_grammar.specs.FitSets.{IsClose}
 use Rattle.my_grammar.specs.Prepares.{PreparedHead, Described, Reply, Unanswered, Refused, InParameters, AfterParameters, InFields, AfterFields, Complete, described_packets, head_packet, packets_in_reply, spot_in_reply, open_part, closed_part, with_parameters, grow_reply}
@@ -29,7 +29,7 @@ pub record Grown (d : Bool) (r y : Reply) (s : Spot) (k : Kind) (p : List ℕ) :
   pub described : described_after [] k p ≡ []
   pub packets_are : packets_in_reply y ≡ record { kind = k; payload = p } ∷ packets_in_reply r
   pub fits : FitReply d y
-  pub other : not_greets k ≡ true
+  pub other : is_calm k ≡ true
 
 pub record GrowsReply (d : Bool) (r : Reply) (k : Kind) (p : List ℕ) : Type 0 where
   pub grown : Grown d r (grow_reply d k r p) (spot_after d (spot_in_reply r) k) k p

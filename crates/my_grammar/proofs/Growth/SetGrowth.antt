@@ -6,10 +6,10 @@ use Rattle.my_flags.specs.declared.flags.StatusFlags.{StatusFlags}
 use Rattle.my_grammar.specs.declared.spot.Spot.{Spot}
 use Rattle.my_grammar.specs.declared.spot.Spot.TheVariants as spots
 use Rattle.my_grammar.specs.declared.spot.Kind.{Kind}
-use Rattle.my_grammar.specs.declared.spot.Kind.TheVariants.{Greets, Good, Failed, Count, Column, ColumnsDone, Row, End, Prepared, Parameter, Field, Bad}
+use Rattle.my_grammar.specs.declared.spot.Kind.TheVariants.{Greets, Asks, Good, Failed, Count, Column, ColumnsDone, Row, End, Prepared, Parameter, Field, Bad}
 use Rattle.my_grammar.specs.declared.login.Login.{Login}
 use Rattle.my_grammar.specs.Contexts.{more, spot_after, columns_after, kept_after, is_bad}
-use Rattle.my_grammar.specs.Growth.{replies, not_greets, described_after}
+use Rattle.my_grammar.specs.Growth.{replies, is_calm, described_after}
 use Rattle.my_grammar.specs.Kinds.{head_kind, column_kind, columns_end_kind, row_kind, kind_by}
 use Rattle.my_grammar.specs.Sets.{SetHead, Sets, NoSets, Lone, Failed as FailedSet, Heading, Headed, Begun, Ended, Broken, Packet, each, at_most_one, head_packets, packets_in, spot_in, columns_in, asking_in, format_in, head_columns, described_in, with_column_of, with_error, grow_sets}
 use Rattle.my_grammar.specs.FitSets.{is_head, IsClose, IsHeading, FitSets}
@@ -23,7 +23,7 @@ pub record Grown (d : Bool) (x y : Sets) (s : Spot) (n : ℕ) (k : Kind) (p : Li
   pub described : described_in y ≡ described_after (described_in x) k p
   pub packets_are : packets_in y ≡ record { kind = k; payload = p } ∷ packets_in x
   pub fits : FitSets d y
-  pub other : not_greets k ≡ true
+  pub other : is_calm k ≡ true
 
 pub record GrowsSets (d : Bool) (x : Sets) (k : Kind) (p : List ℕ) : Type 0 where
   pub grown : Grown d x (grow_sets d k x p) (spot_after d (spot_in x) k) (columns_after (columns_in x) k) k p
@@ -44,6 +44,7 @@ one n t = grind (arith, nat_tests)
 
 at_head : (d : Bool) (x : Sets) (k : Kind) (p : List ℕ) → is_head (spot_in x) ≡ true → head_kind p ≡ k → is_head_kind k ≡ true → is_bad k ≡ false → FitSets d x → GrowsSets d x k p
 at_head d x (Greets c) p h e i b f = cc
+at_head d x (Asks ask) p h e i b f = cc
 at_head d x (Good status) p h e i b f = record { grown = record { other = refl; spot = after_head_is (spot_in x) d (Good status) h; columns = refl; asking = refl; described = refl; packets_are = refl; fits = (h, e, f) } }
 at_head d x Failed p h e i b f =
     let is = error_is x p h in
@@ -87,6 +88,7 @@ column_if d older head left p e f false t =
 
 at_column : (d : Bool) (older : Sets) (head : SetHead) (left : ℕ) (k : Kind) (p : List ℕ) → column_kind p ≡ k → is_column_kind k ≡ true → is_bad k ≡ false → FitSets d (Heading older head left) → GrowsSets d (Heading older head left) k p
 at_column d older head left (Greets c) p e i b f = cc
+at_column d older head left (Asks ask) p e i b f = cc
 at_column d older head left (Good status) p e i b f = cc
 at_column d older head left Failed p e i b f = cc
 at_column d older head left (Count n) p e i b f = cc
@@ -108,6 +110,7 @@ closed d older head p e f =
 
 at_close : (d : Bool) (older : Sets) (head : SetHead) (k : Kind) (p : List ℕ) → columns_end_kind p ≡ k → is_close_kind k ≡ true → is_bad k ≡ false → FitSets d (Headed older head) → GrowsSets d (Headed older head) k p
 at_close d older head (Greets c) p e i b f = cc
+at_close d older head (Asks ask) p e i b f = cc
 at_close d older head (Good status) p e i b f = cc
 at_close d older head Failed p e i b f = cc
 at_close d older head (Count n) p e i b f = cc
@@ -122,6 +125,7 @@ at_close d older head Bad p e i b f = cc
 
 at_row : (d : Bool) (older : Sets) (head : SetHead) (rows : List (List ℕ)) (k : Kind) (p : List ℕ) → row_kind (format_in older) d head.number (head_columns head) p ≡ k → is_row_kind k ≡ true → is_bad k ≡ false → FitSets d (Begun older head rows) → GrowsSets d (Begun older head rows) k p
 at_row d older head rows (Greets c) p e i b f = cc
+at_row d older head rows (Asks ask) p e i b f = cc
 at_row d older head rows (Good status) p e i b f = cc
 at_row d older head rows Failed p e i b f = record { grown = record { other = refl; spot = refl; columns = refl; asking = refl; described = refl; packets_are = refl; fits = (f.0, e, f.1) } }
 at_row d older head rows (Count n) p e i b f = cc
@@ -165,20 +169,21 @@ grows_sets d (Ended older head rows last status) k p e b f = at_more d (Ended ol
 grows_sets d (Broken older head rows last) k p e b f = absurd (none k e b)
 
 -- A kind that no greeting has.
-pub record NeverGreets (k : Kind) (p : List ℕ) : Type 0 where
+pub record IsCalm (k : Kind) (p : List ℕ) : Type 0 where
   pub kept : (n : CapabilityFlags) → kept_after n k ≡ n
-  pub silent : (login : Login) → replies login k p ≡ []
+  pub silent : (login : Login) (secret : List ℕ) → replies login secret k p ≡ []
 
-pub no_greeting : (k : Kind) (p : List ℕ) → not_greets k ≡ true → NeverGreets k p
-no_greeting (Greets c) p i = cc
-no_greeting (Good status) p i = record { kept = λ n. refl; silent = λ l. refl }
-no_greeting Failed p i = record { kept = λ n. refl; silent = λ l. refl }
-no_greeting (Count n) p i = record { kept = λ n. refl; silent = λ l. refl }
-no_greeting Column p i = record { kept = λ n. refl; silent = λ l. refl }
-no_greeting ColumnsDone p i = record { kept = λ n. refl; silent = λ l. refl }
-no_greeting Row p i = record { kept = λ n. refl; silent = λ l. refl }
-no_greeting (End status) p i = record { kept = λ n. refl; silent = λ l. refl }
-no_greeting (Prepared params columns) p i = record { kept = λ n. refl; silent = λ l. refl }
-no_greeting Parameter p i = record { kept = λ n. refl; silent = λ l. refl }
-no_greeting Field p i = record { kept = λ n. refl; silent = λ l. refl }
-no_greeting Bad p i = record { kept = λ n. refl; silent = λ l. refl }
+pub calm : (k : Kind) (p : List ℕ) → is_calm k ≡ true → IsCalm k p
+calm (Greets c) p i = cc
+calm (Asks ask) p i = cc
+calm (Good status) p i = record { kept = λ n. refl; silent = λ l s. refl }
+calm Failed p i = record { kept = λ n. refl; silent = λ l s. refl }
+calm (Count n) p i = record { kept = λ n. refl; silent = λ l s. refl }
+calm Column p i = record { kept = λ n. refl; silent = λ l s. refl }
+calm ColumnsDone p i = record { kept = λ n. refl; silent = λ l s. refl }
+calm Row p i = record { kept = λ n. refl; silent = λ l s. refl }
+calm (End status) p i = record { kept = λ n. refl; silent = λ l s. refl }
+calm (Prepared params columns) p i = record { kept = λ n. refl; silent = λ l s. refl }
+calm Parameter p i = record { kept = λ n. refl; silent = λ l s. refl }
+calm Field p i = record { kept = λ n. refl; silent = λ l s. refl }
+calm Bad p i = record { kept = λ n. refl; silent = λ l s. refl }

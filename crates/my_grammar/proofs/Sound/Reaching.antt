@@ -2,19 +2,22 @@
 use Rattle.std.proofs.Common.{◌≡◌, ℕ, suc, ◌-◌, ◌≤◌, ◌<◌, List, [], ◌∷◌, length, Bool, true, false, cond, leb, Option, Some, None, refl, sym, ◌∙◌, subst, arith, add-zero}
 use Rattle.std.proofs.lemmas.Bool.Decides.{nat_tests}
 use Rattle.std.specs.List.{AllByRecursion}
-use Rattle.my_flags.specs.declared.flags.CapabilityFlags.{CapabilityFlags}
+use Rattle.my_auth.specs.declared.chain.AuthStand.{AuthStand}
 use Rattle.my_flags.specs.declared.flags.StatusFlags.{StatusFlags}
 use Rattle.my_flags.specs.Sets.{deprecates_eof}
 use Rattle.my_grammar.specs.declared.login.Login.{Login}
 use Rattle.my_grammar.specs.declared.spot.Kind.{Kind}
+use Rattle.my_grammar.specs.declared.spot.Offer.{Offer}
+use Rattle.my_grammar.specs.declared.spot.RowFormat.TheVariants.{Text}
 use Rattle.my_grammar.specs.declared.spot.Kind.TheVariants.{Greets, Good, Failed, Count, Column, ColumnsDone, Row, End}
 use Rattle.my_grammar.specs.declared.spot.Terms.{Terms}
 use Rattle.my_grammar.specs.Kinds.{head_kind, columns_end_kind, kind_by}
 use Rattle.my_grammar.specs.Sets.{SetHead, Sets, NoSets, Lone, Failed as FailedSet, Heading, Headed, Begun, Ended, Broken, Packet, each, at_most_one, head_packets, packets_in, spot_in, columns_in, format_in, described_in}
 use Rattle.my_grammar.specs.FitSets.{is_head, IsClose, IsHeading, IsBegun, FitSets}
-use Rattle.my_grammar.specs.Talk.{Talk, Start, Unwelcome, Greeted, Settled, Asked, Replied, Queried, Preparing, Silent, Fits}
+use Rattle.my_grammar.specs.Talk.{Talk, Start, Unwelcome, Greeted, Asked, Replied, Changing, Queried, Preparing, Silent, Fits, greeted_stand, greeted_terms, stand_in}
 use Rattle.my_grammar.proofs.Commands.{commands_silent}
 use Rattle.my_grammar.proofs.Growth.Known.{is_head_kind, known_head, is_then, head_kind_is}
+use Rattle.my_grammar.proofs.Growth.{chain_kind_is}
 use Rattle.my_grammar.proofs.Growth.SetGrowth.{error_is}
 use Rattle.my_grammar.proofs.Cutting.{Reaches, at_origin, goes_on}
 use Rattle.my_grammar.proofs.Sound.Replies.{reply_reaches}
@@ -185,18 +188,26 @@ sets_stand terms c (Broken older head rows last) f all =
 start_fits : (login : Login) → Fits (Start login)
 start_fits login = record { kinds = tt; within = tt }
 
-greeted_reaches : (login : Login) (p : List ℕ) (capabilities : CapabilityFlags) → Fits (Greeted login p capabilities) → Reaches (Greeted login p capabilities)
-greeted_reaches login p capabilities f = goes_on (Start login) (Greets capabilities) p f.kinds refl f.within.0 (start_fits login) (at_origin (Start login) refl refl)
+greeted_reaches : (login : Login) (p : List ℕ) (offer : Offer) (chain : List Packet) → Fits (Greeted login p offer chain) → Reaches (Greeted login p offer chain)
+greeted_reaches login p offer [] f = goes_on (Start login) (Greets offer) p f.kinds.0 refl f.within.0 (start_fits login) (at_origin (Start login) refl refl)
+greeted_reaches login p offer (packet ∷ chain) f =
+    let stand = stand_in (greeted_stand login offer) chain in
+    let before : Fits (Greeted login p offer chain) = record { kinds = (f.kinds.0, f.kinds.1.0); within = f.within.1 } in
+    goes_on (Greeted login p offer chain) packet.kind packet.payload (chain_kind_is stand Text (deprecates_eof (greeted_terms login offer.capabilities).kept) 0 [] packet.payload ∙ f.kinds.1.1) f.kinds.1.2 f.within.0 before (greeted_reaches login p offer chain before)
+
+changing_reaches : (terms : Terms) (secret : List ℕ) (first : AuthStand) (c : List ℕ) (chain : List Packet) → Fits (Changing terms secret first c chain) → Reaches (Changing terms secret first c chain)
+changing_reaches terms secret first c [] f = at_origin (Changing terms secret first c []) refl refl
+changing_reaches terms secret first c (packet ∷ chain) f =
+    let before : Fits (Changing terms secret first c chain) = record { kinds = f.kinds.0; within = f.within.1 } in
+    goes_on (Changing terms secret first c chain) packet.kind packet.payload (chain_kind_is (stand_in first chain) Text (deprecates_eof terms.kept) 0 [] packet.payload ∙ f.kinds.1) f.kinds.2 f.within.0 before (changing_reaches terms secret first c chain before)
 
 pub reaches : (t : Talk) → Fits t → Reaches t
 reaches (Start login) f = at_origin (Start login) refl refl
 reaches (Unwelcome login p) f = goes_on (Start login) Failed p f.kinds refl f.within.0 (start_fits login) (at_origin (Start login) refl refl)
-reaches (Greeted login p capabilities) f = greeted_reaches login p capabilities f
-reaches (Settled login p capabilities last kind) f =
-    let before : Fits (Greeted login p capabilities) = record { kinds = f.kinds.0; within = f.within.1 } in
-    goes_on (Greeted login p capabilities) kind last f.kinds.1 f.kinds.2 f.within.0 before (greeted_reaches login p capabilities before)
+reaches (Greeted login p offer chain) f = greeted_reaches login p offer chain f
 reaches (Asked terms c) f = at_origin (Asked terms c) refl refl
 reaches (Replied terms c last kind) f = goes_on (Asked terms c) kind last f.kinds.0 f.kinds.1 f.within.0 (record { kinds = tt; within = tt }) (at_origin (Asked terms c) refl refl)
+reaches (Changing terms secret stand c chain) f = changing_reaches terms secret stand c chain f
 reaches (Queried terms c x) f = (sets_stand terms c x f.kinds f.within).reached
 reaches (Preparing terms c r) f = reply_reaches terms c r f.kinds f.within
 reaches (Silent terms c) f = at_origin (Silent terms c) refl refl

@@ -13,7 +13,7 @@ use Rattle.my_grammar.specs.Sets.{Packet, each, at_most_one}
 use Rattle.my_grammar.specs.FitSets.{IsClose}
 use Rattle.my_grammar.specs.Prepares.{PreparedHead, Described, Reply, Unanswered, Refused, InParameters, AfterParameters, InFields, AfterFields, Complete, described_packets, head_packet, packets_in_reply}
 use Rattle.my_grammar.specs.FitReplies.{IsPart, FitReply, part_kinds, IsRefusal, IsWholeReply}
-use Rattle.my_grammar.specs.Talk.{Talk, Start, Unwelcome, Greeted, Settled, Asked, Replied, Queried, Preparing, Silent, Fits, packets_of, origin}
+use Rattle.my_grammar.specs.Talk.{Talk, Start, Unwelcome, Greeted, Asked, Replied, Changing, Queried, Preparing, Silent, Fits, packets_of, origin}
 use Rattle.my_grammar.specs.Cut.{is_over}
 
 -- the head as it is read
@@ -82,10 +82,10 @@ reply_is_whole terms c (Complete h w v) f e = inr (complete_is_whole (deprecates
 pub prepare_is_whole : (terms : Terms) (c : List ℕ) (t : Talk) → origin t ≡ Preparing terms c Unanswered → Fits t → is_over t ≡ true → IsRefusal (packets_of t) ⊎ IsWholeReply (deprecates_eof terms.kept) (packets_of t)
 prepare_is_whole terms c (Start login) o f e = cc
 prepare_is_whole terms c (Unwelcome login p) o f e = cc
-prepare_is_whole terms c (Greeted login p n) o f e = cc
-prepare_is_whole terms c (Settled login p n last kind) o f e = cc
+prepare_is_whole terms c (Greeted login p offer chain) o f e = cc
 prepare_is_whole terms c (Asked own d) o f e = cc
 prepare_is_whole terms c (Replied own d last kind) o f e = cc
+prepare_is_whole terms c (Changing own secret stand d chain) o f e = cc
 prepare_is_whole terms c (Queried own d sets) o f e = cc
 prepare_is_whole terms c (Preparing own d r) o f e =
     let same : own ≡ terms = cc in
