@@ -75,7 +75,15 @@ after_ask stand (Switch plugin) = record { rules = stand.rules; plugin = plugin;
 after_ask stand Whole = record { rules = stand.rules; plugin = stand.plugin; switched = stand.switched; decided = true }
 after_ask stand Wait = record { rules = stand.rules; plugin = stand.plugin; switched = stand.switched; decided = true }
 
--- the nonce of a switch
+-- the name of the plugin that a switch asks for
+abbrev pub name_of : Option SwitchRequest → List ℕ
+name_of None = []
+name_of (Some s) = s.plugin
+
+abbrev pub plugin_in : List ℕ → List ℕ
+plugin_in payload = name_of (switch_at payload)
+
+-- its nonce
 abbrev pub nonce_of : Option SwitchRequest → List ℕ
 nonce_of None = []
 nonce_of (Some s) = s.nonce

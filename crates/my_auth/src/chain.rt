@@ -2,7 +2,7 @@
 
 ghost use Rattle.std.specs.Prelude.{◌≡◌, IfOk};
 ghost use Rattle.my_handshake.specs.SwitchRequest.{more_data_at};
-ghost use Rattle.my_auth.specs.Chain.{adds, after_ask, asked_for, caching_by, first_stand, move_at, nonce_in, reply_to, switches, wants_whole};
+ghost use Rattle.my_auth.specs.Chain.{adds, after_ask, asked_for, caching_by, first_stand, move_at, nonce_in, plugin_in, reply_to, switches, wants_whole};
 ghost use Rattle.my_auth.specs.Plugins.{plugin_named};
 
 use crate::plugin::AuthPlugin;
@@ -173,7 +173,17 @@ impl AuthStand {
     }
 }
 
-/// The nonce of a switch, empty where the payload has none.
+/// The name of the plugin that a switch asks for, empty where the payload is none.
+pub fn plugin_in(payload: &[u8]) -> &[u8]
+    ensures { result.now ≡ plugin_in payload.now }
+{
+    match switch_parts(payload) {
+        Some((plugin, _nonce)) => plugin,
+        None => &[],
+    }
+}
+
+/// The nonce of a switch, empty where the payload is none.
 pub fn nonce_in(payload: &[u8]) -> &[u8]
     ensures { result.now ≡ nonce_in payload.now }
 {

@@ -26,14 +26,14 @@ use Rattle.my_grammar.specs.Contexts.{columns_after, is_bad, kept_after, spot_af
 use Rattle.my_grammar.specs.Kinds.{auth_kind_by, greeting_kind, single_kind, kind_by, kind_there}
 use Rattle.my_grammar.specs.Sets.{Sets, NoSets, Packet, asking_in, packets_in, spot_in, columns_in, format_in, format_of, described_in, grow_sets}
 use Rattle.my_grammar.specs.Prepares.{Reply, packets_in_reply, spot_in_reply, grow_reply}
-use Rattle.my_grammar.specs.Talk.{Talk, Start, Unwelcome, Greeted, Asked, Replied, Changing, Queried, Preparing, Silent, Turn, Client, Server, answers, chain_kind, chain_spot, client_bytes, client_turns, commands_by, context_of, default_limit, described, Fits, greeted_stand, greeted_terms, limit_of, number_of, packets_of, password_of, says, served, server_bytes, stand_in, stand_next, turns}
+use Rattle.my_grammar.specs.Talk.{Talk, Start, Unwelcome, Greeted, Asked, Replied, Changing, Queried, Preparing, Silent, Turn, Client, Server, answers, chain_kind, chain_spot, client_bytes, client_turns, commands_by, context_of, default_limit, described, Fits, greeted_stand, greeted_terms, limit_of, number_of, packets_of, says, served, server_bytes, stand_in, stand_next, turns}
 use Rattle.my_grammar.specs.Growth.{Grows, Reads, bytes_said, described_after, number_said}
 use Rattle.my_grammar.proofs.Growth.Known.{is_greeting_kind, is_single_kind, known_greeting, known_single, is_then}
 use Rattle.my_grammar.proofs.Growth.SetGrowth.{grows_sets, calm, none}
 use Rattle.my_grammar.proofs.Growth.ReplyGrowth.{grows_reply}
 
 -- the number, and each side's bytes
-reads_by : (login : Login) (secret : List ℕ) (k : Kind) (p : List ℕ) (ts : List Turn) (o : Option (List ℕ)) → says login secret k p ≡ o → Reads login secret k p ts
+reads_by : (login : Login) (secret : Option (List ℕ)) (k : Kind) (p : List ℕ) (ts : List Turn) (o : Option (List ℕ)) → says login secret k p ≡ o → Reads login secret k p ts
 reads_by login secret k p ts None e = record {
   number = ap (λ o. number_of (client_turns o ++ Server p ∷ ts)) e ∙ sym (ap (λ o. number_said o (number_after_payload p (number_of ts))) e);
   server = ap (λ o. server_bytes (client_turns o ++ Server p ∷ ts)) e;
@@ -45,7 +45,7 @@ reads_by login secret k p ts (Some q) e = record {
   client = ap (λ o. client_bytes (client_turns o ++ Server p ∷ ts)) e ∙ sym (ap (λ o. client_bytes ts ++ bytes_said o (number_after_payload p (number_of ts))) e);
 }
 
-pub reads : (login : Login) (secret : List ℕ) (k : Kind) (p : List ℕ) (ts : List Turn) → Reads login secret k p ts
+pub reads : (login : Login) (secret : Option (List ℕ)) (k : Kind) (p : List ℕ) (ts : List Turn) → Reads login secret k p ts
 reads login secret k p ts = reads_by login secret k p ts (says login secret k p) refl
 
 -- a payload more within the limit
@@ -112,7 +112,7 @@ record GrowsChain (d : Bool) (kept : CapabilityFlags) (o : Option AuthStand) (k 
   columns : columns_after 0 k ≡ 0
   kept_is : kept_after kept k ≡ kept
   described : described_after [] k p ≡ []
-  said : (login : Login) (secret : List ℕ) → answers secret k p ≡ says login secret k p
+  said : (login : Login) (secret : Option (List ℕ)) → answers secret k p ≡ says login secret k p
 
 grows_chain : (d : Bool) (kept : CapabilityFlags) (o : Option AuthStand) (k : Kind) (p : List ℕ) → is_chain_kind k ≡ true → is_bad k ≡ false → chain_kind o p ≡ k → GrowsChain d kept o k p
 grows_chain d kept None k p i b e = absurd (none k e b)
@@ -143,14 +143,14 @@ grows_greeted login q offer chain k p e b short f =
       context = same_context _ _ formats.Text _ _ _ kept _ default_limit g.spot refl (sym g.columns) (sym g.kept_is);
       described_is = sym g.described;
       packets_are = refl;
-      turns_are = λ any. ap (λ o. client_turns o ++ Server p ∷ turns (Greeted login q offer chain)) (g.said login (password_of login));
+      turns_are = λ any. ap (λ o. client_turns o ++ Server p ∷ turns (Greeted login q offer chain)) (g.said login login.password);
       login_is = λ any. refl;
       secret_is = refl;
       fits = record { kinds = (f.kinds.0, (f.kinds.1, e, b)); within = (short, f.within) };
       origin_is = refl;
     }
 
-grows_changing : (terms : Terms) (secret : List ℕ) (first : AuthStand) (c : List ℕ) (chain : List Packet) (k : Kind) (p : List ℕ) → chain_kind (stand_in first chain) p ≡ k → is_bad k ≡ false → length p ≤ terms.limit → Fits (Changing terms secret first c chain) → Grows (Changing terms secret first c chain) k p
+grows_changing : (terms : Terms) (secret : Option (List ℕ)) (first : AuthStand) (c : List ℕ) (chain : List Packet) (k : Kind) (p : List ℕ) → chain_kind (stand_in first chain) p ≡ k → is_bad k ≡ false → length p ≤ terms.limit → Fits (Changing terms secret first c chain) → Grows (Changing terms secret first c chain) k p
 grows_changing terms secret first c chain k p e b short f =
     let stand = stand_in first chain in
     let g = grows_chain (deprecates_eof terms.kept) terms.kept stand k p (is_then is_chain_kind (chain_kind stand p) k (known_chain stand p) e) b e in
@@ -191,7 +191,7 @@ grows_queried terms c x k p e b short f =
       packets_are = g.packets_are;
       turns_are = λ login.
           let began = commands_by c (asking_in x) in
-          ap (λ a. served (packets_in (grow_sets d k x p)) (commands_by c a)) g.asking ∙ ap (λ ps. served ps began) g.packets_are ∙ ap (λ (rs : List Turn). rs ++ Server p ∷ served (packets_in x) began) (sym (n.silent login []));
+          ap (λ a. served (packets_in (grow_sets d k x p)) (commands_by c a)) g.asking ∙ ap (λ ps. served ps began) g.packets_are ∙ ap (λ (rs : List Turn). rs ++ Server p ∷ served (packets_in x) began) (sym (n.silent login None));
       login_is = λ login. refl;
       secret_is = refl;
       fits = record { kinds = g.fits; within = one_more (Queried terms c x) (Queried terms c (grow_sets d k x p)) k p g.packets_are refl short f.within };
@@ -207,7 +207,7 @@ grows_preparing terms c r k p e b short f =
       context = same_context _ _ formats.Text _ _ _ terms.kept _ terms.limit g.spot refl (sym g.columns) (sym (n.kept terms.kept));
       described_is = sym g.described;
       packets_are = g.packets_are;
-      turns_are = λ login. ap (λ ps. served ps (Client c ∷ [])) g.packets_are ∙ ap (λ (rs : List Turn). rs ++ Server p ∷ served (packets_in_reply r) (Client c ∷ [])) (sym (n.silent login []));
+      turns_are = λ login. ap (λ ps. served ps (Client c ∷ [])) g.packets_are ∙ ap (λ (rs : List Turn). rs ++ Server p ∷ served (packets_in_reply r) (Client c ∷ [])) (sym (n.silent login None));
       login_is = λ login. refl;
       secret_is = refl;
       fits = record { kinds = g.fits; within = one_more (Preparing terms c r) (Preparing terms c (grow_reply d k r p)) k p g.packets_are refl short f.within };

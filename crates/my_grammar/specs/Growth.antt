@@ -30,7 +30,7 @@ grow k (Preparing terms c reply) p = Preparing terms c (grow_reply (deprecates_e
 grow k (Silent terms c) p = Silent terms c
 
 -- the client's turns after a payload of this kind
-abbrev pub replies : Login → (secret : List ℕ) → Kind → List ℕ → List Turn
+abbrev pub replies : Login → (secret : Option (List ℕ)) → Kind → List ℕ → List Turn
 replies login secret k p = client_turns (says login secret k p)
 
 -- the client says nothing after another payload than a greeting and a request of a chain
@@ -45,7 +45,7 @@ number_said None n = n
 number_said (Some p) n = number_after_payload p n
 
 -- the number after a payload that has the number n, and after what the client says to it
-abbrev pub number_next : Login → (secret : List ℕ) → Kind → List ℕ → ℕ → ℕ
+abbrev pub number_next : Login → (secret : Option (List ℕ)) → Kind → List ℕ → ℕ → ℕ
 number_next login secret k p n = number_said (says login secret k p) (number_after_payload p n)
 
 -- the bytes of what the client says, if anything, where the next number is n
@@ -54,7 +54,7 @@ bytes_said None n = []
 bytes_said (Some p) n = chunks p n
 
 -- the bytes of what the client says to a payload that has the number n
-abbrev pub said : Login → (secret : List ℕ) → Kind → List ℕ → ℕ → List ℕ
+abbrev pub said : Login → (secret : Option (List ℕ)) → Kind → List ℕ → ℕ → List ℕ
 said login secret k p n = bytes_said (says login secret k p) (number_after_payload p n)
 
 -- the columns of the set that is being read, after a payload of this kind
@@ -77,7 +77,7 @@ pub record Grows (t : Talk) (k : Kind) (p : List ℕ) : Type 0 where
   pub origin_is : origin (grow k t p) ≡ origin t
 
 -- What the payload does to the running number and to each side's bytes, and what the client says to it.
-pub record Reads (login : Login) (secret : List ℕ) (k : Kind) (p : List ℕ) (ts : List Turn) : Type 0 where
+pub record Reads (login : Login) (secret : Option (List ℕ)) (k : Kind) (p : List ℕ) (ts : List Turn) : Type 0 where
   pub number : number_of (replies login secret k p ++ Server p ∷ ts) ≡ number_next login secret k p (number_of ts)
   pub server : server_bytes (replies login secret k p ++ Server p ∷ ts) ≡ server_bytes ts ++ chunks p (number_of ts)
   pub client : client_bytes (replies login secret k p ++ Server p ∷ ts) ≡ client_bytes ts ++ said login secret k p (number_of ts)

@@ -38,7 +38,7 @@ pub data Talk : Type 0 where
   Greeted : (login : Login) (p : List ℕ) (offer : Offer) (chain : List Packet) → Talk
   Asked : (terms : Terms) (command : List ℕ) → Talk
   Replied : (terms : Terms) (command : List ℕ) (last : List ℕ) (kind : Kind) → Talk
-  Changing : (terms : Terms) (secret : List ℕ) (stand : AuthStand) (command : List ℕ) (chain : List Packet) → Talk
+  Changing : (terms : Terms) (secret : Option (List ℕ)) (stand : AuthStand) (command : List ℕ) (chain : List Packet) → Talk
   Queried : (terms : Terms) (command : List ℕ) (sets : Sets) → Talk
   Preparing : (terms : Terms) (command : List ℕ) (reply : Reply) → Talk
   Silent : (terms : Terms) (command : List ℕ) → Talk
@@ -83,9 +83,6 @@ FitChain first (packet ∷ chain) =
 abbrev pub greeted_stand : Login → Offer → AuthStand
 greeted_stand login offer = first_stand login.rules (challenge_plugin offer.caching)
 
-abbrev pub password_of : Login → List ℕ
-password_of login = unwrap_or login.password []
-
 -- the server's payloads with what they are, the newest first: facts of an exchange are folds over them
 abbrev pub packets_of : Talk → List Packet
 packets_of (Unwelcome login p) = record { kind = kinds.Failed; payload = p } ∷ []
@@ -114,14 +111,14 @@ sent_ahead [] others = others
 sent_ahead (p ∷ ps) others = sent_ahead ps (Command p ∷ others)
 
 -- what the client answers at once to a payload of this kind in a chain, if anything
-abbrev pub answers : (secret : List ℕ) → Kind → List ℕ → Option (List ℕ)
-answers secret (kinds.Asks ask) p = reply_to secret ask p
+abbrev pub answers : (secret : Option (List ℕ)) → Kind → List ℕ → Option (List ℕ)
+answers secret (kinds.Asks ask) p = reply_to (unwrap_or secret []) ask p
 answers secret k p = None
 
 -- and to a payload anywhere: its response to a greeting, too
-abbrev pub says : Login → (secret : List ℕ) → Kind → List ℕ → Option (List ℕ)
+abbrev pub says : Login → (secret : Option (List ℕ)) → Kind → List ℕ → Option (List ℕ)
 says login secret (kinds.Greets offer) p = Some (response login p)
-says login secret (kinds.Asks ask) p = reply_to secret ask p
+says login secret (kinds.Asks ask) p = reply_to (unwrap_or secret []) ask p
 says login secret k p = None
 
 abbrev pub client_turns : Option (List ℕ) → List Turn
@@ -129,7 +126,7 @@ client_turns None = []
 client_turns (Some p) = Client p ∷ []
 
 -- the turns of a chain after other turns, where the client's password is this
-abbrev pub chained : (secret : List ℕ) → List Packet → List Turn → List Turn
+abbrev pub chained : (secret : Option (List ℕ)) → List Packet → List Turn → List Turn
 chained secret [] others = others
 chained secret (packet ∷ chain) others = client_turns (answers secret packet.kind packet.payload) ++ Server packet.payload ∷ chained secret chain others
 
@@ -142,7 +139,7 @@ commands_by c (ByStatement ahead known) = Command c ∷ sent_ahead ahead []
 abbrev pub turns : Talk → List Turn
 turns (Start login) = []
 turns (Unwelcome login p) = Server p ∷ []
-turns (Greeted login p offer chain) = chained (password_of login) chain (Client (response login p) ∷ Server p ∷ [])
+turns (Greeted login p offer chain) = chained login.password chain (Client (response login p) ∷ Server p ∷ [])
 turns (Asked terms c) = Client c ∷ []
 turns (Replied terms c last kind) = Server last ∷ Client c ∷ []
 turns (Changing terms secret stand c chain) = chained secret chain (Client c ∷ [])
@@ -255,9 +252,9 @@ login_in any (Greeted login p offer chain) = login
 login_in any _ = any
 
 -- the password by which the client answers in the exchange's chain; none in others
-abbrev pub secret_in : Talk → List ℕ
-secret_in (Start login) = password_of login
-secret_in (Unwelcome login p) = password_of login
-secret_in (Greeted login p offer chain) = password_of login
+abbrev pub secret_in : Talk → Option (List ℕ)
+secret_in (Start login) = login.password
+secret_in (Unwelcome login p) = login.password
+secret_in (Greeted login p offer chain) = login.password
 secret_in (Changing terms secret stand c chain) = secret
-secret_in _ = []
+secret_in _ = None

@@ -39,7 +39,7 @@ fn first_of(first: Kind, second: Kind) -> Kind
 }
 
 /// Whether a plugin's name is `caching_sha2_password`.
-pub(crate) fn is_caching(plugin: &[u8]) -> bool
+pub fn is_caching(plugin: &[u8]) -> bool
     ensures { result ≡ is_caching plugin.now }
 {
     plugin == b"caching_sha2_password".as_slice()

@@ -1,6 +1,6 @@
 //! One exchange as it is read, payload by payload.
 
-ghost use Rattle.std.specs.Prelude.{◌≡◌, [], ◌++◌, OnOk, IfOk, MatchOption};
+ghost use Rattle.std.specs.Prelude.{◌≡◌, [], ◌++◌, None, OnOk, IfOk, MatchOption};
 ghost use Rattle.my_frame.specs.Chunks.{chunks, number_after_payload};
 ghost use Rattle.my_grammar.specs.Growth.{described_after, number_next, said};
 ghost use Rattle.my_grammar.specs.Progress.{IsAt, talk_of};
@@ -12,13 +12,15 @@ ghost use Rattle.my_grammar.specs.Talk.{Changing, Queried, commands_bytes};
 ghost use Rattle.my_reply.specs.Column.{column_at};
 
 use crate::kinds::kind_at;
-use crate::login::{Login, text_or_none};
+use crate::login::Login;
 use crate::packet::Packet;
 use crate::queue::Queue;
-use crate::says::says;
+use crate::said::says;
 use crate::spot::{Context, Kind, RowFormat, Spot, Terms};
 use my_auth::AuthStand;
-use my_frame::{Blob, CodecError, FramedPayload, Listed, NoMemory, ReadError, payload_in_front};
+use my_frame::{
+    Blob, CodecError, Copied, FramedPayload, Listed, NoMemory, ReadError, payload_in_front,
+};
 use my_reply::{Column, read_column};
 use std::alloc::Global;
 
@@ -34,7 +36,7 @@ pub enum Opening {
     /// A change of user to one with the password `secret`, whose chain begins so.
     Change {
         terms: Terms,
-        secret: Blob,
+        secret: Option<Blob>,
         stand: AuthStand,
         command: Blob,
     },
@@ -120,8 +122,8 @@ pub struct Progress {
     pub packets: Vec<Packet>,
     /// The bytes that the client sent.
     pub sent: Queue,
-    /// The password by which the client answers in the exchange's chain, empty in others.
-    pub secret: Blob,
+    /// The password by which the client answers in the exchange's chain; none in others.
+    pub secret: Option<Blob>,
 }
 
 // The bytes of payloads that are sent ahead of a command, of each from the sequence id 0.
@@ -146,7 +148,7 @@ fn asked_after(
 ) -> Result<Progress, NoMemory>
     ensures { IfOk result (λ p. (p.context ≡ record { spot = spot; rows = rows; columns = 0; terms = terms })
         × (p.columns.items ≡ []) × (p.number ≡ number_after_payload command.now 0) × (p.packets.items ≡ [])
-        × (p.sent ≡ sent ++ chunks command.now 0) × (p.secret ≡ [])) }
+        × (p.sent ≡ sent ++ chunks command.now 0) × (p.secret ≡ None)) }
 {
     let number = sent.push_payload(command, 0)?;
     let context = Context {
@@ -161,7 +163,7 @@ fn asked_after(
         number,
         packets: Vec::new(alloc),
         sent,
-        secret: Blob::new(alloc),
+        secret: None,
     })
 }
 
@@ -169,7 +171,7 @@ fn asked_after(
 fn asked(alloc: Global, spot: Spot, terms: Terms, command: &[u8]) -> Result<Progress, NoMemory>
     ensures { IfOk result (λ p. (p.context ≡ record { spot = spot; rows = RowFormat.Text; columns = 0; terms = terms })
         × (p.columns.items ≡ []) × (p.number ≡ number_after_payload command.now 0) × (p.packets.items ≡ [])
-        × (p.sent ≡ [] ++ chunks command.now 0) × (p.secret ≡ [])) }
+        × (p.sent ≡ [] ++ chunks command.now 0) × (p.secret ≡ None)) }
 {
     asked_after(
         alloc,
@@ -185,7 +187,7 @@ fn asked(alloc: Global, spot: Spot, terms: Terms, command: &[u8]) -> Result<Prog
 fn changing(
     alloc: Global,
     terms: Terms,
-    secret: &Blob,
+    secret: &Option<Blob>,
     stand: AuthStand,
     command: &[u8],
 ) -> Result<Progress, NoMemory>
@@ -264,7 +266,7 @@ impl Progress {
                 number: 0,
                 packets: Vec::new(alloc),
                 sent: Queue::new(alloc),
-                secret: text_or_none(alloc, &login.password)?,
+                secret: login.password.copy(alloc)?,
             }),
             Opening::Simple { terms, command } => {
                 asked(alloc, Spot::Single, *terms, command.as_slice())
@@ -311,7 +313,7 @@ impl Progress {
         ensures columns { self.new.columns.items ≡ self.old.columns.items }
         ensures packets { self.new.packets.items ≡ self.old.packets.items }
     {
-        let said = says(alloc, login, self.secret.as_slice(), kind, payload)?;
+        let said = says(alloc, login, &self.secret, kind, payload)?;
         self.number = match said {
             Some(said) => self.sent.push_payload(said.as_slice(), next)?,
             None => next,

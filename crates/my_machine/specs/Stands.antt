@@ -30,8 +30,7 @@ use Rattle.my_grammar.specs.Cut.{is_idle}
 use Rattle.my_grammar.specs.Growth.{number_next, said}
 use Rattle.my_grammar.specs.declared.spot.RowFormat.TheVariants.{Text, Binary}
 use Rattle.my_grammar.specs.Kinds.{kind_there}
-use Rattle.my_grammar.specs.Response.{response}
-use Rattle.my_grammar.specs.Talk.{turns, number_of, commands_bytes, context_of, Fits, login_in}
+use Rattle.my_grammar.specs.Talk.{turns, number_of, commands_bytes, context_of, Fits, login_in, says, secret_in}
 use Rattle.my_reading.specs.declared.answer.Answer.TheVariants as answers
 use Rattle.my_reading.specs.declared.call.Call.{Call}
 use Rattle.my_reading.specs.declared.call.Call.TheVariants as calls
@@ -44,12 +43,12 @@ use Rattle.my_reading.specs.declared.transaction.Trial.TheVariants as trials
 use Rattle.my_reading.specs.declared.transaction.TxStatus.{TxStatus}
 use Rattle.my_reading.specs.declared.transaction.TxStatus.TheVariants as txs
 use Rattle.my_reading.specs.Accounts.{changed}
-use Rattle.my_reading.specs.Commands.{arranging_texts, renewal_packet, renews_by_reset, simple_packet}
+use Rattle.my_reading.specs.Commands.{arranging_texts, change_stand, renewal_packet, renews_by_reset, simple_packet}
 use Rattle.my_reading.specs.Calls.{id_in, is_connect, kind_of, text_in}
-use Rattle.my_reading.specs.Course.{first_above, is_greeting, is_rows}
+use Rattle.my_reading.specs.Course.{above, first_above, is_greeting, is_rows}
 use Rattle.my_reading.specs.Executions.{Values, Fitting, Unfitting, values_for}
 use Rattle.my_reading.specs.Statements.{Statements, cleared, held_in, is_cached, is_mixed_text, leaving, names_of, query_of, statement_with, with_columns, with_fetched, with_prepared, without_statement}
-use Rattle.my_reading.specs.Errors.{codec_error, invalid_data, mixed_params, server_error}
+use Rattle.my_reading.specs.Errors.{codec_error, invalid_data, mixed_params, server_error, unfit_error}
 use Rattle.my_reading.specs.Facts.{facts_after, prepared_by}
 use Rattle.my_reading.specs.Place.{Place, exchanges, facts_at, client_side, connects_in}
 use Rattle.my_reading.specs.Rows.{row_of}
@@ -77,6 +76,7 @@ stand_of login p n bytes = record {
   statements = p.statements;
   status = p.status;
   account = p.account;
+  secret = secret_in p.talk;
   trial = p.trial;
   unread = p.unread;
   owed = bytes;
@@ -107,6 +107,7 @@ with_bytes sent taken s = record {
   statements = s.statements;
   status = s.status;
   account = s.account;
+  secret = s.secret;
   trial = s.trial;
   unread = s.unread ++ taken;
   owed = drop (length sent) s.owed;
@@ -125,6 +126,7 @@ with_owed bytes s = record {
   statements = s.statements;
   status = s.status;
   account = s.account;
+  secret = s.secret;
   trial = s.trial;
   unread = s.unread;
   owed = bytes;
@@ -143,6 +145,7 @@ with_end left s = record {
   statements = s.statements;
   status = s.status;
   account = s.account;
+  secret = s.secret;
   trial = s.trial;
   unread = s.unread;
   owed = s.owed;
@@ -161,6 +164,7 @@ with_taken s = record {
   statements = s.statements;
   status = s.status;
   account = s.account;
+  secret = s.secret;
   trial = s.trial;
   unread = s.unread;
   owed = s.owed;
@@ -179,6 +183,7 @@ with_known st s = record {
   statements = st;
   status = s.status;
   account = s.account;
+  secret = s.secret;
   trial = s.trial;
   unread = s.unread;
   owed = s.owed;
@@ -197,6 +202,7 @@ with_status status s = record {
   statements = s.statements;
   status = status;
   account = s.account;
+  secret = s.secret;
   trial = s.trial;
   unread = s.unread;
   owed = s.owed;
@@ -215,6 +221,7 @@ with_account account s = record {
   statements = s.statements;
   status = s.status;
   account = account;
+  secret = s.secret;
   trial = s.trial;
   unread = s.unread;
   owed = s.owed;
@@ -233,6 +240,7 @@ with_trial trial s = record {
   statements = s.statements;
   status = s.status;
   account = s.account;
+  secret = s.secret;
   trial = trial;
   unread = s.unread;
   owed = s.owed;
@@ -242,7 +250,7 @@ with_trial trial s = record {
 abbrev pub heard : Login → Kind → List ℕ → List ℕ → Stand → Stand
 heard login k payload rest s = record {
   context = context_after s.context k;
-  number = number_next login k payload s.number;
+  number = number_next login s.secret k payload s.number;
   facts = facts_after k payload s.facts;
   texts = s.texts;
   arranged = s.arranged;
@@ -251,14 +259,15 @@ heard login k payload rest s = record {
   statements = s.statements;
   status = s.status;
   account = s.account;
+  secret = s.secret;
   trial = s.trial;
   unread = rest;
-  owed = s.owed ++ said login k payload s.number;
+  owed = s.owed ++ said login s.secret k payload s.number;
 }
 
--- the exchange of a command begins
-abbrev pub asked : Spot → List ℕ → ℕ → Stand → Stand
-asked spot command arranged s = record {
+-- the exchange of a command begins; in its chain, where it has one, the client answers by this password
+abbrev pub asked : Spot → Option (List ℕ) → List ℕ → ℕ → Stand → Stand
+asked spot secret command arranged s = record {
   context = record { spot = spot; rows = Text; columns = 0; terms = record { kept = s.context.terms.kept; limit = s.facts.settings.limit } };
   number = number_after_payload command 0;
   facts = s.facts;
@@ -269,6 +278,7 @@ asked spot command arranged s = record {
   statements = s.statements;
   status = s.status;
   account = s.account;
+  secret = secret;
   trial = s.trial;
   unread = s.unread;
   owed = s.owed ++ chunks command 0;
@@ -287,6 +297,7 @@ executed ahead command s = record {
   statements = s.statements;
   status = s.status;
   account = s.account;
+  secret = None;
   trial = s.trial;
   unread = s.unread;
   owed = (s.owed ++ commands_bytes ahead) ++ chunks command 0;
@@ -311,6 +322,10 @@ failure e = Stops (Returns (Failed e))
 -- a payload that fits no case
 abbrev pub unfit : Stand → Step
 unfit s = failure (invalid_data s.facts.place)
+
+-- the same where the client perhaps shows who it is
+abbrev pub misfit : Stand → List ℕ → Step
+misfit s payload = failure (unfit_error s.context.spot payload s.facts.place)
 
 -- the part after a payload of this kind, which is this row
 abbrev pub after_kind : Part → Kind → RowParts → Stand → Turn
@@ -345,12 +360,14 @@ abbrev pub failed_at : Part → Option ErrPacket → Stand → Stand → Turn
 failed_at parts.Drain e s new = dropped_at e s new
 failed_at part e s new = after_err e s new
 
--- the response to a greeting may be above the limit
-abbrev pub after_greeting : ℕ → Stand → Stand → Turn
-after_greeting len s new =
-    if nat_lt s.context.terms.limit len
-    then turn (failure (codec_error (TooLarge len s.context.terms.limit))) s
-    else turn Stays new
+-- the response to a greeting, or an answer in a chain, may be above the limit: then it has this length
+abbrev pub after_said : Option ℕ → Stand → Stand → Turn
+after_said None s new = turn Stays new
+after_said (Some len) s new = turn (failure (codec_error (TooLarge len s.context.terms.limit))) s
+
+-- what the client says to a payload of this kind, where it is above the limit
+abbrev pub said_above : Login → Kind → List ℕ → Stand → Option ℕ
+said_above login k payload s = above s.context.terms.limit (says login s.secret k payload)
 
 -- whether the id of a statement that was prepared is that of one that is still cached, where it may not be
 abbrev pub is_cached_by : Option PrepareOk → Statements → Bool
@@ -361,9 +378,10 @@ abbrev pub after_prepared : Option PrepareOk → Stand → Stand → Turn
 after_prepared o s new = if is_cached_by o s.statements then turn (unfit s) s else turn Stays new
 
 abbrev pub after_payload : Login → Part → List ℕ → Stand → Stand → Kind → Turn
-after_payload login part payload s new kinds.Bad = turn (unfit s) s
+after_payload login part payload s new kinds.Bad = turn (misfit s payload) s
 after_payload login part payload s new kinds.Failed = failed_at part (err_at (is_greeting s.context.spot) payload) s new
-after_payload login part payload s new (kinds.Greets capabilities) = after_greeting (length (response login payload)) s new
+after_payload login part payload s new (kinds.Greets offer) = after_said (said_above login (kinds.Greets offer) payload s) s new
+after_payload login part payload s new (kinds.Asks ask) = after_said (said_above login (kinds.Asks ask) payload s) s new
 after_payload login part payload s new (kinds.Prepared params columns) = after_prepared (prepare_ok_at payload) s new
 after_payload login part payload s new k = after_kind part k (row_of s.context.rows s.facts.columns payload) new
 
@@ -386,8 +404,12 @@ abbrev pub unless_above : Option ℕ → Stand → Stand → Turn
 unless_above None s new = turn Passes new
 unless_above (Some len) s new = turn (failure (codec_error (TooLarge len s.facts.settings.limit))) s
 
+abbrev pub asks_with : Spot → Option (List ℕ) → List ℕ → ℕ → Stand → Turn
+asks_with spot secret command arranged s =
+    unless_above (first_above s.facts.settings.limit (command ∷ [])) s (asked spot secret command arranged s)
+
 abbrev pub asks : Spot → List ℕ → ℕ → Stand → Turn
-asks spot command arranged s = unless_above (first_above s.facts.settings.limit (command ∷ [])) s (asked spot command arranged s)
+asks spot command arranged s = asks_with spot None command arranged s
 
 abbrev pub sends : List (List ℕ) → List ℕ → Stand → Turn
 sends ahead command s = unless_above (first_above s.facts.settings.limit (ahead ++ command ∷ [])) s (executed ahead command s)
@@ -476,12 +498,22 @@ abbrev pub offers : Bool → Stand → Turn
 offers true s = turn Passes s
 offers false s = turn (Stops (Returns (Answered (answers.Flag false)))) s
 
--- the packet by which the server's session is renewed
-abbrev pub renewing_packet : Login → Call → Stand → ClientPacket
-renewing_packet login call s = renewal_packet login s.context.terms.kept s.facts s.account (renews_by_reset (kind_of call) (version_of s.facts.version))
+-- the payload by which the server's session is renewed
+abbrev pub renewing_payload : Login → Stand → Bool → List ℕ
+renewing_payload login s by_reset = packet_bytes (renewal_packet login s.context.terms.kept s.facts s.account by_reset)
+
+-- whether that is by a reset
+abbrev pub resets : Call → Stand → Bool
+resets call s = renews_by_reset (kind_of call) (version_of s.facts.version)
+
+-- the session is reset, or gets another user
+abbrev pub renews_so : Login → Call → Stand → Bool → Turn
+renews_so login call s true = asks spots.Single (renewing_payload login s true) (arranged_after call s) s
+renews_so login call s false =
+    asks_with (spots.Authentication (change_stand login s.facts)) s.account.password (renewing_payload login s false) (arranged_after call s) s
 
 abbrev pub renews : Login → Call → Stand → Turn
-renews login call s = asks spots.Single (packet_bytes (renewing_packet login call s)) (arranged_after call s) s
+renews login call s = renews_so login call s (resets call s)
 
 -- a transaction that was given up is rolled back
 abbrev pub undoes : Call → Bool → Stand → Turn

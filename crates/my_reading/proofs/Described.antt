@@ -4,6 +4,7 @@ use Rattle.std.proofs.lemmas.Bool.Decides.{nat_tests}
 use Rattle.my_flags.specs.Sets.{deprecates_eof, has_more_results}
 use Rattle.my_reply.specs.declared.column.Column.{Column}
 use Rattle.my_reply.specs.Column.{column_at}
+use Rattle.my_auth.specs.declared.chain.AuthStand.{AuthStand}
 use Rattle.my_grammar.specs.declared.packet.Packet.{Packet}
 use Rattle.my_grammar.specs.declared.spot.Context.{Context}
 use Rattle.my_grammar.specs.declared.spot.Kind.TheVariants as kinds
@@ -15,7 +16,7 @@ use Rattle.my_grammar.specs.FitSets.{AreColumns, IsBegun}
 use Rattle.my_grammar.specs.Kinds.{head_kind, described_kind, kind_by, kind_there}
 use Rattle.my_grammar.specs.Prepares.{Reply, Unanswered, Refused, InParameters, AfterParameters, InFields, AfterFields, Complete, spot_in_reply}
 use Rattle.my_grammar.specs.Sets.{SetHead, Sets, NoSets, Lone, Failed, Heading, Headed, Begun, Ended, Broken, each, at_most_one, head_packets, packets_in, column_list, columns_in_order, head_columns}
-use Rattle.my_grammar.specs.Talk.{Talk, Start, Unwelcome, Greeted, Settled, Asked, Replied, Queried, Preparing, Silent, packets_of, context_of, described, Fits}
+use Rattle.my_grammar.specs.Talk.{Talk, Start, Unwelcome, Greeted, Asked, Replied, Changing, Queried, Preparing, Silent, chain_spot, greeted_stand, packets_of, stand_in, context_of, described, Fits}
 use Rattle.my_grammar.proofs.Growth.Known.{is_head_kind, known_head, is_then}
 use Rattle.my_reading.specs.declared.facts.Facts.{Facts}
 use Rattle.my_reading.specs.Facts.{counted, with_column, facts_by}
@@ -31,10 +32,10 @@ record Gathers (f : Facts) (left : ℕ) (columns : List Column) : Type 0 where
 
 -- a head with this column, whole or not
 abbrev whole_by : Facts → Column → Facts
-whole_by f c = record { version = f.version; connection = f.connection; nonce = f.nonce; status = f.status; ok = f.ok; left = 0; gathered = []; columns = f.gathered ++ c ∷ []; settings = f.settings; reply = f.reply; place = f.place }
+whole_by f c = record { version = f.version; connection = f.connection; caching = f.caching; nonce = f.nonce; status = f.status; ok = f.ok; left = 0; gathered = []; columns = f.gathered ++ c ∷ []; settings = f.settings; reply = f.reply; place = f.place }
 
 abbrev part_by : Facts → Column → Facts
-part_by f c = record { version = f.version; connection = f.connection; nonce = f.nonce; status = f.status; ok = f.ok; left = f.left - 1; gathered = f.gathered ++ c ∷ []; columns = f.columns; settings = f.settings; reply = f.reply; place = f.place }
+part_by f c = record { version = f.version; connection = f.connection; caching = f.caching; nonce = f.nonce; status = f.status; ok = f.ok; left = f.left - 1; gathered = f.gathered ++ c ∷ []; columns = f.columns; settings = f.settings; reply = f.reply; place = f.place }
 
 joined : (f : Facts) (c : Column) (ps : List (List ℕ)) (p : List ℕ) → column_at p ≡ Some c → f.gathered ≡ columns_in_order ps → f.gathered ++ c ∷ [] ≡ columns_in_order (p ∷ ps)
 joined f c ps p is g = ap (λ cs. cs ++ c ∷ []) g ∙ ap (λ o. columns_in_order ps ++ column_list o) (sym is)
@@ -121,13 +122,17 @@ reply_not_rows (InFields head w ps left) e = cc
 reply_not_rows (AfterFields head w ps) e = cc
 reply_not_rows (Complete head w v) e = cc
 
+pub chain_not_rows : (o : Option AuthStand) → chain_spot o ≡ spots.Rows → ⊥
+chain_not_rows None e = cc
+chain_not_rows (Some stand) e = cc
+
 pub at_rows : (t : Talk) → Fits t → (context_of t).spot ≡ spots.Rows → AtRows t
 at_rows (Start login) fits e = cc
 at_rows (Unwelcome login q) fits e = cc
-at_rows (Greeted login q c) fits e = cc
-at_rows (Settled login q c last kind) fits e = cc
+at_rows (Greeted login q offer chain) fits e = absurd (chain_not_rows (stand_in (greeted_stand login offer) chain) e)
 at_rows (Asked terms c) fits e = cc
 at_rows (Replied terms c last kind) fits e = cc
+at_rows (Changing terms secret stand c chain) fits e = absurd (chain_not_rows (stand_in stand chain) e)
 at_rows (Queried terms c (NoSets asking)) fits e = cc
 at_rows (Queried terms c (Lone older q s)) fits e = absurd (not_rows (has_more_results s) e)
 at_rows (Queried terms c (Failed older q)) fits e = cc
@@ -146,8 +151,8 @@ at_rows (Silent terms c) fits e = cc
 -- only in the place of a row does it matter which columns they are
 kind_same : (s : Spot) (rows : RowFormat) (d : Bool) (n : ℕ) (cs ds : List Column) (p : List ℕ) → (s ≡ spots.Rows → cs ≡ ds) → kind_by s rows d n cs p ≡ kind_by s rows d n ds p
 kind_same spots.Idle rows d n cs ds p e = refl
-kind_same spots.Greeting rows d n cs ds p e = refl
-kind_same spots.Authentication rows d n cs ds p e = refl
+kind_same (spots.Greeting rules) rows d n cs ds p e = refl
+kind_same (spots.Authentication stand) rows d n cs ds p e = refl
 kind_same spots.Single rows d n cs ds p e = refl
 kind_same spots.Head rows d n cs ds p e = refl
 kind_same spots.Further rows d n cs ds p e = refl

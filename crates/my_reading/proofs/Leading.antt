@@ -9,15 +9,14 @@ use Rattle.my_grammar.specs.declared.spot.Kind.{Kind}
 use Rattle.my_grammar.specs.declared.spot.Kind.TheVariants as kinds
 use Rattle.my_grammar.specs.Cut.{front_of, kind_of, is_over}
 use Rattle.my_grammar.specs.Growth.{grow}
-use Rattle.my_grammar.specs.Response.{response}
-use Rattle.my_grammar.specs.Talk.{Talk, commands_in, context_of, limit_of, turns, number_of}
+use Rattle.my_grammar.specs.Talk.{Talk, commands_in, context_of, limit_of, turns, number_of, says, secret_in}
 use Rattle.my_reading.specs.declared.call.Call.{Call}
 use Rattle.my_reading.specs.declared.error.DriverError.{DriverError}
 use Rattle.my_reading.specs.declared.transaction.Trial.{Trial}
 use Rattle.my_reading.specs.declared.transaction.Trial.TheVariants as trials
 use Rattle.my_reading.specs.declared.call.Call.TheVariants.{Prepare}
 use Rattle.my_reading.specs.Calls.{statement_in, text_in}
-use Rattle.my_reading.specs.Course.{Part, All, Head, Item, Set, Rest, Command, Find, Check, Run, Reply, Keep, Give, Learn, Forget, Offered, Clear, Text, Flag, Adopt, Renew, Drain, Undo, Undone, Refuse, Settle, GiveUp, Try, Back, Stop, Step, Goes, Stops, step, step_of, unless_owed, with_front, reads, after_payload, after_kind, after_err, dropped_at, failed_at, is_drain, unless_cached, unless_long_response, with_command, first_above, found, checked, executed, closing_of, learned, offered, undone, renewing, unless_refused, refused_at, returned, is_greeting, is_rows, parts_of, run, halt, enough}
+use Rattle.my_reading.specs.Course.{Part, All, Head, Item, Set, Rest, Command, Find, Check, Run, Reply, Keep, Give, Learn, Forget, Offered, Clear, Text, Flag, Adopt, Renew, Drain, Undo, Undone, Refuse, Settle, GiveUp, Try, Back, Stop, Step, Goes, Stops, step, step_of, unless_owed, with_front, reads, after_payload, after_kind, after_err, dropped_at, failed_at, is_drain, unless_cached, above, unless_long, unless_long_said, with_command, first_above, found, checked, executed, closing_of, learned, offered, undone, renewing, unless_refused, refused_at, returned, is_greeting, is_rows, parts_of, run, halt, enough}
 use Rattle.my_handshake.specs.Version.{version_of}
 use Rattle.my_reading.specs.Commands.{queried}
 use Rattle.my_reading.specs.Executions.{Values, Fitting, Unfitting, values_for}
@@ -96,6 +95,7 @@ module _ (part : Part) (parts : List Part) (p : Place) (t : Talk) (rest : List �
       by_part Back k = omega arith
       by_part Head (kinds.Good status) = omega arith
       by_part Head (kinds.Greets n) = omega arith
+      by_part Head (kinds.Asks n) = omega arith
       by_part Head kinds.Failed = omega arith
       by_part Head (kinds.Count n) = omega arith
       by_part Head kinds.Column = omega arith
@@ -108,6 +108,7 @@ module _ (part : Part) (parts : List Part) (p : Place) (t : Talk) (rest : List �
       by_part Head kinds.Bad = omega arith
       by_part Item (kinds.Good status) = omega arith
       by_part Item (kinds.Greets n) = omega arith
+      by_part Item (kinds.Asks n) = omega arith
       by_part Item kinds.Failed = omega arith
       by_part Item (kinds.Count n) = omega arith
       by_part Item kinds.Column = omega arith
@@ -120,6 +121,7 @@ module _ (part : Part) (parts : List Part) (p : Place) (t : Talk) (rest : List �
       by_part Item kinds.Bad = omega arith
       by_part Set (kinds.Good status) = omega arith
       by_part Set (kinds.Greets n) = omega arith
+      by_part Set (kinds.Asks n) = omega arith
       by_part Set kinds.Failed = omega arith
       by_part Set (kinds.Count n) = omega arith
       by_part Set kinds.Column = omega arith
@@ -155,11 +157,13 @@ module _ (part : Part) (parts : List Part) (p : Place) (t : Talk) (rest : List �
       by_drain true = let here = dropped_size login x in omega (arith, here)
       by_drain false = let here = err_size login x in omega (arith, here)
 
-  long_size : (login : Login) (payload : List ℕ) (b : Bool) → nat_lt (limit_of p.talk) (length (response login payload)) ≡ b
-      → size_of (unless_long_response login p payload (Goes (part ∷ parts) new)) ≤ left
+  long_size : (o : Option ℕ) → size_of (unless_long p (limit_of p.talk) o (Goes (part ∷ parts) new)) ≤ left
   unfolding size_of size weight
-  long_size login payload true e = rw e (omega arith)
-  long_size login payload false e = rw e (omega arith)
+  long_size None = omega arith
+  long_size (Some len) = omega arith
+
+  said_size : (login : Login) (k : Kind) (payload : List ℕ) → size_of (unless_long_said login p k payload (Goes (part ∷ parts) new)) ≤ left
+  said_size login k payload = long_size (above (limit_of p.talk) (says login (secret_in p.talk) k payload))
 
   cached_size : (login : Login) (x : Option PrepareOk) → size_of (unless_cached login p x (Goes (part ∷ parts) new)) ≤ left
   unfolding size_of size weight
@@ -174,7 +178,8 @@ module _ (part : Part) (parts : List Part) (p : Place) (t : Talk) (rest : List �
   unfolding size_of
   payload_size login payload kinds.Bad = omega arith
   payload_size login payload kinds.Failed = failed_size login (err_at (is_greeting (context_of p.talk).spot) payload)
-  payload_size login payload (kinds.Greets n) = let here = long_size login payload (nat_lt (limit_of p.talk) (length (response login payload))) refl in omega (arith, here)
+  payload_size login payload (kinds.Greets n) = let here = said_size login (kinds.Greets n) payload in omega (arith, here)
+  payload_size login payload (kinds.Asks n) = let here = said_size login (kinds.Asks n) payload in omega (arith, here)
   payload_size login payload (kinds.Good status) = let here = kind_size (ToldRow (row_of (context_of p.talk).rows (facts_at login p).columns payload)) (kinds.Good status) in omega (arith, here)
   payload_size login payload (kinds.Count n) = let here = kind_size (ToldRow (row_of (context_of p.talk).rows (facts_at login p).columns payload)) (kinds.Count n) in omega (arith, here)
   payload_size login payload kinds.Column = let here = kind_size (ToldRow (row_of (context_of p.talk).rows (facts_at login p).columns payload)) kinds.Column in omega (arith, here)

@@ -7,7 +7,7 @@ use Rattle.my_grammar.specs.declared.packet.Packet.{Packet}
 use Rattle.my_grammar.specs.FitReplies.{IsRefusal}
 use Rattle.my_grammar.specs.Prepares.{PreparedHead, Described, Reply, Unanswered, Refused, InParameters, AfterParameters, InFields, AfterFields, Complete, described_packets, head_packet, packets_in_reply}
 use Rattle.my_grammar.specs.Sets.{each, at_most_one}
-use Rattle.my_grammar.specs.Talk.{Talk, Start, Unwelcome, Greeted, Settled, Asked, Replied, Queried, Preparing, Silent, packets_of, origin}
+use Rattle.my_grammar.specs.Talk.{Talk, Start, Unwelcome, Greeted, Asked, Replied, Changing, Queried, Preparing, Silent, packets_of, origin}
 use Rattle.my_reading.specs.declared.facts.Facts.{Facts}
 use Rattle.my_reply.specs.declared.column.Column.{Column}
 use Rattle.my_reply.specs.Column.{column_at}
@@ -80,10 +80,10 @@ reply_tells (Complete h w v) = inr (close_tells v.close _ (fields_tell v.packets
 pub prepare_tells_nothing : (terms : Terms) (c : List ℕ) (t : Talk) → origin t ≡ Preparing terms c Unanswered → IsRefusal (packets_of t) ⊎ TellsNothing (packets_of t)
 prepare_tells_nothing terms c (Start login) o = cc
 prepare_tells_nothing terms c (Unwelcome login p) o = cc
-prepare_tells_nothing terms c (Greeted login p n) o = cc
-prepare_tells_nothing terms c (Settled login p n last kind) o = cc
+prepare_tells_nothing terms c (Greeted login p offer chain) o = cc
 prepare_tells_nothing terms c (Asked own d) o = cc
 prepare_tells_nothing terms c (Replied own d last kind) o = cc
+prepare_tells_nothing terms c (Changing own secret stand d chain) o = cc
 prepare_tells_nothing terms c (Queried own d sets) o = cc
 prepare_tells_nothing terms c (Preparing own d r) o = reply_tells r
 prepare_tells_nothing terms c (Silent own d) o = cc

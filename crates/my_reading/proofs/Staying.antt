@@ -10,15 +10,14 @@ use Rattle.my_grammar.specs.declared.spot.Kind.{Kind}
 use Rattle.my_grammar.specs.declared.spot.Kind.TheVariants as kinds
 use Rattle.my_grammar.specs.Cut.{front_of, kind_of, is_over}
 use Rattle.my_grammar.specs.Growth.{grow}
-use Rattle.my_grammar.specs.Response.{response}
-use Rattle.my_grammar.specs.Talk.{Talk, commands_in, context_of, limit_of, turns, number_of}
+use Rattle.my_grammar.specs.Talk.{Talk, commands_in, context_of, limit_of, turns, number_of, says, secret_in}
 use Rattle.my_reading.specs.declared.call.Call.{Call}
 use Rattle.my_reading.specs.declared.error.DriverError.{DriverError}
 use Rattle.my_reading.specs.declared.transaction.Trial.{Trial}
 use Rattle.my_reading.specs.declared.transaction.Trial.TheVariants as trials
 use Rattle.my_reading.specs.declared.call.Call.TheVariants.{Prepare}
 use Rattle.my_reading.specs.Calls.{statement_in, text_in}
-use Rattle.my_reading.specs.Course.{Part, All, Head, Item, Set, Rest, Command, Find, Check, Run, Reply, Keep, Give, Learn, Forget, Offered, Clear, Text, Flag, Adopt, Renew, Drain, Undo, Undone, Refuse, Settle, GiveUp, Try, Back, Step, Goes, Stops, return, step, step_of, unless_owed, with_front, reads, after_payload, after_kind, after_err, dropped_at, failed_at, is_drain, unless_cached, unless_long_response, with_command, first_above, found, checked, executed, closing_of, learned, offered, undone, renewing, unless_refused, refused_at, returned, is_greeting, is_rows}
+use Rattle.my_reading.specs.Course.{Part, All, Head, Item, Set, Rest, Command, Find, Check, Run, Reply, Keep, Give, Learn, Forget, Offered, Clear, Text, Flag, Adopt, Renew, Drain, Undo, Undone, Refuse, Settle, GiveUp, Try, Back, Step, Goes, Stops, return, step, step_of, unless_owed, with_front, reads, after_payload, after_kind, after_err, dropped_at, failed_at, is_drain, unless_cached, above, unless_long, unless_long_said, with_command, first_above, found, checked, executed, closing_of, learned, offered, undone, renewing, unless_refused, refused_at, returned, is_greeting, is_rows}
 use Rattle.my_handshake.specs.Version.{version_of}
 use Rattle.my_reading.specs.Commands.{queried}
 use Rattle.my_reading.specs.Executions.{Values, Fitting, Unfitting, values_for}
@@ -93,6 +92,7 @@ module _ (login : Login) (sent taken : List ℕ) where
   kind_more Back parts k new row = refl
   kind_more Head parts (kinds.Good status) new row = refl
   kind_more Head parts (kinds.Greets n) new row = refl
+  kind_more Head parts (kinds.Asks n) new row = refl
   kind_more Head parts kinds.Failed new row = refl
   kind_more Head parts (kinds.Count n) new row = refl
   kind_more Head parts kinds.Column new row = refl
@@ -105,6 +105,7 @@ module _ (login : Login) (sent taken : List ℕ) where
   kind_more Head parts kinds.Bad new row = refl
   kind_more Item parts (kinds.Good status) new row = refl
   kind_more Item parts (kinds.Greets n) new row = refl
+  kind_more Item parts (kinds.Asks n) new row = refl
   kind_more Item parts kinds.Failed new row = refl
   kind_more Item parts (kinds.Count n) new row = refl
   kind_more Item parts kinds.Column new row = refl
@@ -117,6 +118,7 @@ module _ (login : Login) (sent taken : List ℕ) where
   kind_more Item parts kinds.Bad new row = refl
   kind_more Set parts (kinds.Good status) new row = refl
   kind_more Set parts (kinds.Greets n) new row = refl
+  kind_more Set parts (kinds.Asks n) new row = refl
   kind_more Set parts kinds.Failed new row = refl
   kind_more Set parts (kinds.Count n) new row = refl
   kind_more Set parts kinds.Column new row = refl
@@ -159,13 +161,17 @@ module _ (login : Login) (sent taken : List ℕ) where
         by_drain true = dropped_more new x
         by_drain false = err_more new x
 
-    long_more : (new : Place) (payload : List ℕ) (b : Bool)
-        → nat_lt (limit_of p.talk) (length (response login payload)) ≡ b
-        → unless_long_response login (more p) payload (Goes (part ∷ parts) (more new))
-        ≡ lift sent taken (unless_long_response login p payload (Goes (part ∷ parts) new))
+    long_more : (new : Place) (o : Option ℕ)
+        → unless_long (more p) (limit_of p.talk) o (Goes (part ∷ parts) (more new))
+        ≡ lift sent taken (unless_long p (limit_of p.talk) o (Goes (part ∷ parts) new))
     unfolding lift
-    long_more new payload true e = rw e refl
-    long_more new payload false e = rw e refl
+    long_more new None = refl
+    long_more new (Some len) = refl
+
+    said_more : (new : Place) (k : Kind) (payload : List ℕ)
+        → unless_long_said login (more p) k payload (Goes (part ∷ parts) (more new))
+        ≡ lift sent taken (unless_long_said login p k payload (Goes (part ∷ parts) new))
+    said_more new k payload = long_more new (above (limit_of p.talk) (says login (secret_in p.talk) k payload))
 
     cached_more : (new : Place) (x : Option PrepareOk)
         → unless_cached login (more p) x (Goes (part ∷ parts) (more new))
@@ -186,7 +192,8 @@ module _ (login : Login) (sent taken : List ℕ) where
     unfolding lift
     payload_more new payload kinds.Bad = refl
     payload_more new payload kinds.Failed = failed_more new (err_at (is_greeting (context_of p.talk).spot) payload)
-    payload_more new payload (kinds.Greets n) = long_more new payload (nat_lt (limit_of p.talk) (length (response login payload))) refl
+    payload_more new payload (kinds.Greets n) = said_more new (kinds.Greets n) payload
+    payload_more new payload (kinds.Asks n) = said_more new (kinds.Asks n) payload
     payload_more new payload (kinds.Good status) = kind_more part parts (kinds.Good status) new (row payload)
     payload_more new payload (kinds.Count n) = kind_more part parts (kinds.Count n) new (row payload)
     payload_more new payload kinds.Column = kind_more part parts kinds.Column new (row payload)

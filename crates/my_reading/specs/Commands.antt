@@ -6,13 +6,16 @@ use Rattle.my_command.specs.declared.client.ClientPacket.{ClientPacket}
 use Rattle.my_command.specs.declared.client.ClientPacket.TheVariants as packets
 use Rattle.my_flags.specs.declared.flags.CapabilityFlags.{CapabilityFlags}
 use Rattle.my_command.specs.Client.Packet.{client_bytes as packet_bytes}
+use Rattle.my_auth.specs.declared.chain.AuthStand.{AuthStand}
+use Rattle.my_auth.specs.Chain.{first_stand}
+use Rattle.my_auth.specs.Plugins.{challenge_plugin}
 use Rattle.my_grammar.specs.declared.account.Account.{Account}
 use Rattle.my_grammar.specs.declared.login.Login.{Login}
 use Rattle.my_grammar.specs.declared.spot.Terms.{Terms}
 use Rattle.my_grammar.specs.Account.{change_to}
 use Rattle.my_grammar.specs.Prepares.{Unanswered}
 use Rattle.my_grammar.specs.Sets.{ByText, ByStatement, NoSets}
-use Rattle.my_grammar.specs.Talk.{Talk, Start, Queried, Preparing, Asked, Silent}
+use Rattle.my_grammar.specs.Talk.{Talk, Start, Queried, Preparing, Asked, Changing, Silent}
 use Rattle.my_params.specs.LongData.{ahead_of}
 use Rattle.my_params.specs.Parameters.{body_of}
 use Rattle.my_handshake.specs.declared.version.ServerVersion.{ServerVersion}
@@ -62,11 +65,17 @@ command_of terms st call = simple terms (simple_packet call)
 -- the options in force have this account: the session is reset, or gets the user of the account.
 abbrev pub renewal_packet : Login → CapabilityFlags → Facts → Account → Bool → ClientPacket
 renewal_packet login kept f account true = packets.ResetConnection
-renewal_packet login kept f account false = packets.ChangeUser (change_to login kept f.version f.nonce account)
+renewal_packet login kept f account false = packets.ChangeUser (change_to login kept f.version f.caching f.nonce account)
+
+-- the chain of a change of user begins with an answer to the last nonce
+abbrev pub change_stand : Login → Facts → AuthStand
+change_stand login f = first_stand login.rules (challenge_plugin f.caching)
 
 -- and its exchange, between client and server that keep to these terms
 abbrev pub renewal : Login → Terms → Facts → Account → Bool → Talk
-renewal login terms f account by_reset = Asked terms (packet_bytes (renewal_packet login terms.kept f account by_reset))
+renewal login terms f account true = Asked terms (packet_bytes (renewal_packet login terms.kept f account true))
+renewal login terms f account false =
+    Changing terms account.password (change_stand login f) (packet_bytes (renewal_packet login terms.kept f account false)) []
 
 -- A pool has the session reset where the server can; each other renewal is a change of user.
 abbrev pub renews_by_reset : CallKind → ServerVersion → Bool

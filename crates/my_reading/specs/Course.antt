@@ -14,10 +14,9 @@ use Rattle.my_grammar.specs.declared.spot.Spot.{Spot}
 use Rattle.my_grammar.specs.declared.spot.Spot.TheVariants as spots
 use Rattle.my_grammar.specs.Cut.{front_of, kind_of, is_over}
 use Rattle.my_grammar.specs.Growth.{grow}
-use Rattle.my_grammar.specs.Response.{response}
 use Rattle.my_handshake.specs.Version.{version_of}
 use Rattle.my_grammar.specs.declared.spot.Terms.{Terms}
-use Rattle.my_grammar.specs.Talk.{Talk, commands_in, context_of, limit_of}
+use Rattle.my_grammar.specs.Talk.{Talk, commands_in, context_of, limit_of, says, secret_in}
 use Rattle.my_statements.specs.Cache.{Held}
 use Rattle.my_opts.specs.ChangeUser.{ChangeView}
 use Rattle.my_opts_parts.specs.TransactionOptions.{TxView}
@@ -36,7 +35,7 @@ use Rattle.my_reading.specs.declared.transaction.TxStatus.TheVariants as txs
 use Rattle.my_reading.specs.Accounts.{changed}
 use Rattle.my_reading.specs.Calls.{kind_of as call_kind, id_in, statement_in, text_in}
 use Rattle.my_reading.specs.Commands.{arranging_texts, closing, execution, queried, renewal, renews_by_reset, setup_texts}
-use Rattle.my_reading.specs.Errors.{codec_error, invalid_data, mixed_params, server_error}
+use Rattle.my_reading.specs.Errors.{codec_error, invalid_data, mixed_params, server_error, unfit_error}
 use Rattle.my_reading.specs.Executions.{Values, Fitting, Unfitting, values_for}
 use Rattle.my_reading.specs.Facts.{prepared_by}
 use Rattle.my_reading.specs.Place.{Place, exchanges, facts_at, owed, terms_of, without_end, with_account, with_end, with_statements, with_status, with_trial, with_taken, with_talk, with_exchange, next_exchange}
@@ -156,12 +155,16 @@ abbrev pub failure : Place → Error → Step
 failure p e = return p (ToldError e)
 
 abbrev pub is_greeting : Spot → Bool
-is_greeting spots.Greeting = true
+is_greeting (spots.Greeting rules) = true
 is_greeting s = false
 
 -- a payload that fits no case there
 abbrev pub unfit : Login → Place → Step
 unfit login p = failure p (invalid_data (facts_at login p).place)
+
+-- the same where the client perhaps shows who it is: then the error says why it goes on no more
+abbrev pub misfit : Login → Place → List ℕ → Step
+misfit login p payload = failure p (unfit_error (context_of p.talk).spot payload (facts_at login p).place)
 
 -- After a payload of this kind, with which the place is new: what the part comes to, or that it goes on. `row` is the payload as a row.
 abbrev pub after_kind : Part → List Part → Kind → Place → Told → Step
@@ -199,17 +202,26 @@ abbrev pub unless_cached : Login → Place → Option PrepareOk → Step → Ste
 unless_cached login p None s = s
 unless_cached login p (Some ok) s = if is_cached p.statements ok.id then unfit login p else s
 
--- the response to a greeting may be above the limit
-abbrev pub unless_long_response : Login → Place → List ℕ → Step → Step
-unless_long_response login p payload s =
-    if nat_lt (limit_of p.talk) (length (response login payload))
-    then failure p (codec_error (TooLarge (length (response login payload)) (limit_of p.talk)))
-    else s
+-- what the client would say is above the limit, or the reading goes on so
+abbrev pub unless_long : Place → ℕ → Option ℕ → Step → Step
+unless_long p limit None s = s
+unless_long p limit (Some len) s = failure p (codec_error (TooLarge len limit))
+
+-- the length of what is said, where it is above the limit
+abbrev pub above : ℕ → Option (List ℕ) → Option ℕ
+above limit None = None
+above limit (Some said) = if nat_lt limit (length said) then Some (length said) else None
+
+-- the response to a greeting, or an answer in a chain, may be above the limit
+abbrev pub unless_long_said : Login → Place → Kind → List ℕ → Step → Step
+unless_long_said login p k payload s =
+    unless_long p (limit_of p.talk) (above (limit_of p.talk) (says login (secret_in p.talk) k payload)) s
 
 abbrev pub after_payload : Login → Part → List Part → Place → Place → List ℕ → Kind → Step
-after_payload login part parts p new payload kinds.Bad = unfit login p
+after_payload login part parts p new payload kinds.Bad = misfit login p payload
 after_payload login part parts p new payload kinds.Failed = failed_at login part parts p new (err_at (is_greeting (context_of p.talk).spot) payload)
-after_payload login part parts p new payload (kinds.Greets capabilities) = unless_long_response login p payload (Goes (part ∷ parts) new)
+after_payload login part parts p new payload (kinds.Greets offer) = unless_long_said login p (kinds.Greets offer) payload (Goes (part ∷ parts) new)
+after_payload login part parts p new payload (kinds.Asks ask) = unless_long_said login p (kinds.Asks ask) payload (Goes (part ∷ parts) new)
 after_payload login part parts p new payload (kinds.Prepared params columns) = unless_cached login p (prepare_ok_at payload) (Goes (part ∷ parts) new)
 after_payload login part parts p new payload k = after_kind part parts k new (ToldRow (row_of (context_of p.talk).rows (facts_at login p).columns payload))
 
@@ -228,11 +240,6 @@ reads login part parts p = with_front login part parts p (front_of p.talk p.unre
 abbrev pub first_above : ℕ → List (List ℕ) → Option ℕ
 first_above limit [] = None
 first_above limit (c ∷ cs) = if nat_lt limit (length c) then Some (length c) else first_above limit cs
-
--- what the client would say is above the limit, or the exchange begins
-abbrev pub unless_long : Place → ℕ → Option ℕ → Step → Step
-unless_long p limit None s = s
-unless_long p limit (Some len) s = failure p (codec_error (TooLarge len limit))
 
 abbrev pub with_command : Call → List Part → Place → Option Talk → Step
 with_command call parts p None = Goes parts p

@@ -8,7 +8,7 @@ use Rattle.my_reading.specs.Facts.{facts_by}
 
 -- the same facts after another number of payloads, and after another reply to a statement to prepare
 abbrev pub at_place : ℕ → PreparedReply → Facts → Facts
-at_place place reply f = record { version = f.version; connection = f.connection; nonce = f.nonce; status = f.status; ok = f.ok; left = f.left; gathered = f.gathered; columns = f.columns; settings = f.settings; reply = reply; place = place }
+at_place place reply f = record { version = f.version; connection = f.connection; caching = f.caching; nonce = f.nonce; status = f.status; ok = f.ok; left = f.left; gathered = f.gathered; columns = f.columns; settings = f.settings; reply = reply; place = place }
 
 -- After these payloads all facts are as they were, but for the count of payloads and the newest reply to a statement to prepare.
 abbrev pub TellsNothing : List Packet → Type 0

@@ -2,7 +2,7 @@
 
 ghost use Rattle.std.specs.Prelude.{◌≡◌, IfOk};
 
-use my_frame::{CodecFault, NoMemory, Text};
+use my_frame::{Blob, CodecFault, NoMemory, Text};
 use my_opts_parts::UrlError;
 use my_params::ParamsError;
 use std::alloc::Global;
@@ -29,6 +29,16 @@ pub enum DriverError {
     /// More values than an execution can have: 65,535.
     StmtParamsNumberExceedsLimit { supplied: u64 },
     TooLong,
+    /// This payload of the server doesn't belong where the client shows who it is.
+    UnexpectedPacket { payload: Blob },
+    /// The server asks for a plugin of this name, which the client doesn't have.
+    UnknownAuthPlugin { name: Blob },
+    /// The server asks for the password as it is, by `mysql_clear_password`, and the options don't allow it.
+    CleartextPluginDisabled,
+    /// The server asks for `mysql_old_password`, and the options refuse it.
+    MysqlOldPasswordDisabled,
+    /// The server asks for the password as it is, by `caching_sha2_password`, over a link that others may read.
+    FullAuthRefused,
     CantParseServerVersion,
     PacketOutOfOrder,
     PacketTooLarge,
@@ -55,6 +65,11 @@ impl DriverError {
                 "too many parameters for a statement: "
             }
             DriverError::TooLong => "the call took too many bytes without an answer",
+            DriverError::UnexpectedPacket { .. } => "unexpected packet",
+            DriverError::UnknownAuthPlugin { .. } => "unknown authentication plugin",
+            DriverError::CleartextPluginDisabled => "mysql_clear_password must be enabled",
+            DriverError::MysqlOldPasswordDisabled => "mysql_old_password is disabled",
+            DriverError::FullAuthRefused => "the password isn't sent in clear over this link",
             DriverError::CantParseServerVersion => "can't parse the server's version",
             DriverError::PacketOutOfOrder => "packet out of order",
             DriverError::PacketTooLarge => "packet too large",
@@ -93,6 +108,15 @@ impl DriverError {
                 })
             }
             DriverError::TooLong => Ok(DriverError::TooLong),
+            DriverError::UnexpectedPacket { payload } => Ok(DriverError::UnexpectedPacket {
+                payload: payload.copy(alloc)?,
+            }),
+            DriverError::UnknownAuthPlugin { name } => Ok(DriverError::UnknownAuthPlugin {
+                name: name.copy(alloc)?,
+            }),
+            DriverError::CleartextPluginDisabled => Ok(DriverError::CleartextPluginDisabled),
+            DriverError::MysqlOldPasswordDisabled => Ok(DriverError::MysqlOldPasswordDisabled),
+            DriverError::FullAuthRefused => Ok(DriverError::FullAuthRefused),
             DriverError::CantParseServerVersion => Ok(DriverError::CantParseServerVersion),
             DriverError::PacketOutOfOrder => Ok(DriverError::PacketOutOfOrder),
             DriverError::PacketTooLarge => Ok(DriverError::PacketTooLarge),

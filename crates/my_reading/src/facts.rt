@@ -8,9 +8,10 @@ ghost use Rattle.my_reply.specs.Replies.{prepare_ok_at};
 
 use crate::row::read_row;
 use crate::settings::Settings;
+use my_auth::{AuthAsk, AuthPlugin, nonce_in};
 use my_flags::StatusFlags;
 use my_frame::{Blob, Listed, NoMemory, ReadError};
-use my_grammar::{Kind, Login, RowFormat};
+use my_grammar::{Kind, Login, RowFormat, is_caching};
 use my_handshake::{Greeting, read_greeting};
 use my_reply::{Column, OkPacket, read_column, read_end_ok, read_ok, read_prepare_ok};
 use my_statements::{SetColumns, StmtInner};
@@ -37,7 +38,10 @@ pub struct Facts {
     pub version: Blob,
     /// The number of the connection.
     pub connection: u32,
-    /// The greeting's nonce, with which a client proves that it knows its password.
+    /// Whether the nonce is for `caching_sha2_password`, and not for the native plugin.
+    pub caching: bool,
+    /// The nonce with which a client proves that it knows its password: that of the greeting, or of the last switch to one
+    /// of the two plugins.
     pub nonce: Blob,
     /// The server's status, of the last OK or set's end; none after an ERR.
     pub status: StatusFlags,
@@ -102,7 +106,7 @@ fn column_in(alloc: Global, payload: &[u8]) -> Result<Option<Column>, NoMemory>
 }
 
 impl Facts {
-    ghost use Rattle.my_reading.specs.Facts.{first_facts, facts_after, counted, with_greeting, with_ok, with_count, with_column, with_field, with_head, with_parameter, with_settings, prepared_by, told_after};
+    ghost use Rattle.my_reading.specs.Facts.{first_facts, facts_after, counted, with_ask, with_greeting, with_nonce, with_ok, with_count, with_column, with_field, with_head, with_parameter, with_settings, prepared_by, told_after};
     ghost use Rattle.my_reading.specs.Rows.{row_at};
     ghost use Rattle.my_reading.specs.Settings.{end_settings, good_settings, row_settings};
 
@@ -114,6 +118,7 @@ impl Facts {
         Ok(Facts {
             version: Blob::new(alloc),
             connection: 0,
+            caching: false,
             nonce: Blob::new(alloc),
             status: StatusFlags(0),
             ok: None,
@@ -144,7 +149,37 @@ impl Facts {
         if let Some(greeting) = greeting {
             self.version = greeting.version;
             self.connection = greeting.id;
+            self.caching = is_caching(greeting.plugin.as_slice());
             self.nonce = greeting.nonce;
+        }
+    }
+
+    fn learn_nonce(&mut self, alloc: Global, caching: bool, nonce: &[u8]) -> Result<(), NoMemory>
+        ensures ok { OnOk result (self.new ≡ with_nonce caching nonce.now self.old) }
+        ensures err { OnErr result (self.new ≡ self.old) }
+    {
+        self.nonce = Blob::from_slice(alloc, nonce)?;
+        self.caching = caching;
+        Ok(())
+    }
+
+    // A request in a chain in which the client shows who it is.
+    fn learn_ask(&mut self, alloc: Global, ask: AuthAsk, payload: &[u8]) -> Result<(), NoMemory>
+        ensures ok { OnOk result (self.new ≡ with_ask ask payload.now self.old) }
+        ensures err { OnErr result (self.new ≡ self.old) }
+    {
+        match ask {
+            AuthAsk::Switch(AuthPlugin::Native) => self.learn_nonce(
+                alloc,
+                false,
+                nonce_in(payload),
+            ),
+            AuthAsk::Switch(AuthPlugin::Caching) => self.learn_nonce(
+                alloc,
+                true,
+                nonce_in(payload),
+            ),
+            _ => Ok(()),
         }
     }
 
@@ -316,6 +351,7 @@ impl Facts {
     {
         match kind {
             Kind::Greets(_) => self.learn_greeting(alloc, payload),
+            Kind::Asks(ask) => self.learn_ask(alloc, ask, payload),
             Kind::Good(status) => self.learn_good(alloc, status, payload),
             Kind::End(status) => self.learn_end(alloc, status, payload),
             Kind::Failed => {

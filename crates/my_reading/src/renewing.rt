@@ -73,5 +73,5 @@ pub fn renewal_packet(
         return Ok(ClientPacket::ResetConnection);
     }
     let (version, nonce) = (facts.version.as_slice(), facts.nonce.as_slice());
-    change_packet(alloc, login, kept, version, nonce, account)
+    change_packet(alloc, login, kept, version, facts.caching, nonce, account)
 }

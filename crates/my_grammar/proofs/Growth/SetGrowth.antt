@@ -171,7 +171,7 @@ grows_sets d (Broken older head rows last) k p e b f = absurd (none k e b)
 -- A kind that no greeting has.
 pub record IsCalm (k : Kind) (p : List ℕ) : Type 0 where
   pub kept : (n : CapabilityFlags) → kept_after n k ≡ n
-  pub silent : (login : Login) (secret : List ℕ) → replies login secret k p ≡ []
+  pub silent : (login : Login) (secret : Option (List ℕ)) → replies login secret k p ≡ []
 
 pub calm : (k : Kind) (p : List ℕ) → is_calm k ≡ true → IsCalm k p
 calm (Greets c) p i = cc

@@ -195,7 +195,7 @@ greeted_reaches login p offer (packet ∷ chain) f =
     let before : Fits (Greeted login p offer chain) = record { kinds = (f.kinds.0, f.kinds.1.0); within = f.within.1 } in
     goes_on (Greeted login p offer chain) packet.kind packet.payload (chain_kind_is stand Text (deprecates_eof (greeted_terms login offer.capabilities).kept) 0 [] packet.payload ∙ f.kinds.1.1) f.kinds.1.2 f.within.0 before (greeted_reaches login p offer chain before)
 
-changing_reaches : (terms : Terms) (secret : List ℕ) (first : AuthStand) (c : List ℕ) (chain : List Packet) → Fits (Changing terms secret first c chain) → Reaches (Changing terms secret first c chain)
+changing_reaches : (terms : Terms) (secret : Option (List ℕ)) (first : AuthStand) (c : List ℕ) (chain : List Packet) → Fits (Changing terms secret first c chain) → Reaches (Changing terms secret first c chain)
 changing_reaches terms secret first c [] f = at_origin (Changing terms secret first c []) refl refl
 changing_reaches terms secret first c (packet ∷ chain) f =
     let before : Fits (Changing terms secret first c chain) = record { kinds = f.kinds.0; within = f.within.1 } in
