@@ -7,6 +7,8 @@ pub mod laws;
 mod plugin;
 mod scramble;
 
-pub use chain::{AuthAsk, AuthMove, AuthRefusal, AuthRules, AuthStand, nonce_in, plugin_in, reply_to};
+pub use chain::{
+    AuthAsk, AuthMove, AuthRefusal, AuthRules, AuthStand, nonce_in, plugin_in, reply_to,
+};
 pub use plugin::AuthPlugin;
 pub use scramble::answer_of;

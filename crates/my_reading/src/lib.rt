@@ -12,6 +12,7 @@ mod row;
 mod settings;
 mod statements;
 mod transaction;
+mod unfit;
 mod version;
 
 pub use answer::Answer;
@@ -24,9 +25,10 @@ pub use law::{
     steps_lead_to_course, steps_stay,
 };
 pub use my_statements::SetColumns;
-pub use renewing::{changed, renewal_packet, renews_by_reset};
+pub use renewing::{change_stand, changed, renewal_packet, renews_by_reset};
 pub use row::read_row;
 pub use settings::{Settings, Stage};
 pub use statements::Statements;
 pub use transaction::{Trial, TxStatus, begin_refusal, begin_text, commit_text, rollback_text};
+pub use unfit::{invalid_data, unfit_error};
 pub use version::{can_reset, can_set_access};

@@ -3,11 +3,12 @@
 ghost use Rattle.std.specs.Prelude.{◌≡◌, IfOk, option_copied, option_map, unwrap_or};
 ghost use Rattle.my_command.specs.Client.Packet.{PartsFit};
 ghost use Rattle.my_reading.specs.Accounts.{changed};
-ghost use Rattle.my_reading.specs.Commands.{renewal_packet, renews_by_reset};
+ghost use Rattle.my_reading.specs.Commands.{change_stand, renewal_packet, renews_by_reset};
 
 use crate::call::CallKind;
 use crate::facts::Facts;
 use crate::version::can_reset;
+use my_auth::{AuthPlugin, AuthStand};
 use my_command::ClientPacket;
 use my_flags::CapabilityFlags;
 use my_frame::{Blob, Copied, NoMemory};
@@ -55,6 +56,13 @@ pub fn renews_by_reset(call: CallKind, version: ServerVersion) -> bool
         CallKind::ResetForPool => can_reset(version),
         _ => false,
     }
+}
+
+/// Where the chain of a change of user begins: with an answer to the last nonce.
+pub fn change_stand(login: &Login, facts: &Facts) -> AuthStand
+    ensures { result ≡ change_stand login.now facts.now }
+{
+    AuthStand::first(login.rules, AuthPlugin::of_challenge(facts.caching))
 }
 
 /// The packet by which the server's session is renewed: it is reset, or gets the user of this account.

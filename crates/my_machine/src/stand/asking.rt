@@ -10,7 +10,7 @@ ghost use Rattle.my_machine.specs.Parts.{executed_in, params_at, setup_at};
 ghost use Rattle.std.specs.Option.{option_copied};
 ghost use Rattle.my_reading.specs.Calls.{is_connect};
 ghost use Rattle.my_reading.specs.Commands.{simple_packet};
-ghost use Rattle.my_machine.specs.Stands.{IsTurn, arranged_after, arranges, asks, asks_simply, closes, commands};
+ghost use Rattle.my_machine.specs.Stands.{IsTurn, arranged_after, arranges, asks, asks_simply, asks_with, closes, commands};
 ghost use Rattle.my_machine.specs.Stands.{executes, executes_one};
 ghost use Rattle.my_machine.specs.Stands.{queries, queries_at, sends};
 
@@ -114,6 +114,19 @@ impl Stand {
     ) -> Result<Step, NoMemory>
         ensures { IfOk result (λ step. IsTurn (asks spot command.now arranged self.old) step self.new) }
     {
+        self.ask_with(spot, None, command, arranged)
+    }
+
+    /// The same of an exchange in whose chain the client answers by this password.
+    pub(super) fn ask_with(
+        &mut self,
+        spot: Spot,
+        secret: Option<Blob>,
+        command: &[u8],
+        arranged: usize,
+    ) -> Result<Step, NoMemory>
+        ensures { IfOk result (λ step. IsTurn (asks_with spot secret command.now arranged self.old) step self.new) }
+    {
         let limit = self.facts.settings.limit;
         let length = command.len() as u64;
         if length > limit {
@@ -132,6 +145,7 @@ impl Stand {
         self.arranged = arranged;
         self.end_left = false;
         self.taken = false;
+        self.secret = secret;
         Ok(Step::Passes)
     }
 
@@ -157,6 +171,7 @@ impl Stand {
         };
         self.end_left = false;
         self.taken = false;
+        self.secret = None;
         Ok(Step::Passes)
     }
 

@@ -2,24 +2,23 @@
 
 ghost use Rattle.std.specs.Prelude.{ℕ, ◌≡◌, [], ◌++◌, IfOk, OnOk, drop, false, length};
 ghost use Rattle.my_frame.specs.Chunks.{number_after_payload};
-ghost use Rattle.my_grammar.specs.Growth.{number_next, said};
+ghost use Rattle.my_grammar.specs.Growth.{bytes_said, number_next, number_said, said};
 ghost use Rattle.my_grammar.specs.Kinds.{kind_there};
-ghost use Rattle.my_grammar.specs.Response.{response};
 ghost use Rattle.my_reply.specs.Replies.{prepare_ok_at};
 ghost use Rattle.my_reading.specs.Course.{is_greeting, is_rows};
 ghost use Rattle.my_reading.specs.Rows.{row_of};
 ghost use Rattle.my_machine.specs.Stands.{IsTurn, failure, heard, reads, read_payload, unfit};
 ghost use Rattle.my_value.specs.RowParts.{RowParts};
 ghost use Rattle.my_machine.specs.Found.{IsPlaced, payload_in};
-ghost use Rattle.my_machine.specs.Stands.{after_greeting, after_kind, after_prepared, is_cached_by, is_item_row};
+ghost use Rattle.my_machine.specs.Stands.{after_kind, after_prepared, after_said, is_cached_by, is_item_row, misfit, said_above};
 
 use super::Stand;
 use super::payload::{FoundPayload, find_payload};
 use crate::part::Part;
 use crate::step::{Ending, Step, Stop};
-use my_frame::{CodecError, CodecFault, NoMemory, ReadError};
-use my_grammar::{Kind, Login, Queue, Spot, kind_at, login_response};
-use my_reading::{Answer, Error, IoError, IoFault, IoKind, read_row};
+use my_frame::{Blob, CodecError, CodecFault, NoMemory, ReadError};
+use my_grammar::{Kind, Login, Queue, Spot, kind_at, says};
+use my_reading::{Answer, Error, IoError, invalid_data, read_row, unfit_error};
 use my_reply::read_prepare_ok;
 use my_value::Row;
 use std::alloc::Global;
@@ -51,7 +50,7 @@ pub(super) fn is_greeting(spot: Spot) -> bool
     ensures { result ≡ is_greeting spot }
 {
     match spot {
-        Spot::Greeting => true,
+        Spot::Greeting(_) => true,
         _ => false,
     }
 }
@@ -66,24 +65,39 @@ pub(super) fn is_rows(spot: Spot) -> bool
     }
 }
 
+// What is said at once after a payload is owed, and the next sequence id is returned.
+fn owe(owed: &mut Queue, said: Option<Blob>, next: u8) -> Result<u8, NoMemory>
+    ensures owed { OnOk result (owed.new ≡ owed.old ++ bytes_said said next) }
+    ensures number { IfOk result (λ m. m ≡ number_said said next) }
+{
+    match said {
+        Some(said) => {
+            let number = owed.push_payload(said.as_slice(), next);
+            drop(said);
+            number
+        }
+        None => Ok(next),
+    }
+}
+
 // What the client says at once after a payload is owed, and the next sequence id is returned.
 fn say(
     alloc: Global,
     login: &Login,
+    secret: &Option<Blob>,
     kind: Kind,
     payload: &[u8],
     next: u8,
     owed: &mut Queue,
 ) -> Result<u8, NoMemory>
     ensures owed { (n : ℕ) → next ≡ number_after_payload payload.now n
-        → OnOk result (owed.new ≡ owed.old ++ said login.now kind payload.now n) }
+        → OnOk result (owed.new ≡ owed.old ++ said login.now secret.now kind payload.now n) }
     ensures number { (n : ℕ) → next ≡ number_after_payload payload.now n
-        → IfOk result (λ m. m ≡ number_next login.now kind payload.now n) }
+        → IfOk result (λ m. m ≡ number_next login.now secret.now kind payload.now n) }
 {
     match kind {
-        Kind::Greets(_) => {
-            let response = login_response(alloc, login, payload)?;
-            owed.push_payload(response.as_slice(), next)
+        Kind::Greets(_) | Kind::Asks(_) => {
+            owe(owed, says(alloc, login, secret, kind, payload)?, next)
         }
         _ => Ok(next),
     }
@@ -94,10 +108,15 @@ impl Stand {
     pub(super) fn unfit(&self) -> Step
         ensures { result ≡ unfit self.now }
     {
-        failure(Error::Io(IoError::Io(IoFault {
-            kind: IoKind::InvalidData,
-            place: self.facts.place,
-        })))
+        failure(invalid_data(self.facts.place))
+    }
+
+    // The same where the client perhaps shows who it is.
+    fn misfit(&self, alloc: Global, payload: &[u8]) -> Result<Step, NoMemory>
+        ensures { IfOk result (λ step. step ≡ misfit self.now payload.now) }
+    {
+        let error = unfit_error(alloc, self.context.spot, payload, self.facts.place)?;
+        Ok(failure(error))
     }
 
     /// The payload that was found is read.
@@ -116,7 +135,16 @@ impl Stand {
             OnOk result (self.new ≡ heard login.now kind (payload_in s.unread found.now) rest s) }
     {
         let payload = found.in_bytes(self.unread.as_slice());
-        let number = say(alloc, login, kind, payload, found.span.next, &mut self.owed)?;
+        let next = found.span.next;
+        let number = say(
+            alloc,
+            login,
+            &self.secret,
+            kind,
+            payload,
+            next,
+            &mut self.owed,
+        )?;
         self.facts.learn(alloc, kind, payload)?;
         self.number = number;
         self.context = self.context.after(kind);
@@ -165,8 +193,29 @@ impl Stand {
         }
     }
 
-    // The greeting is read, unless the response to it is above the limit.
-    fn greet(
+    // The length of what the client says to the payload, where it is above the limit.
+    fn said_above(
+        &self,
+        alloc: Global,
+        login: &Login,
+        kind: Kind,
+        payload: &[u8],
+    ) -> Result<Option<u64>, NoMemory>
+        ensures { IfOk result (λ length. length ≡ said_above login.now kind payload.now self.now) }
+    {
+        let Some(said) = says(alloc, login, &self.secret, kind, payload)? else {
+            return Ok(None);
+        };
+        let length = said.len() as u64;
+        drop(said);
+        if length > self.context.terms.limit {
+            return Ok(Some(length));
+        }
+        Ok(None)
+    }
+
+    // A greeting or a request in a chain is read, unless what the client says to it is above the limit.
+    fn answer(
         &mut self,
         alloc: Global,
         login: &Login,
@@ -178,17 +227,12 @@ impl Stand {
         requires placed { IsPlaced self.old.unread found.now }
         ensures { let s = self.old in
             let payload = payload_in s.unread found.now in
-            let len = length (response login.now payload) in
             let new = heard login.now kind payload (drop found.now.span.len s.unread) s in
-            IfOk result (λ step. IsTurn (after_greeting len s new) step self.new) }
+            IfOk result (λ step. IsTurn (after_said (said_above login.now kind payload s) s new) step self.new) }
     {
-        let limit = self.context.terms.limit;
-        let length = login_response(
-            alloc,
-            login,
-            found.in_bytes(self.unread.as_slice()),
-        )?.len() as u64;
-        if length > limit {
+        let payload = found.in_bytes(self.unread.as_slice());
+        if let Some(length) = self.said_above(alloc, login, kind, payload)? {
+            let limit = self.context.terms.limit;
             return Ok(codec_failure(CodecFault::TooLarge { length, limit }));
         }
         self.hear(alloc, login, kind, found)?;
@@ -306,9 +350,9 @@ impl Stand {
     {
         let kind = self.kind_here(found.in_bytes(self.unread.as_slice()));
         match kind {
-            Kind::Bad => Ok(self.unfit()),
+            Kind::Bad => self.misfit(alloc, found.in_bytes(self.unread.as_slice())),
             Kind::Failed => self.fail(alloc, login, part, found),
-            Kind::Greets(_) => self.greet(alloc, login, kind, found),
+            Kind::Greets(_) | Kind::Asks(_) => self.answer(alloc, login, kind, found),
             Kind::Prepared { .. } => self.prepare(alloc, login, kind, found),
             _ => self.go_on(alloc, login, part, kind, found),
         }

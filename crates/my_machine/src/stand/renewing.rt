@@ -1,21 +1,19 @@
 //! The parts of calls by which the server's session is renewed.
 
-ghost use Rattle.std.specs.Prelude.{◌≡◌, IfOk};
+ghost use Rattle.std.specs.Prelude.{◌≡◌, true, false, IfOk};
 ghost use Rattle.my_handshake.specs.Version.{version_of};
-ghost use Rattle.my_command.specs.Client.Packet.{PartsFit};
 ghost use Rattle.my_reading.specs.Accounts.{changed};
-ghost use Rattle.my_machine.specs.Stands.{IsTurn, adopts, renewing_packet, renews, turn, with_account};
+ghost use Rattle.my_machine.specs.Stands.{IsTurn, adopts, renewing_payload, renews, renews_so, turn, with_account};
 ghost use Rattle.my_machine.specs.Parts.{change_at};
 
 use super::Stand;
 use super::asking::payload_of;
 use crate::step::Step;
-use my_command::ClientPacket;
-use my_frame::NoMemory;
+use my_frame::{Copied, NoMemory};
 use my_grammar::{Login, Spot};
 use my_handshake::server_version;
 use my_opts::ChangeUserOpts;
-use my_reading::{Call, changed, renewal_packet, renews_by_reset};
+use my_reading::{Call, change_stand, changed, renewal_packet, renews_by_reset};
 use std::alloc::Global;
 use std::mem;
 
@@ -40,20 +38,46 @@ impl Stand {
         }
     }
 
-    // The packet by which the server's session is renewed.
-    fn renewing_packet(
+    // The payload by which the server's session is renewed.
+    fn renewing_payload(
         &self,
         alloc: Global,
         login: &Login,
-        call: &Call,
-    ) -> Result<ClientPacket, NoMemory>
-        ensures value { IfOk result (λ packet. packet ≡ renewing_packet login.now call.now self.now) }
-        ensures fits { IfOk result (λ packet. PartsFit packet) }
+        by_reset: bool,
+    ) -> Result<Vec<u8>, NoMemory>
+        ensures { IfOk result (λ payload. payload.items ≡ renewing_payload login.now self.now by_reset) }
     {
-        let version = server_version(self.facts.version.as_slice());
-        let by_reset = renews_by_reset(call.kind(), version);
         let kept = self.context.terms.kept;
-        renewal_packet(alloc, login, kept, &self.facts, &self.account, by_reset)
+        let packet = renewal_packet(alloc, login, kept, &self.facts, &self.account, by_reset)?;
+        payload_of(alloc, packet)
+    }
+
+    // The server's session is renewed by a reset.
+    fn renew_by_reset(
+        &mut self,
+        alloc: Global,
+        login: &Login,
+        call: &Call,
+    ) -> Result<Step, NoMemory>
+        ensures { IfOk result (λ step. IsTurn (renews_so login.now call.now self.old true) step self.new) }
+    {
+        let command = self.renewing_payload(alloc, login, true)?;
+        self.ask(Spot::Single, &command, self.arranged_after(call))
+    }
+
+    // The server's session gets another user.
+    fn renew_by_change(
+        &mut self,
+        alloc: Global,
+        login: &Login,
+        call: &Call,
+    ) -> Result<Step, NoMemory>
+        ensures { IfOk result (λ step. IsTurn (renews_so login.now call.now self.old false) step self.new) }
+    {
+        let command = self.renewing_payload(alloc, login, false)?;
+        let spot = Spot::Authentication(change_stand(login, &self.facts));
+        let secret = self.account.password.copy(alloc)?;
+        self.ask_with(spot, secret, &command, self.arranged_after(call))
     }
 
     /// The server's session is renewed.
@@ -65,8 +89,11 @@ impl Stand {
     ) -> Result<Step, NoMemory>
         ensures { IfOk result (λ step. IsTurn (renews login.now call.now self.old) step self.new) }
     {
-        let packet = self.renewing_packet(alloc, login, call)?;
-        let command = payload_of(alloc, packet)?;
-        self.ask(Spot::Single, &command, self.arranged_after(call))
+        let version = server_version(self.facts.version.as_slice());
+        if renews_by_reset(call.kind(), version) {
+            self.renew_by_reset(alloc, login, call)
+        } else {
+            self.renew_by_change(alloc, login, call)
+        }
     }
 }
