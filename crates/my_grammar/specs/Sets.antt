@@ -154,7 +154,8 @@ with_error (Begun older head rows) p = Broken older head rows p
 with_error x p = Failed x p
 
 abbrev pub grow_sets : Bool → Kind → Sets → List ℕ → Sets
-grow_sets deprecates (kinds.Greets capabilities) x p = x
+grow_sets deprecates (kinds.Greets offer) x p = x
+grow_sets deprecates (kinds.Asks ask) x p = x
 grow_sets deprecates (kinds.Good status) x p = Lone x p status
 grow_sets deprecates kinds.Failed x p = with_error x p
 grow_sets deprecates (kinds.Count n) x p = Heading x (record { count = p; number = n; columns = []; close = None }) n

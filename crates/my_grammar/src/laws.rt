@@ -1,6 +1,6 @@
 //! Laws of exchanges and of the bytes that hold them. Each function's clause is the law; it does nothing.
 
-ghost use Rattle.std.specs.Prelude.{◌≡◌, ◌≤◌, ◌⊎◌, ℕ, List, ◌∷◌, ◌++◌, length, map, true, false};
+ghost use Rattle.std.specs.Prelude.{◌≡◌, ◌≤◌, ◌⊎◌, ℕ, List, Option, ◌∷◌, ◌++◌, length, map, true, false};
 ghost use Rattle.my_flags.specs.Sets.{deprecates_eof};
 ghost use Rattle.my_frame.specs.FrontLaws.{AreBytes};
 ghost use Rattle.my_frame.specs.Chunks.{chunks, number_after_payload};
@@ -26,7 +26,8 @@ pub fn each_payload_grows()
 
 /// What a payload and the client's answer to it do to the running number and to each side's bytes.
 pub fn each_payload_counts()
-    ensures { (login : AnyLogin) (k : AnyKind) (p : List ℕ) (ts : List Turn) → Reads login k p ts }
+    ensures { (login : AnyLogin) (secret : Option (List ℕ)) (k : AnyKind) (p : List ℕ) (ts : List Turn)
+        → Reads login secret k p ts }
 {}
 
 /// What a client sends in an exchange that it begins: its commands, each from the sequence id 0. Before a statement that is executed go the
