@@ -14,8 +14,7 @@ use Rattle.my_grammar.specs.declared.spot.Kind.{Kind}
 use Rattle.my_grammar.specs.declared.spot.Kind.TheVariants as kinds
 use Rattle.my_grammar.specs.Cut.{front_of, kind_of as payload_kind, is_over}
 use Rattle.my_grammar.specs.Growth.{grow}
-use Rattle.my_grammar.specs.Response.{response}
-use Rattle.my_grammar.specs.Talk.{Talk, commands_in, context_of, limit_of}
+use Rattle.my_grammar.specs.Talk.{Talk, commands_in, context_of, limit_of, says, secret_in}
 use Rattle.my_reading.specs.declared.call.Call.{Call}
 use Rattle.my_reading.specs.declared.call.Call.TheVariants as calls
 use Rattle.my_reading.specs.declared.call.CallKind.{CallKind}
@@ -26,7 +25,7 @@ use Rattle.my_reading.specs.declared.transaction.Trial.{Trial}
 use Rattle.my_reading.specs.declared.transaction.Trial.TheVariants as trials
 use Rattle.my_reading.specs.Calls.{kind_of, statement_in, text_in}
 use Rattle.my_reading.specs.Commands.{arranging_texts, queried, setup_texts}
-use Rattle.my_reading.specs.Course.{Part, All, Head, Item, Set, Rest, Command, Find, Check, Run, Reply, Keep, Give, Offered, Text, Flag, Renew, Drain, Undo, Refuse, Back, Step, Goes, Stops, Stop, Owes, Awaits, Returns, enough, step, step_of, unless_owed, with_front, reads as reads_front, run, after_payload, after_kind, after_err, dropped_at, is_drain, is_greeting, is_rows, unless_cached, unless_long, with_command, first_above, found, checked, executed, closing_of, offered, parts_of, parts_of_texts, parts_of_lists, parts_of_batch, parts_of_queries, undone, renewing, unless_refused, refused_at, returned}
+use Rattle.my_reading.specs.Course.{Part, All, Head, Item, Set, Rest, Command, Find, Check, Run, Reply, Keep, Give, Offered, Text, Flag, Renew, Drain, Undo, Refuse, Back, Step, Goes, Stops, Stop, Owes, Awaits, Returns, enough, step, step_of, unless_owed, with_front, reads as reads_front, run, after_payload, after_kind, after_err, dropped_at, is_drain, is_greeting, is_rows, unless_cached, unless_long, with_command, first_above, found, checked, executed, closing_of, offered, parts_of, parts_of_texts, parts_of_lists, parts_of_batch, parts_of_queries, undone, renewing, unless_refused, refused_at, returned, above}
 use Rattle.my_reading.specs.Errors.{server_error}
 use Rattle.my_reading.specs.Executions.{Values, Fitting, Unfitting, values_for}
 use Rattle.my_reading.specs.Facts.{prepared_by}
@@ -145,10 +144,15 @@ module _ (c : CallKind) (login : Login) where
         cached_fits None new same = goes new same
         cached_fits (Some ok) new same = if_fits (is_cached p.statements ok.id) _ _ refl (goes new same)
 
+        said_fits : (new : Place) → new.trial ≡ p.trial → (o : Option ℕ) → StepFits c (unless_long p (limit_of p.talk) o (Goes (part ∷ parts) new))
+        said_fits new same None = goes new same
+        said_fits new same (Some len) = refl
+
         payload_fits : (payload : List ℕ) (new : Place) → new.trial ≡ p.trial → (k : Kind) → StepFits c (after_payload login part parts p new payload k)
         payload_fits payload new same kinds.Bad = refl
         payload_fits payload new same kinds.Failed = failed_fits new (err_at (is_greeting (context_of p.talk).spot) payload) (is_drain part) refl
-        payload_fits payload new same (kinds.Greets n) = if_fits (nat_lt (limit_of p.talk) (length (response login payload))) _ _ refl (goes new same)
+        payload_fits payload new same (kinds.Greets n) = said_fits new same (above (limit_of p.talk) (says login (secret_in p.talk) (kinds.Greets n) payload))
+        payload_fits payload new same (kinds.Asks n) = said_fits new same (above (limit_of p.talk) (says login (secret_in p.talk) (kinds.Asks n) payload))
         payload_fits payload new same (kinds.Prepared params columns) = cached_fits (prepare_ok_at payload) new same
         payload_fits payload new same k = kinds_fit k new (row_of (context_of p.talk).rows (facts_at login p).columns payload) same
 

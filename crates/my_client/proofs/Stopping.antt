@@ -15,11 +15,11 @@ use Rattle.my_statements.specs.Cache.{Held}
 use Rattle.my_statements.specs.Prepared.{StatementView}
 use Rattle.my_grammar.specs.declared.login.Login.{Login}
 use Rattle.my_grammar.specs.declared.spot.Kind.{Kind}
+use Rattle.my_grammar.specs.declared.spot.Spot.{Spot}
 use Rattle.my_grammar.specs.declared.spot.Kind.TheVariants as kinds
 use Rattle.my_grammar.specs.Cut.{front_of, kind_of, is_over}
 use Rattle.my_grammar.specs.Growth.{grow}
-use Rattle.my_grammar.specs.Response.{response}
-use Rattle.my_grammar.specs.Talk.{Talk, commands_in, context_of, limit_of}
+use Rattle.my_grammar.specs.Talk.{Talk, commands_in, context_of, limit_of, says, secret_in}
 use Rattle.my_reading.specs.declared.call.Call.{Call}
 use Rattle.my_reading.specs.declared.call.Call.TheVariants.{Prepare}
 use Rattle.my_reading.specs.declared.error.DriverError.{DriverError}
@@ -30,8 +30,8 @@ use Rattle.my_reading.specs.declared.transaction.Trial.TheVariants as trials
 use Rattle.my_reading.specs.declared.transaction.TxStatus.{TxStatus}
 use Rattle.my_reading.specs.Calls.{statement_in, text_in}
 use Rattle.my_reading.specs.Commands.{queried}
-use Rattle.my_reading.specs.Course.{Part, All, Head, Item, Set, Rest, Command, Find, Check, Run, Reply, Keep, Give, Offered, Text, Flag, Renew, Drain, Undo, Refuse, Back, Step, Goes, Stops, Stop, Owes, Awaits, Returns, step, step_of, unless_owed, with_front, reads, run, after_payload, after_kind, after_err, dropped_at, is_drain, is_greeting, is_rows, unfit, unless_cached, unless_long, with_command, first_above, found, checked, executed, closing_of, offered, undone, renewing, unless_refused, refused_at, returned}
-use Rattle.my_reading.specs.Errors.{codec_error, invalid_data, mixed_params, server_error}
+use Rattle.my_reading.specs.Course.{Part, All, Head, Item, Set, Rest, Command, Find, Check, Run, Reply, Keep, Give, Offered, Text, Flag, Renew, Drain, Undo, Refuse, Back, Step, Goes, Stops, Stop, Owes, Awaits, Returns, step, step_of, unless_owed, with_front, reads, run, after_payload, after_kind, after_err, dropped_at, is_drain, is_greeting, is_rows, unfit, unless_cached, unless_long, with_command, first_above, found, checked, executed, closing_of, offered, undone, renewing, unless_refused, refused_at, returned, above}
+use Rattle.my_reading.specs.Errors.{codec_error, invalid_data, mixed_params, server_error, unfit_error}
 use Rattle.my_reading.specs.Executions.{Values, Fitting, Unfitting, values_for}
 use Rattle.my_reading.specs.Facts.{prepared_by}
 use Rattle.my_reading.specs.Leads.{Leads, Here, Then}
@@ -52,6 +52,7 @@ pub record AreTold (P : Told → Type 0) : Type 0 where
   pub flag : (b : Bool) → P (ToldFlag b)
   pub server : (e : ServerError) → P (ToldError (Server e))
   pub data_at : (place : ℕ) → P (ToldError (invalid_data place))
+  pub misfit : (spot : Spot) (payload : List ℕ) (place : ℕ) → P (ToldError (unfit_error spot payload place))
   pub codec : (fault : CodecFault) → P (ToldError (codec_error fault))
   pub mixed : P (ToldError mixed_params)
   pub values : (statement : StatementView) (params : Params) (e : DriverError) → values_for statement params ≡ Unfitting e → P (ToldError (Driver e))
@@ -105,12 +106,17 @@ module _ (P : Told → Type 0) (w : AreTold P) (login : Login) where
       cached_stops None part new = tt
       cached_stops (Some ok) part new = if_stops (is_cached p.statements ok.id) _ _ unfit_stops tt
 
+      said_stops : (part : Part) (new : Place) (o : Option ℕ) → StopsSo P p (unless_long p (limit_of p.talk) o (Goes (part ∷ parts) new))
+      said_stops part new None = tt
+      said_stops part new (Some len) = w.codec _
+
       payload_stops : (part : Part) (payload : List ℕ) (new : Place) (k : Kind) → StopsSo P p (after_payload login part parts p new payload k)
-      payload_stops part payload new kinds.Bad = unfit_stops
+      payload_stops part payload new kinds.Bad = w.misfit (context_of p.talk).spot payload (facts_at login p).place
       payload_stops part payload new kinds.Failed =
           let e = err_at (is_greeting (context_of p.talk).spot) payload in
           if_stops (is_drain part) _ _ (dropped_stops new e) (err_stops new e)
-      payload_stops part payload new (kinds.Greets n) = if_stops (nat_lt (limit_of p.talk) (length (response login payload))) _ _ (w.codec _) tt
+      payload_stops part payload new (kinds.Greets n) = said_stops part new (above (limit_of p.talk) (says login (secret_in p.talk) (kinds.Greets n) payload))
+      payload_stops part payload new (kinds.Asks n) = said_stops part new (above (limit_of p.talk) (says login (secret_in p.talk) (kinds.Asks n) payload))
       payload_stops part payload new (kinds.Prepared params columns) = cached_stops (prepare_ok_at payload) part new
       payload_stops part payload new k = kind_stops part k new (row_of (context_of p.talk).rows (facts_at login p).columns payload)
 
@@ -215,6 +221,7 @@ any_told = record {
   flag = λ b. tt;
   server = λ e. tt;
   data_at = λ n. tt;
+  misfit = λ s p n. tt;
   codec = λ f. tt;
   mixed = tt;
   values = λ s p e is. tt;

@@ -33,8 +33,8 @@ use Rattle.my_conn.proofs.Standing.{sound}
 -- nothing is left of a response exactly where nothing is awaited, and no end is to be returned
 rest_none : (spot : Spot) (left : Bool) → rest_at spot left ≡ false → (is_idle spot ≡ true) × (left ≡ false)
 rest_none spots.Idle left e = (refl, e)
-rest_none spots.Greeting left e = cc
-rest_none spots.Authentication left e = cc
+rest_none (spots.Greeting rules) left e = cc
+rest_none (spots.Authentication stand) left e = cc
 rest_none spots.Single left e = cc
 rest_none spots.Head left e = cc
 rest_none spots.Further left e = cc
@@ -49,8 +49,8 @@ rest_none spots.FieldsEnd left e = cc
 
 none_left : (spot : Spot) (left : Bool) → is_idle spot ≡ true → left ≡ false → rest_at spot left ≡ false
 none_left spots.Idle left e f = f
-none_left spots.Greeting left e f = cc
-none_left spots.Authentication left e f = cc
+none_left (spots.Greeting rules) left e f = cc
+none_left (spots.Authentication stand) left e f = cc
 none_left spots.Single left e f = cc
 none_left spots.Head left e f = cc
 none_left spots.Further left e f = cc

@@ -12,8 +12,7 @@ use Rattle.my_grammar.specs.declared.spot.Kind.{Kind}
 use Rattle.my_grammar.specs.declared.spot.Kind.TheVariants as kinds
 use Rattle.my_grammar.specs.Cut.{front_of, kind_of, is_over}
 use Rattle.my_grammar.specs.Growth.{grow}
-use Rattle.my_grammar.specs.Response.{response}
-use Rattle.my_grammar.specs.Talk.{Talk, commands_in, context_of, limit_of}
+use Rattle.my_grammar.specs.Talk.{Talk, commands_in, context_of, limit_of, says, secret_in}
 use Rattle.my_reading.specs.declared.call.Call.{Call}
 use Rattle.my_reading.specs.declared.call.Call.TheVariants.{Prepare}
 use Rattle.my_reading.specs.declared.error.DriverError.{DriverError}
@@ -22,7 +21,7 @@ use Rattle.my_reading.specs.declared.transaction.Trial.{Trial}
 use Rattle.my_reading.specs.declared.transaction.Trial.TheVariants as trials
 use Rattle.my_reading.specs.Calls.{id_in, statement_in, text_in}
 use Rattle.my_reading.specs.Commands.{queried}
-use Rattle.my_reading.specs.Course.{Part, All, Head, Item, Set, Rest, Command, Find, Check, Run, Reply, Keep, Learn, Offered, Text, Renew, Drain, Undo, Refuse, Back, Step, Goes, Stops, Stop, Owes, Awaits, Returns, step, step_of, unless_owed, with_front, reads, after_payload, after_kind, after_err, dropped_at, is_drain, is_greeting, is_rows, unless_cached, with_command, first_above, found, checked, executed, closing_of, offered, undone, renewing, unless_refused, refused_at, returned}
+use Rattle.my_reading.specs.Course.{Part, All, Head, Item, Set, Rest, Command, Find, Check, Run, Reply, Keep, Learn, Offered, Text, Renew, Drain, Undo, Refuse, Back, Step, Goes, Stops, Stop, Owes, Awaits, Returns, step, step_of, unless_owed, with_front, reads, after_payload, after_kind, after_err, dropped_at, is_drain, is_greeting, is_rows, unless_cached, with_command, first_above, found, checked, executed, closing_of, offered, undone, renewing, unless_refused, refused_at, returned, above, unless_long}
 use Rattle.my_reading.specs.Errors.{server_error}
 use Rattle.my_reading.specs.Executions.{Values, Fitting, Unfitting, values_for}
 use Rattle.my_reading.specs.Facts.{prepared_by}
@@ -86,13 +85,19 @@ module _ (bytes : List ℕ) where
     cached_alike None part new same = (refl, same)
     cached_alike (Some ok) part new same = either q (is_cached q.statements ok.id) _ _ _ _ (refl, refl) (refl, same)
 
+    said_alike : (part : Part) (new : Place) → new.sent ≡ q.sent → (o : Option ℕ)
+        → Alike q (unless_long q (limit_of q.talk) o (Goes (part ∷ parts) new)) (unless_long (with_sent bytes q) (limit_of q.talk) o (Goes (part ∷ parts) (with_sent bytes new)))
+    said_alike part new same None = (refl, same)
+    said_alike part new same (Some len) = (refl, refl)
+
     payload_alike : (part : Part) (payload : List ℕ) (new : Place) → new.sent ≡ q.sent → (k : Kind)
         → Alike q (after_payload login part parts q new payload k) (after_payload login part parts (with_sent bytes q) (with_sent bytes new) payload k)
     payload_alike part payload new same kinds.Bad = (refl, refl)
     payload_alike part payload new same kinds.Failed =
         let packet = err_at (is_greeting (context_of q.talk).spot) payload in
         either q (is_drain part) _ _ _ _ (dropped_alike new same packet) (err_alike new same packet)
-    payload_alike part payload new same (kinds.Greets n) = either q (nat_lt (limit_of q.talk) (length (response login payload))) _ _ _ _ (refl, refl) (refl, same)
+    payload_alike part payload new same (kinds.Greets n) = said_alike part new same (above (limit_of q.talk) (says login (secret_in q.talk) (kinds.Greets n) payload))
+    payload_alike part payload new same (kinds.Asks n) = said_alike part new same (above (limit_of q.talk) (says login (secret_in q.talk) (kinds.Asks n) payload))
     payload_alike part payload new same (kinds.Prepared params columns) = cached_alike (prepare_ok_at payload) part new same
     payload_alike part payload new same k = kind_alike q new same parts part k (ToldRow (row_of (context_of q.talk).rows (facts_at login q).columns payload))
 

@@ -54,7 +54,8 @@ abbrev pub IoMet : IoError → Met → Type 0
 IoMet (ios.Io fault) m = KindMet fault.kind m
 IoMet (ios.Codec fault) m = IsInBytes m
 
--- Of the driver's own refusals a poll comes to those of a text to prepare, of parameters and of a transaction. A call that a closed connection
+-- Of the driver's own refusals a poll comes to those of a text to prepare, of parameters, of a transaction, and of what a server asks for
+-- where the client shows who it is. A call that a closed connection
 -- refuses isn't polled, and no call of a run takes too many bytes.
 abbrev pub DriverMet : DriverError → Met → Type 0
 DriverMet drivers.MixedParams m = IsInBytes m
@@ -63,6 +64,11 @@ DriverMet drivers.ReadOnlyTransNotSupported m = IsInBytes m
 DriverMet (drivers.Params e) m = IsInBytes m
 DriverMet (drivers.StmtParamsMismatch required supplied) m = IsInBytes m
 DriverMet (drivers.StmtParamsNumberExceedsLimit supplied) m = IsInBytes m
+DriverMet (drivers.UnexpectedPacket payload) m = IsInBytes m
+DriverMet (drivers.UnknownAuthPlugin name) m = IsInBytes m
+DriverMet drivers.CleartextPluginDisabled m = IsInBytes m
+DriverMet drivers.MysqlOldPasswordDisabled m = IsInBytes m
+DriverMet drivers.FullAuthRefused m = IsInBytes m
 DriverMet e m = ⊥
 
 abbrev pub ErrorMet : Error → Met → Type 0

@@ -79,7 +79,12 @@ fn driver_met(error: &DriverError, met: &Met) -> bool
         | DriverError::ReadOnlyTransNotSupported
         | DriverError::Params(_)
         | DriverError::StmtParamsMismatch { .. }
-        | DriverError::StmtParamsNumberExceedsLimit { .. } => is_in_bytes(met),
+        | DriverError::StmtParamsNumberExceedsLimit { .. }
+        | DriverError::UnexpectedPacket { .. }
+        | DriverError::UnknownAuthPlugin { .. }
+        | DriverError::CleartextPluginDisabled
+        | DriverError::MysqlOldPasswordDisabled
+        | DriverError::FullAuthRefused => is_in_bytes(met),
         _ => false,
     }
 }

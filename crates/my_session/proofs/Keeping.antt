@@ -1,5 +1,5 @@
 -- What the steps of a call leave as it was: the account, but where a call changes it; and no more bytes are unread.
-use Rattle.std.proofs.Common.{◌≡◌, ℕ, ◌≤◌, List, [], ◌∷◌, length, nat_lt, Option, Some, None, Bool, true, false, ◌||◌, cond, refl, subst, arith, ap}
+use Rattle.std.proofs.Common.{◌≡◌, ℕ, ◌≤◌, List, [], ◌∷◌, length, Option, Some, None, Bool, true, false, ◌||◌, cond, refl, subst, arith, ap}
 use Rattle.std.proofs.lemmas.Bool.{false≢true}
 use Rattle.my_frame.specs.Front.{Front, Waiting, Broken, Whole}
 use Rattle.my_handshake.specs.Version.{version_of}
@@ -14,8 +14,7 @@ use Rattle.my_grammar.specs.declared.spot.Kind.{Kind}
 use Rattle.my_grammar.specs.declared.spot.Kind.TheVariants as kinds
 use Rattle.my_grammar.specs.Cut.{front_of, kind_of, is_over}
 use Rattle.my_grammar.specs.Growth.{grow}
-use Rattle.my_grammar.specs.Response.{response}
-use Rattle.my_grammar.specs.Talk.{Talk, commands_in, context_of, limit_of, turns, number_of}
+use Rattle.my_grammar.specs.Talk.{Talk, commands_in, context_of, limit_of, turns, number_of, says, secret_in}
 use Rattle.my_reading.specs.declared.call.Call.{Call}
 use Rattle.my_reading.specs.declared.call.Call.TheVariants.{Prepare}
 use Rattle.my_reading.specs.declared.error.DriverError.{DriverError}
@@ -24,7 +23,7 @@ use Rattle.my_reading.specs.declared.transaction.Trial.{Trial}
 use Rattle.my_reading.specs.declared.transaction.Trial.TheVariants as trials
 use Rattle.my_reading.specs.Calls.{statement_in, text_in}
 use Rattle.my_reading.specs.Commands.{queried}
-use Rattle.my_reading.specs.Course.{Part, All, Head, Item, Set, Rest, Command, Find, Check, Run, Reply, Keep, Give, Learn, Forget, Offered, Clear, Text, Flag, Adopt, Renew, Drain, Undo, Undone, Refuse, Settle, GiveUp, Try, Back, Step, Goes, Stops, step, step_of, unless_owed, after_kind, after_payload, refused_at, after_err, dropped_at, failed_at, is_greeting, is_rows, unless_long_response, unless_cached, with_front, reads, first_above, with_command, found, checked, executed, closing_of, learned, offered, undone, renewing, unless_refused, returned}
+use Rattle.my_reading.specs.Course.{Part, All, Head, Item, Set, Rest, Command, Find, Check, Run, Reply, Keep, Give, Learn, Forget, Offered, Clear, Text, Flag, Adopt, Renew, Drain, Undo, Undone, Refuse, Settle, GiveUp, Try, Back, Step, Goes, Stops, step, step_of, unless_owed, after_kind, after_payload, refused_at, after_err, dropped_at, failed_at, is_greeting, is_rows, above, unless_long, unless_cached, with_front, reads, first_above, with_command, found, checked, executed, closing_of, learned, offered, undone, renewing, unless_refused, returned}
 use Rattle.my_reading.specs.Errors.{server_error}
 use Rattle.my_reading.specs.Executions.{Values, Fitting, Unfitting, values_for}
 use Rattle.my_reading.specs.Facts.{prepared_by}
@@ -113,10 +112,9 @@ module _ (part : Part) (parts : List Part) (p : Place) (t : Talk) (rest : List �
   err_leaves login None = (refl, same p)
   err_leaves login (Some e) = refused_leaves p.trial (server_error e)
 
-  long_leaves : (login : Login) (payload : List ℕ) (b : Bool) → nat_lt (limit_of p.talk) (length (response login payload)) ≡ b
-      → Leaves (part ∷ parts) p (unless_long_response login p payload (Goes (part ∷ parts) new))
-  long_leaves login payload true e = rw e (refl, same p)
-  long_leaves login payload false e = rw e (λ c. (c, refl), short)
+  long_leaves : (o : Option ℕ) → Leaves (part ∷ parts) p (unless_long p (limit_of p.talk) o (Goes (part ∷ parts) new))
+  long_leaves None = (λ c. (c, refl), short)
+  long_leaves (Some len) = (refl, same p)
 
   cached_leaves : (login : Login) (x : Option PrepareOk) → Leaves (part ∷ parts) p (unless_cached login p x (Goes (part ∷ parts) new))
   cached_leaves login None = (λ c. (c, refl), short)
@@ -143,7 +141,8 @@ payload_leaves part parts p t rest short login payload k = by_kind k
     by_kind : (k : Kind) → Leaves (part ∷ parts) p (after_payload login part parts p (with_talk p t rest) payload k)
     by_kind kinds.Bad = (refl, same p)
     by_kind kinds.Failed = failed_leaves part parts p t rest short login (err_at (is_greeting (context_of p.talk).spot) payload)
-    by_kind (kinds.Greets n) = long_leaves part parts p t rest short login payload (nat_lt (limit_of p.talk) (length (response login payload))) refl
+    by_kind (kinds.Greets n) = long_leaves part parts p t rest short (above (limit_of p.talk) (says login (secret_in p.talk) (kinds.Greets n) payload))
+    by_kind (kinds.Asks n) = long_leaves part parts p t rest short (above (limit_of p.talk) (says login (secret_in p.talk) (kinds.Asks n) payload))
     by_kind (kinds.Prepared params columns) = cached_leaves part parts p t rest short login (prepare_ok_at payload)
     by_kind (kinds.Good status) = kind_leaves part parts p t rest short (ToldRow (row_of (context_of p.talk).rows (facts_at login p).columns payload)) (kinds.Good status)
     by_kind (kinds.Count n) = kind_leaves part parts p t rest short (ToldRow (row_of (context_of p.talk).rows (facts_at login p).columns payload)) (kinds.Count n)

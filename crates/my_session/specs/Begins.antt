@@ -13,7 +13,7 @@ is_settled spots.Rows = true
 is_settled s = false
 
 abbrev pub is_greeted : Spot → Bool
-is_greeted spots.Greeting = false
+is_greeted (spots.Greeting rules) = false
 is_greeted s = true
 
 -- Connect before the greeting, each other call once it is connected

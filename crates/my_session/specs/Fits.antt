@@ -38,7 +38,8 @@ may_be c (ToldError e) = true
 may_be c (Dropped closing) = true
 may_be c _ = reads c
 
--- the refusals of the driver that a call of an open session may return: of a text, of values, of a transaction
+-- the refusals of the driver that a call of an open session may return: of a text, of values, of a transaction, of what a server asks for
+-- where the client shows who it is
 abbrev pub OwnDriver : DriverError → Type 0
 OwnDriver drivers.MixedParams = Unit {0}
 OwnDriver drivers.NestedTransaction = Unit {0}
@@ -46,4 +47,9 @@ OwnDriver drivers.ReadOnlyTransNotSupported = Unit {0}
 OwnDriver (drivers.Params e) = Unit {0}
 OwnDriver (drivers.StmtParamsMismatch required supplied) = Unit {0}
 OwnDriver (drivers.StmtParamsNumberExceedsLimit supplied) = Unit {0}
+OwnDriver (drivers.UnexpectedPacket payload) = Unit {0}
+OwnDriver (drivers.UnknownAuthPlugin name) = Unit {0}
+OwnDriver drivers.CleartextPluginDisabled = Unit {0}
+OwnDriver drivers.MysqlOldPasswordDisabled = Unit {0}
+OwnDriver drivers.FullAuthRefused = Unit {0}
 OwnDriver _ = ⊥

@@ -1,8 +1,9 @@
 -- What a client with some options says of itself: when a connection is made, and of its account.
-use Rattle.std.specs.Prelude.{ℕ, List, [], ◌∷◌, Bool, Option, Some, None, bit_or, is_some, unwrap_or, if◌then◌else◌}
+use Rattle.std.specs.Prelude.{ℕ, List, [], ◌∷◌, Bool, false, Option, Some, None, bit_or, is_some, unwrap_or, if◌then◌else◌}
 use Rattle.my_flags.specs.declared.flags.TheConstants.CapabilityFlags.{CLIENT_CONNECT_ATTRS}
 use Rattle.my_handshake.specs.Attributes.{put_in_order}
 use Rattle.my_handshake.specs.declared.attributes.Attribute.{Attribute}
+use Rattle.my_auth.specs.declared.chain.AuthRules.{AuthRules}
 use Rattle.my_grammar.specs.declared.account.Account.{Account}
 use Rattle.my_grammar.specs.declared.login.Login.{Login}
 use Rattle.my_frame.specs.declared.limits.TheConstants.{DEFAULT_MAX_ALLOWED_PACKET}
@@ -22,6 +23,11 @@ attributes_of (Some pairs) = with_pairs [] pairs
 abbrev pub offering : Bool → ℕ → ℕ
 offering attributes bits = if attributes then bit_or bits CLIENT_CONNECT_ATTRS.0 else bits
 
+-- What a client with these options may answer where a server asks for more. The password as it is goes over no link by
+-- `caching_sha2_password`.
+abbrev pub rules_of : OptsView → AuthRules
+rules_of o = record { cleartext = o.enable_cleartext_plugin; secure = o.secure_auth; local = false }
+
 abbrev pub login_of : OptsView → Login
 login_of o = record {
   user = o.user;
@@ -35,6 +41,7 @@ login_of o = record {
   init = o.init;
   setup = o.setup;
   statements = o.stmt_cache_size;
+  rules = rules_of o;
 }
 
 -- the account of options

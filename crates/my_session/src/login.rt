@@ -2,8 +2,9 @@
 ghost use Rattle.std.specs.Prelude.{◌≡◌, [], IfOk, is_some, map, option_map, string_bytes};
 ghost use Rattle.my_opts.specs.Capabilities.{capabilities_of};
 ghost use Rattle.my_opts_parts.specs.Lists.{pair_bytes};
-ghost use Rattle.my_session.specs.Login.{attributes_of, login_of, offering, with_pairs};
+ghost use Rattle.my_session.specs.Login.{attributes_of, login_of, offering, rules_of, with_pairs};
 
+use my_auth::AuthRules;
 use my_flags::CapabilityFlags;
 use my_frame::limits::DEFAULT_MAX_ALLOWED_PACKET;
 use my_frame::{Blob, Listed, NoMemory};
@@ -66,6 +67,17 @@ fn offered(opts: &Opts) -> CapabilityFlags
     }
 }
 
+// What a client with these options may answer where a server asks for more.
+fn rules_of(opts: &Opts) -> AuthRules
+    ensures { result ≡ rules_of opts.now }
+{
+    AuthRules {
+        cleartext: opts.enable_cleartext_plugin(),
+        secure: opts.secure_auth(),
+        local: false,
+    }
+}
+
 /// The login of a client with these options.
 pub fn login_for(alloc: Global, opts: &Opts) -> Result<Login, NoMemory>
     ensures { IfOk result (λ l. l ≡ login_of opts.now) }
@@ -90,5 +102,6 @@ pub fn login_for(alloc: Global, opts: &Opts) -> Result<Login, NoMemory>
         init: copied(alloc, opts.init())?,
         setup: copied(alloc, opts.setup())?,
         statements: opts.stmt_cache_size(),
+        rules: rules_of(opts),
     })
 }

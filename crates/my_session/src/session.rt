@@ -155,7 +155,7 @@ impl Session {
         }
         match call {
             CallKind::Connect => match self.stand.context.spot {
-                Spot::Greeting => true,
+                Spot::Greeting(_) => true,
                 _ => false,
             },
             _ => match self.stand.context.spot {

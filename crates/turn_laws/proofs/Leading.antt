@@ -5,7 +5,7 @@ use Rattle.my_grammar.proofs.Cutting.Fronts.{takes_whole}
 use Rattle.my_grammar.proofs.Growth.{grows, reads}
 use Rattle.my_grammar.specs.declared.login.Login.{Login}
 use Rattle.my_grammar.specs.Growth.{Grows, grow, said as response_to}
-use Rattle.my_grammar.specs.Talk.{Talk, Fits, client_bytes, limit_of, login_in, number_of, turns}
+use Rattle.my_grammar.specs.Talk.{Talk, Fits, client_bytes, limit_of, login_in, number_of, turns, secret_in}
 use Rattle.my_reading.specs.declared.call.Call.{Call}
 use Rattle.my_reading.specs.Course.{Part, Step, Goes, Stops, Stop, step}
 use Rattle.my_reading.specs.Leads.{Leads, Here, Then}
@@ -84,7 +84,7 @@ said_moved login p q f w (Takes r k payload rest next paid front kind good alike
     let taken = takes_whole (number_of (turns p.talk)) (limit_of p.talk) p.unread payload rest next front in
     let short : length payload ≤ limit_of p.talk = omega (arith, taken.within) in
     let g : Grows p.talk k payload = grows p.talk k payload kind good short f in
-    let response : List ℕ = response_to (login_in login p.talk) k payload (number_of (turns p.talk)) in
+    let response : List ℕ = response_to (login_in login p.talk) (secret_in p.talk) k payload (number_of (turns p.talk)) in
     let more : client_bytes (turns (grow k p.talk payload)) ≡ client_bytes (turns p.talk) ++ response =
     ap client_bytes (g.turns_are login) ∙ (reads (login_in login p.talk) k payload (turns p.talk)).client in
     said_alike (with_talk p (grow k p.talk payload) rest) q alike

@@ -12,6 +12,16 @@ use Rattle.my_reading.specs.declared.transaction.TxStatus.TheVariants as txs
 use Rattle.my_reading.specs.declared.error.DriverError.{DriverError}
 use Rattle.my_reading.specs.declared.error.DriverError.TheVariants as drivers
 use Rattle.my_reading.specs.declared.executing.TheConstants.{MOST_VALUES}
+use Rattle.my_auth.specs.declared.chain.AuthMove.{AuthMove}
+use Rattle.my_auth.specs.declared.chain.AuthMove.TheVariants.{Refuse}
+use Rattle.my_auth.specs.declared.chain.AuthRefusal.{AuthRefusal}
+use Rattle.my_auth.specs.declared.chain.AuthRefusal.TheVariants as refusals
+use Rattle.my_auth.specs.Chain.{move_at}
+use Rattle.my_grammar.specs.declared.spot.Spot.{Spot}
+use Rattle.my_grammar.specs.declared.spot.Spot.TheVariants.{Authentication}
+use Rattle.my_reading.specs.declared.error.Error.{Error}
+use Rattle.my_reading.specs.declared.error.Error.TheVariants.{Driver}
+use Rattle.my_reading.specs.Errors.{invalid_data, move_error, refusal_error, unfit_error}
 use Rattle.my_reading.specs.Executions.{Values, Fitting, Unfitting, if_as_many, values_of, values_for}
 use Rattle.my_reading.specs.Transactions.{access_refusal, begin_refusal}
 use Rattle.my_reading.specs.Versions.{can_set_access}
@@ -75,3 +85,20 @@ begin_is t v txs.RequiresRollback e Holds nested old is = access_is t.readonly (
 
 pub begin_own : (t : TxView) (v : ServerVersion) (status : TxStatus) (e : DriverError) → begin_refusal t v status ≡ Some e → OwnDriver e
 begin_own t v status e is = begin_is t v status e OwnDriver tt tt is
+
+-- a payload that fits no case is InvalidData, or one of the driver's own refusals
+refusal_is : (P : Error → Type 0) → ((n : ℕ) → P (invalid_data n)) → ((e : DriverError) → OwnDriver e → P (Driver e)) → (r : AuthRefusal) (payload : List ℕ) (n : ℕ) → P (refusal_error r payload n)
+refusal_is P data own refusals.UnknownAuthPlugin payload n = own _ tt
+refusal_is P data own refusals.CleartextPluginDisabled payload n = own _ tt
+refusal_is P data own refusals.MysqlOldPasswordDisabled payload n = own _ tt
+refusal_is P data own refusals.FullAuthRefused payload n = own _ tt
+refusal_is P data own refusals.UnexpectedPacket payload n = own _ tt
+refusal_is P data own refusals.Malformed payload n = data n
+
+move_is : (P : Error → Type 0) → ((n : ℕ) → P (invalid_data n)) → ((e : DriverError) → OwnDriver e → P (Driver e)) → (m : AuthMove) (payload : List ℕ) (n : ℕ) → P (move_error m payload n)
+move_is P data own (Refuse r) payload n = refusal_is P data own r payload n
+move_is P data own m payload n = data n
+
+pub unfit_is : (P : Error → Type 0) → ((n : ℕ) → P (invalid_data n)) → ((e : DriverError) → OwnDriver e → P (Driver e)) → (s : Spot) (payload : List ℕ) (n : ℕ) → P (unfit_error s payload n)
+unfit_is P data own (Authentication stand) payload n = move_is P data own (move_at stand payload) payload n
+unfit_is P data own s payload n = data n

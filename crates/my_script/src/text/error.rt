@@ -90,6 +90,19 @@ fn push_driver(alloc: Global, out: &mut Vec<u8>, error: &DriverError) -> Result<
             push_marked(alloc, out, b' ', *supplied)
         }
         DriverError::TooLong => out.extend_from_slice(b"Driver TooLong"),
+        DriverError::UnexpectedPacket { payload } => {
+            push_one(alloc, out, b"Driver UnexpectedPacket", payload.as_slice())
+        }
+        DriverError::UnknownAuthPlugin { name } => {
+            push_one(alloc, out, b"Driver UnknownAuthPlugin", name.as_slice())
+        }
+        DriverError::CleartextPluginDisabled => {
+            out.extend_from_slice(b"Driver CleartextPluginDisabled")
+        }
+        DriverError::MysqlOldPasswordDisabled => {
+            out.extend_from_slice(b"Driver MysqlOldPasswordDisabled")
+        }
+        DriverError::FullAuthRefused => out.extend_from_slice(b"Driver FullAuthRefused"),
         DriverError::CantParseServerVersion => {
             out.extend_from_slice(b"Driver CantParseServerVersion")
         }

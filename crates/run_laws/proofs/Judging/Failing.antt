@@ -12,7 +12,7 @@ use Rattle.my_reading.specs.Place.{Place, first_place, with_bytes}
 use Rattle.my_reading.specs.Reading.{ReadCall, Reading, closed_answer, halt_of}
 use Rattle.my_reading.specs.Tape.{Span}
 use Rattle.my_reading.specs.Told.{Told, ToldReady, ToldError}
-use Rattle.turn_laws.proofs.Refusing.{begin_own, refused_by, values_own}
+use Rattle.turn_laws.proofs.Refusing.{begin_own, refused_by, values_own, unfit_is}
 use Rattle.my_session.specs.Fits.{OwnDriver}
 use Rattle.my_client.specs.Made.{has_closed}
 use Rattle.my_client.specs.Kept.{Asked, Kept, made_of}
@@ -45,6 +45,11 @@ own_met (drivers.Params e) own u ready = inl ready
 own_met (drivers.StmtParamsMismatch required supplied) own u ready = inl ready
 own_met (drivers.StmtParamsNumberExceedsLimit supplied) own u ready = inl ready
 own_met drivers.TooLong own u ready = absurd own
+own_met (drivers.UnexpectedPacket payload) own u ready = inl ready
+own_met (drivers.UnknownAuthPlugin name) own u ready = inl ready
+own_met drivers.CleartextPluginDisabled own u ready = inl ready
+own_met drivers.MysqlOldPasswordDisabled own u ready = inl ready
+own_met drivers.FullAuthRefused own u ready = inl ready
 own_met drivers.CantParseServerVersion own u ready = absurd own
 own_met drivers.PacketOutOfOrder own u ready = absurd own
 own_met drivers.PacketTooLarge own u ready = absurd own
@@ -65,6 +70,7 @@ met_told = record {
   flag = λ b. tt;
   server = λ e u ready. inl ready;
   data_at = λ n u ready. inl ready;
+  misfit = λ s p n u ready. unfit_is (λ e. ErrorMet e u) (λ m. inl ready) (λ e own. own_met e own u ready) s p n;
   codec = λ f u ready. inl ready;
   mixed = λ u ready. inl ready;
   values = λ s p e is u ready. own_met e (values_own s p e (ap refused_by is)) u ready;

@@ -10,14 +10,13 @@ use Rattle.my_grammar.specs.declared.spot.Kind.{Kind}
 use Rattle.my_grammar.specs.declared.spot.Kind.TheVariants as kinds
 use Rattle.my_grammar.specs.Cut.{front_of, kind_of, is_over}
 use Rattle.my_grammar.specs.Growth.{grow}
-use Rattle.my_grammar.specs.Response.{response}
-use Rattle.my_grammar.specs.Talk.{Talk, commands_in, context_of, limit_of}
+use Rattle.my_grammar.specs.Talk.{Talk, commands_in, context_of, limit_of, says, secret_in}
 use Rattle.my_statements.specs.Cache.{Held}
 use Rattle.my_reading.specs.declared.call.Call.{Call}
 use Rattle.my_reading.specs.declared.call.Call.TheVariants as calls
 use Rattle.my_reading.specs.declared.facts.Facts.{Facts}
 use Rattle.my_reading.specs.Calls.{id_in, statement_in, text_in}
-use Rattle.my_reading.specs.Course.{Part, All, Head, Item, Set, Rest, Command, Find, Check, Run, Reply, Keep, Give, Learn, Forget, Offered, Clear, Text, Flag, Undo, Undone, Refuse, Settle, GiveUp, Adopt, Renew, Drain, Try, Back, Step, Goes, Stops, checked, dropped_at, is_drain, renewing, executed, closing_of, first_above, found, learned, offered, refused_at, returned, unless_cached, undone, unless_long, unless_owed, unless_refused, step_of, step, run, enough, parts_of, with_command, with_front, after_payload, after_kind, after_err, is_greeting, is_rows}
+use Rattle.my_reading.specs.Course.{Part, All, Head, Item, Set, Rest, Command, Find, Check, Run, Reply, Keep, Give, Learn, Forget, Offered, Clear, Text, Flag, Undo, Undone, Refuse, Settle, GiveUp, Adopt, Renew, Drain, Try, Back, Step, Goes, Stops, checked, dropped_at, is_drain, renewing, executed, closing_of, first_above, found, learned, offered, refused_at, returned, unless_cached, undone, unless_long, unless_owed, unless_refused, step_of, step, run, enough, parts_of, with_command, with_front, after_payload, after_kind, after_err, is_greeting, is_rows, above}
 use Rattle.my_handshake.specs.Version.{version_of}
 use Rattle.my_reading.specs.Commands.{queried}
 use Rattle.my_reading.specs.Executions.{Values, Fitting, Unfitting, values_for}
@@ -94,7 +93,8 @@ module _ (login : Login) (call : Call) where
   payload_keeps part parts p new payload kinds.Failed same =
       let e = err_at (is_greeting (context_of p.talk).spot) payload in
       either_keeps p.sent (is_drain part) _ _ (dropped_keeps parts p new e same) (err_keeps p new e same)
-  payload_keeps part parts p new payload (kinds.Greets capabilities) same = either_keeps p.sent (nat_lt (limit_of p.talk) (length (response login payload))) _ _ refl same
+  payload_keeps part parts p new payload (kinds.Greets offer) same = long_keeps p (limit_of p.talk) (above (limit_of p.talk) (says login (secret_in p.talk) (kinds.Greets offer) payload)) (Goes (part ∷ parts) new) same
+  payload_keeps part parts p new payload (kinds.Asks ask) same = long_keeps p (limit_of p.talk) (above (limit_of p.talk) (says login (secret_in p.talk) (kinds.Asks ask) payload)) (Goes (part ∷ parts) new) same
   payload_keeps part parts p new payload (kinds.Prepared params columns) same = cached_keeps part parts p new (prepare_ok_at payload) same
   payload_keeps part parts p new payload k same =
       rw (sym same) (kind_keeps part parts k new (ToldRow (row_of (context_of p.talk).rows (facts_at login p).columns payload)))
