@@ -88,17 +88,17 @@ begin_own t v status e is = begin_is t v status e OwnDriver tt tt is
 
 -- a payload that fits no case is InvalidData, or one of the driver's own refusals
 refusal_is : (P : Error → Type 0) → ((n : ℕ) → P (invalid_data n)) → ((e : DriverError) → OwnDriver e → P (Driver e)) → (r : AuthRefusal) (payload : List ℕ) (n : ℕ) → P (refusal_error r payload n)
-refusal_is P data own refusals.UnknownAuthPlugin payload n = own _ tt
-refusal_is P data own refusals.CleartextPluginDisabled payload n = own _ tt
-refusal_is P data own refusals.MysqlOldPasswordDisabled payload n = own _ tt
-refusal_is P data own refusals.FullAuthRefused payload n = own _ tt
-refusal_is P data own refusals.UnexpectedPacket payload n = own _ tt
-refusal_is P data own refusals.Malformed payload n = data n
+refusal_is P plain own refusals.UnknownAuthPlugin payload n = own _ tt
+refusal_is P plain own refusals.CleartextPluginDisabled payload n = own _ tt
+refusal_is P plain own refusals.MysqlOldPasswordDisabled payload n = own _ tt
+refusal_is P plain own refusals.FullAuthRefused payload n = own _ tt
+refusal_is P plain own refusals.UnexpectedPacket payload n = own _ tt
+refusal_is P plain own refusals.Malformed payload n = plain n
 
 move_is : (P : Error → Type 0) → ((n : ℕ) → P (invalid_data n)) → ((e : DriverError) → OwnDriver e → P (Driver e)) → (m : AuthMove) (payload : List ℕ) (n : ℕ) → P (move_error m payload n)
-move_is P data own (Refuse r) payload n = refusal_is P data own r payload n
-move_is P data own m payload n = data n
+move_is P plain own (Refuse r) payload n = refusal_is P plain own r payload n
+move_is P plain own m payload n = plain n
 
 pub unfit_is : (P : Error → Type 0) → ((n : ℕ) → P (invalid_data n)) → ((e : DriverError) → OwnDriver e → P (Driver e)) → (s : Spot) (payload : List ℕ) (n : ℕ) → P (unfit_error s payload n)
-unfit_is P data own (Authentication stand) payload n = move_is P data own (move_at stand payload) payload n
-unfit_is P data own s payload n = data n
+unfit_is P plain own (Authentication stand) payload n = move_is P plain own (move_at stand payload) payload n
+unfit_is P plain own s payload n = plain n
