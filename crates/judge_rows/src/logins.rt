@@ -1,5 +1,6 @@
 //! Who logs in.
 
+use my_auth::AuthRules;
 use my_flags::CapabilityFlags;
 use my_frame::{Blob, Listed, NoMemory};
 use my_grammar::Login;
@@ -44,5 +45,10 @@ pub fn login(alloc: Global, who: &str) -> Result<Login, NoMemory> {
         init: listed(alloc, init)?,
         setup: listed(alloc, setup)?,
         statements: 32,
+        rules: AuthRules {
+            cleartext: false,
+            secure: true,
+            local: false,
+        },
     })
 }

@@ -1,5 +1,6 @@
 //! The rows.
 
+pub mod authentication;
 pub mod connecting;
 pub mod lines;
 pub mod network;

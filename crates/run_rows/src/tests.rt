@@ -1,6 +1,7 @@
 //! Runs the rows.
 
 use crate::play::fault_in_memory;
+use crate::rows::authentication::AUTHENTICATION;
 use crate::rows::connecting::CONNECTING;
 use crate::rows::lines::LINES;
 use crate::rows::sessions::SESSIONS;
@@ -48,6 +49,14 @@ fn words_and_lines(rt: HostRuntime) -> Result<(), Fail> {
     }
     println!(rt; "{words} rows of words, {lines} of lines")?;
     assert!(rt; words == 28 && lines == 72);
+    Ok(())
+}
+
+#[test]
+fn authentication(rt: HostRuntime) -> Result<(), Fail> {
+    let rows = ran(&rt, rt.alloc(), AUTHENTICATION)?;
+    println!(rt; "{rows} rows of authentication")?;
+    assert!(rt; rows == 23);
     Ok(())
 }
 

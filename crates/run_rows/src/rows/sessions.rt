@@ -170,7 +170,7 @@ judge 70 0 166 6 3 6
 >@ turn
 > conn|user 0 bob - -|ping 0
 <@ connected
-< 2 error Io InvalidData 2|3 error Driver ConnectionClosed
+< 2 error Driver UnknownAuthPlugin b:61|3 error Driver ConnectionClosed
 <@ sent bob taken
 judge 55 0 97 9 0 12
 
