@@ -3,10 +3,10 @@ ghost use Rattle.std.specs.Prelude.{◌≡◌};
 ghost use Rattle.my_cli.specs.Cause.{outside_text};
 
 use crate::message::printable_char;
-use my_frame::numbers::{before_zero, take_bytes, take_u8, take_u16};
+use my_frame::numbers::{take_bytes, take_u8, take_u16};
 use my_frame::{CodecFault, FULL_LENGTH};
 use my_handshake::greeting_offer;
-use my_reading::{CallKind, Error, IoError, IoFault, IoKind};
+use my_reading::{CallKind, DriverError, Error, IoError, IoFault, IoKind};
 use my_script::{Outcome, StepAnswer, Tape};
 use std::fmt;
 use std::io::ErrorKind;
@@ -24,8 +24,10 @@ pub enum Cause<'a> {
     NoDeprecateEof,
     /// This authentication plugin is asked for, and not there.
     Plugin(&'a [u8]),
-    /// The login is to go on with this authentication plugin.
-    Switch(&'a [u8]),
+    /// The password is asked for as it is, and the options don't allow it.
+    Clear,
+    /// The password is asked for as it is, over a link that others may read.
+    Whole,
     /// A local file is asked for.
     LocalFile,
 }
@@ -59,10 +61,11 @@ impl fmt::Display for Cause<'_> {
                 "this client lacks the authentication plugin",
                 name,
             ),
-            Cause::Switch(name) => write_named(
-                f,
-                "this client can't switch to the authentication plugin",
-                name,
+            Cause::Clear => f.write_str(
+                "the server asks for the password in clear, which enable_cleartext_plugin=true allows",
+            ),
+            Cause::Whole => f.write_str(
+                "the server asks for the password itself, which this client doesn't send by caching_sha2_password",
             ),
             Cause::LocalFile => {
                 f.write_str("the server asks for a local file, which this client doesn't send")
@@ -118,23 +121,14 @@ fn payload_at(taken: &[u8], place: u64) -> Option<&[u8]> {
 // Why a first packet is no greeting for this client.
 fn of_greeting(payload: &[u8]) -> Cause<'_> {
     match greeting_offer(payload) {
-        None => Cause::NoGreeting,
-        Some((capabilities, plugin)) => {
-            if capabilities.deprecates_eof() {
-                Cause::Plugin(plugin)
-            } else {
-                Cause::NoDeprecateEof
-            }
-        }
+        Some((capabilities, _plugin)) if !capabilities.deprecates_eof() => Cause::NoDeprecateEof,
+        _ => Cause::NoGreeting,
     }
 }
 
-// Why a packet may not stand where this call reads it: a server asks for another plugin, or for a file.
+// Why a packet may not stand where this call reads it: a server asks for a file.
 fn of_answer(kind: CallKind, payload: &[u8]) -> Option<Cause<'_>> {
     match (kind, payload) {
-        (CallKind::Connect | CallKind::ChangeUser, [0xFE, plugin @ ..]) => {
-            Some(Cause::Switch(before_zero(plugin)))
-        }
         (CallKind::Query | CallKind::Execute, [0xFB, _name @ ..]) => Some(Cause::LocalFile),
         _ => None,
     }
@@ -179,13 +173,31 @@ fn tape_of(tapes: &[Tape], number: u64) -> Option<&Tape> {
     None
 }
 
+// What the client refused where it shows who it is.
+fn of_refusal(refusal: &DriverError) -> Option<Cause<'_>> {
+    match refusal {
+        DriverError::UnknownAuthPlugin { name } => Some(Cause::Plugin(name.as_slice())),
+        DriverError::CleartextPluginDisabled => Some(Cause::Clear),
+        DriverError::FullAuthRefused => Some(Cause::Whole),
+        _ => None,
+    }
+}
+
 /// What this answer says of the server, where these are the tapes of its run.
-pub fn cause_of<'a>(answer: &StepAnswer, tapes: &'a [Tape]) -> Option<Cause<'a>> {
-    let Outcome::Failed(Error::Io(error)) = &answer.outcome else {
+pub fn cause_of<'a>(answer: &'a StepAnswer, tapes: &'a [Tape]) -> Option<Cause<'a>> {
+    let Outcome::Failed(failure) = &answer.outcome else {
         return None;
     };
-    let tape = tape_of(tapes, answer.uses.last()?.number)?;
-    match *error {
+    match failure {
+        Error::Driver(refusal) => of_refusal(refusal),
+        Error::Io(error) => of_link(*error, tape_of(tapes, answer.uses.last()?.number)?),
+        _ => None,
+    }
+}
+
+// What a link told of the server.
+fn of_link(error: IoError, tape: &Tape) -> Option<Cause<'_>> {
+    match error {
         IoError::Codec(fault) => of_header(tape, fault),
         IoError::Io(fault) => match fault.kind {
             IoKind::UnexpectedEof => Some(Cause::Closed),

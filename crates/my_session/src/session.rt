@@ -3,6 +3,7 @@
 ghost use Rattle.std.specs.Prelude.{◌≡◌, ◌≤◌, ◌↔◌, ◌||◌, ◌==◌, not, length, true, false, OnOk, OnErr, IfOk, IfErr, IsErr, None, Some, is_none};
 ghost use Rattle.my_reading.specs.Calls.{kind_of};
 ghost use Rattle.my_reading.specs.Errors.{connection_closed};
+ghost use Rattle.my_session.specs.Begins.{is_greeted, is_settled};
 
 mod facts;
 mod lending;
@@ -47,6 +48,26 @@ pub struct Session {
     buffer: Vec<u8>,
     // Whether a read filled it.
     is_busy: bool,
+}
+
+// Whether a connected session rests there between calls.
+fn is_settled(spot: Spot) -> bool
+    ensures { result ≡ is_settled spot }
+{
+    match spot {
+        Spot::Idle | Spot::Further | Spot::Rows => true,
+        _ => false,
+    }
+}
+
+// Whether the greeting was read.
+fn is_greeted(spot: Spot) -> bool
+    ensures { result ≡ is_greeted spot }
+{
+    match spot {
+        Spot::Greeting(_) => false,
+        _ => true,
+    }
 }
 
 impl Model for Session {
@@ -154,14 +175,8 @@ impl Session {
             return true;
         }
         match call {
-            CallKind::Connect => match self.stand.context.spot {
-                Spot::Greeting(_) => true,
-                _ => false,
-            },
-            _ => match self.stand.context.spot {
-                Spot::Idle | Spot::Further | Spot::Rows => true,
-                _ => false,
-            },
+            CallKind::Connect => !is_greeted(self.stand.context.spot),
+            _ => is_settled(self.stand.context.spot),
         }
     }
 

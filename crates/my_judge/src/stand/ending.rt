@@ -10,7 +10,8 @@ use super::Stand;
 use crate::tape::Ending;
 use my_grammar::Spot;
 use my_machine::{Stop, closes_at};
-use my_reading::{Answer, CallKind, Error, IoError, IoFault, IoKind};
+use my_opts_parts::UrlError;
+use my_reading::{Answer, CallKind, DriverError, Error, IoError, IoFault, IoKind, ServerError};
 use my_statements::Statement;
 use my_statements::laws::equal_statements_are_same;
 use my_value::Row;
@@ -54,13 +55,47 @@ fn is_same_answer(a: &Answer, b: &Answer) -> bool
     }
 }
 
+// Whether both are the same refusal of the driver.
+fn is_same_refusal(a: &DriverError, b: &DriverError) -> bool
+    ensures { Decides result (a.now ≡ b.now) }
+{
+    a == b
+}
+
+// Whether both are the same error of a server.
+fn is_same_refused(a: &ServerError, b: &ServerError) -> bool
+    ensures { Decides result (a.now ≡ b.now) }
+{
+    a == b
+}
+
+fn is_same_url(a: &UrlError, b: &UrlError) -> bool
+    ensures { Decides result (a.now ≡ b.now) }
+{
+    a == b
+}
+
+fn is_same_error(a: &Error, b: &Error) -> bool
+    ensures { Decides result (a.now ≡ b.now) }
+{
+    match (a, b) {
+        (Error::Driver(a), Error::Driver(b)) => is_same_refusal(a, b),
+        (Error::Io(a), Error::Io(b)) => a == b,
+        (Error::Server(a), Error::Server(b)) => is_same_refused(a, b),
+        (Error::Url(a), Error::Url(b)) => is_same_url(a, b),
+        (Error::Other(a), Error::Other(b)) => a == b,
+        (Error::NoMemory, Error::NoMemory) => true,
+        _ => false,
+    }
+}
+
 // Whether the call returned this.
 fn is_same(ending: &Ending, told: &my_machine::Ending) -> bool
     ensures { Decides result (ending.now ≡ ending_of told.now) }
 {
     match (ending, told) {
         (Ending::Answered(a), my_machine::Ending::Answered(b)) => is_same_answer(a, b),
-        (Ending::Failed(a), my_machine::Ending::Failed(b)) => a == b,
+        (Ending::Failed(a), my_machine::Ending::Failed(b)) => is_same_error(a, b),
         _ => false,
     }
 }
