@@ -1,11 +1,11 @@
 -- Chains that a client does.
-use Rattle.std.specs.Prelude.{ℕ, ◌≡◌, List, [], ◌∷◌, ◌++◌, codes, false, true}
+use Rattle.std.specs.Prelude.{ℕ, ◌≡◌, List, [], ◌∷◌, ◌++◌, Some, None, codes}
 use Rattle.my_auth.specs.declared.plugin.AuthPlugin.TheVariants.{Native, Caching}
-use Rattle.my_auth.specs.declared.chain.AuthTerms.{AuthTerms}
-use Rattle.my_auth.specs.declared.chain.AuthNext.TheVariants.{Over, Answer, Wait}
-use Rattle.my_auth.specs.Chain.{stand_after}
+use Rattle.my_auth.specs.declared.chain.AuthAsk.TheVariants.{Switch, Wait}
+use Rattle.my_auth.specs.declared.chain.AuthRules.{AuthRules}
+use Rattle.my_auth.specs.Chain.{after_ask, first_stand}
 use Rattle.my_auth.specs.Scrambles.{answer}
-use Rattle.auth_laws.specs.Chains.{IsChain}
+use Rattle.auth_laws.specs.Chains.{Ended, IsChain, Says}
 
 -- an OK
 abbrev pub fine : List ℕ
@@ -17,13 +17,13 @@ switch = 0xFE ∷ codes "mysql_native_password" ++ 0 ∷ codes "ab" ++ 0 ∷ []
 
 -- it is answered by the scramble with that nonce, and then the server says that the login was right
 abbrev pub SwitchedLogin : Type 0
-SwitchedLogin = (terms : AuthTerms) (nonce : List ℕ) → IsChain terms (stand_after Caching nonce)
-    (record { payload = fine; did = Over }
-    ∷ record { payload = switch; did = Answer (answer Native terms.password (codes "ab")) (record (stand_after Native (codes "ab")) { switched = true }) }
+SwitchedLogin = (rules : AuthRules) (password : List ℕ) → IsChain password (first_stand rules Caching)
+    (record { payload = fine; did = Ended }
+    ∷ record { payload = switch; did = Says (Some (answer Native password (codes "ab"))) (after_ask (first_stand rules Caching) (Switch Native)) }
     ∷ [])
 
 -- the server had the hash of the password, and says so; nothing is sent
 abbrev pub CachedLogin : Type 0
-CachedLogin = (terms : AuthTerms) (nonce : List ℕ) → IsChain terms (stand_after Caching nonce)
-    (record { payload = fine; did = Over }
-    ∷ record { payload = 0x01 ∷ 0x03 ∷ []; did = Wait (record (stand_after Caching nonce) { decided = true }) } ∷ [])
+CachedLogin = (rules : AuthRules) (password : List ℕ) → IsChain password (first_stand rules Caching)
+    (record { payload = fine; did = Ended }
+    ∷ record { payload = 0x01 ∷ 0x03 ∷ []; did = Says None (after_ask (first_stand rules Caching) Wait) } ∷ [])
