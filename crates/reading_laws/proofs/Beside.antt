@@ -13,8 +13,7 @@ use Rattle.my_grammar.specs.declared.spot.Kind.TheVariants as kinds
 use Rattle.my_grammar.specs.declared.spot.Terms.{Terms}
 use Rattle.my_grammar.specs.Cut.{front_of, is_over, kind_of}
 use Rattle.my_grammar.specs.Growth.{grow}
-use Rattle.my_grammar.specs.Response.{response}
-use Rattle.my_grammar.specs.Talk.{Talk, client_bytes, commands_in, context_of, limit_of, number_of, packets_of, turns}
+use Rattle.my_grammar.specs.Talk.{Talk, client_bytes, commands_in, context_of, limit_of, number_of, packets_of, turns, says, secret_in}
 use Rattle.my_grammar.proofs.Cutting.Fronts.{takes_whole}
 use Rattle.my_reading.specs.declared.call.Call.{Call}
 use Rattle.my_reading.specs.declared.facts.Facts.{Facts}
@@ -25,8 +24,8 @@ use Rattle.my_reading.specs.declared.transaction.Trial.TheVariants as trials
 use Rattle.my_reading.specs.declared.transaction.TxStatus.{TxStatus}
 use Rattle.my_reading.specs.declared.transaction.TxStatus.TheVariants as txs
 use Rattle.my_reading.specs.Commands.{execution, queried}
-use Rattle.my_reading.specs.Course.{Part, All, Head, Command, Check, Run, Learn, Undo, Undone, Back, Step, Goes, Stops, Stop, Returns, step, step_of, unless_owed, unless_long, reads, with_front, after_payload, after_kind, after_err, failed_at, is_drain, unfit, unless_cached, with_command, first_above, checked, executed, learned, refused_at, returned, undone, is_greeting, is_rows}
-use Rattle.my_reading.specs.Errors.{invalid_data, server_error}
+use Rattle.my_reading.specs.Course.{Part, All, Head, Command, Check, Run, Learn, Undo, Undone, Back, Step, Goes, Stops, Stop, Returns, step, step_of, unless_owed, unless_long, reads, with_front, after_payload, after_kind, after_err, failed_at, is_drain, unfit, unless_cached, with_command, first_above, checked, executed, learned, refused_at, returned, undone, is_greeting, is_rows, above}
+use Rattle.my_reading.specs.Errors.{invalid_data, server_error, unfit_error}
 use Rattle.my_reading.specs.Executions.{Values, Fitting, Unfitting, values_for}
 use Rattle.my_reading.specs.Facts.{facts_by}
 use Rattle.my_reading.specs.Place.{Exchange, Place, client_side, exchanges, facts_at, facts_of, next_exchange, owed, terms_of, with_exchange, with_statements, with_status, with_talk, with_trial, without_end}
@@ -174,11 +173,16 @@ module _ (login : Login) (c d : Call) (tail : List Part) (p : Place) (call : Cal
     cached_beside k None = again k
     cached_beside k (Some ok) = either c d tail most (is_cached p.statements ok.id) _ _ _ _ (λ _. unfit_beside most) (λ _. again k)
 
+    said_beside : (k : Kind) (o : Option ℕ) → Steps most (unless_long p (limit_of p.talk) o (Goes (part ∷ xs) (new k))) (unless_long q (limit_of p.talk) o (Goes (part ∷ ys) (with_talk q (grow k p.talk payload) rest)))
+    said_beside k None = again k
+    said_beside k (Some len) = (here, refl, refl)
+
     payload_beside : ((k : Kind) (row other : Told) → Steps most (after_kind part xs k (new k) row) (after_kind part ys k (with_talk q (grow k p.talk payload) rest) other))
         → (k : Kind) → Steps most (after_payload login part xs p (new k) payload k) (after_payload login part ys q (with_talk q (grow k p.talk payload) rest) payload k)
-    payload_beside by_kind kinds.Bad = unfit_beside most
+    payload_beside by_kind kinds.Bad = (here, ap (λ (f : Facts). Returns (ToldError (unfit_error (context_of p.talk).spot payload f.place))) facts_are, refl)
     payload_beside by_kind kinds.Failed = failed_beside (err_at (is_greeting (context_of p.talk).spot) payload)
-    payload_beside by_kind (kinds.Greets n) = either c d tail most (nat_lt (limit_of p.talk) (length (response login payload))) _ _ _ _ (λ _. (here, refl, refl)) (λ _. again (kinds.Greets n))
+    payload_beside by_kind (kinds.Greets n) = said_beside (kinds.Greets n) (above (limit_of p.talk) (says login (secret_in p.talk) (kinds.Greets n) payload))
+    payload_beside by_kind (kinds.Asks n) = said_beside (kinds.Asks n) (above (limit_of p.talk) (says login (secret_in p.talk) (kinds.Asks n) payload))
     payload_beside by_kind (kinds.Prepared params columns) = cached_beside (kinds.Prepared params columns) (prepare_ok_at payload)
     payload_beside by_kind k = by_kind k _ _
 

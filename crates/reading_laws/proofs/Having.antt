@@ -11,10 +11,9 @@ use Rattle.my_grammar.specs.declared.spot.Kind.TheVariants as kinds
 use Rattle.my_grammar.specs.Contexts.{is_bad}
 use Rattle.my_grammar.specs.Cut.{front_of, kind_of}
 use Rattle.my_grammar.specs.Growth.{grow}
-use Rattle.my_grammar.specs.Response.{response}
-use Rattle.my_grammar.specs.Talk.{Talk, commands_in, context_of, limit_of}
+use Rattle.my_grammar.specs.Talk.{Talk, commands_in, context_of, limit_of, says, secret_in}
 use Rattle.my_reading.specs.declared.call.Call.{Call}
-use Rattle.my_reading.specs.Course.{Part, Drain, Stop, Awaits, Step, Goes, Stops, with_front, reads, after_payload, after_kind, after_err, dropped_at, failed_at, is_drain, refused_at, unfit, unless_cached, unless_long, with_command, first_above, is_greeting}
+use Rattle.my_reading.specs.Course.{Part, Drain, Stop, Awaits, Step, Goes, Stops, with_front, reads, after_payload, after_kind, after_err, dropped_at, failed_at, is_drain, refused_at, unfit, unless_cached, unless_long, with_command, first_above, is_greeting, above}
 use Rattle.my_reading.specs.Errors.{server_error}
 use Rattle.my_reading.specs.Place.{Place, with_exchange, with_talk}
 use Rattle.my_reading.specs.Statements.{is_cached}
@@ -81,8 +80,10 @@ module _ (R : Step → Type 0) (p : Place) (stops : StopsHave R p) where
     payload_has : (q rest : List ℕ) (k : Kind) → kind_of p.talk q ≡ k → R (after_payload login part parts p (with_talk p (grow k p.talk q) rest) q k)
     payload_has q rest kinds.Bad e = stops _ refl
     payload_has q rest kinds.Failed e = failed q rest (err_at (is_greeting (context_of p.talk).spot) q)
-    payload_has q rest (kinds.Greets n) e = either R (nat_lt (limit_of p.talk) (length (response login q))) _ _ (stops _ refl)
+    payload_has q rest (kinds.Greets n) e = long_has (limit_of p.talk) (above (limit_of p.talk) (says login (secret_in p.talk) (kinds.Greets n) q)) _
         (again (kinds.Greets n) q rest (record { kind_is = e; fits = refl; good = refl; fresh = tt }))
+    payload_has q rest (kinds.Asks n) e = long_has (limit_of p.talk) (above (limit_of p.talk) (says login (secret_in p.talk) (kinds.Asks n) q)) _
+        (again (kinds.Asks n) q rest (record { kind_is = e; fits = refl; good = refl; fresh = tt }))
     payload_has q rest (kinds.Prepared params columns) e = head_has q rest params columns e (prepare_ok_at q) refl
     payload_has q rest k e = other k q rest _ (record { kind_is = e; fits = refl; good = refl; fresh = tt })
 

@@ -15,7 +15,7 @@ use Rattle.my_reading.specs.Commands.{closing}
 use Rattle.my_reading.specs.Course.{learned, is_rows}
 use Rattle.my_reading.specs.Place.{Exchange, Place, exchanges, with_exchange, with_statements, with_talk}
 use Rattle.my_reading.specs.Statements.{Statements, cleared, held_in, is_cached, leaving, with_columns, with_fetched, with_new, with_prepared, without_statement}
-use Rattle.reading_laws.specs.Kept.{EachIsKept, IsFreed, IsKept, Resets, prepared_in}
+use Rattle.reading_laws.specs.Kept.{EachIsKept, IsFreed, IsKept, Resets, prepared_in, ByReset, ByChange}
 use Rattle.reading_laws.proofs.Lists.{any_fronted, any_left, few_fronted, few_left, new_few, new_is_there, stays_or_leaves}
 use Rattle.reading_laws.proofs.Talks.{IsFresh, grown_done, grown_fresh, is_open, is_failed, ComesFresh, refused_done}
 
@@ -95,7 +95,8 @@ each_is_kept st since (e ∷ es) w =
 
 -- after a payload
 pub grown_resets : (k : Kind) (t : Talk) (q : List ℕ) → Resets t → Resets (grow k t q)
-grown_resets k t q w = (w.0, w.1, w.2, w.3, w.4, ap (λ x. grow k x q) w.5)
+grown_resets k t q (ByReset terms ok status e) = ByReset terms ok status (ap (λ x. grow k x q) e)
+grown_resets k t q (ByChange terms secret first change newer older ok status e) = ByChange terms secret first change (record { kind = k; payload = q } ∷ newer) older ok status (ap (λ x. grow k x q) e)
 
 freed_grown : (p : Place) (k : Kind) (q rest : List ℕ) (id : ℕ) → IsFreed id (newest_of p) → IsFreed id (newest_of (with_talk p (grow k p.talk q) rest))
 freed_grown p k q rest id (inl (inl w)) = inl (inl (w.0, ap (λ x. grow k x q) w.1))

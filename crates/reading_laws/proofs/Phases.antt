@@ -1,11 +1,14 @@
 -- What holds before each part of a call, and where it may stop.
-use Rattle.std.proofs.Common.{◌≡◌, ℕ, Bool, true, false, ◌&&◌, None, List, [], ◌∷◌, ◌⊎◌, refl}
-use Rattle.my_command.specs.declared.client.ClientPacket.{ClientPacket}
+use Rattle.std.proofs.Common.{◌≡◌, ℕ, Bool, true, false, ◌&&◌, Option, Some, None, List, [], ◌∷◌, ◌⊎◌, refl}
+use Rattle.my_auth.specs.declared.chain.AuthStand.{AuthStand}
+use Rattle.my_command.specs.declared.client.ClientPacket.TheVariants as packets
 use Rattle.my_command.specs.Client.Packet.{client_bytes as packet_bytes}
+use Rattle.my_handshake.specs.declared.login.ChangeUser.{ChangeUser as UserChange}
 use Rattle.my_opts.specs.ChangeUser.{ChangeView}
+use Rattle.my_grammar.specs.declared.packet.Packet.{Packet}
 use Rattle.my_grammar.specs.declared.spot.Terms.{Terms}
 use Rattle.my_grammar.specs.Cut.{is_over}
-use Rattle.my_grammar.specs.Talk.{Talk, Asked}
+use Rattle.my_grammar.specs.Talk.{Talk, Asked, Changing, stand_in}
 use Rattle.my_reading.specs.declared.call.Call.{Call}
 use Rattle.my_reading.specs.declared.call.Call.TheVariants.{Prepare, CloseStmt, Reset, ChangeUser}
 use Rattle.my_reading.specs.Commands.{closing}
@@ -15,7 +18,7 @@ use Rattle.my_reading.specs.declared.transaction.Trial.{Trial}
 use Rattle.my_reading.specs.declared.transaction.Trial.TheVariants.{Refused}
 use Rattle.my_reading.specs.Statements.{held_in, query_of}
 use Rattle.my_reading.specs.Told.{ToldError, Dropped}
-use Rattle.reading_laws.specs.Kept.{Resets, is_answered, is_reset, is_settled, leaves_open}
+use Rattle.reading_laws.specs.Kept.{Resets, is_answered, is_settled, leaves_open}
 use Rattle.reading_laws.proofs.Cleaning.{Cleans}
 use Rattle.reading_laws.proofs.Having.{StopsHave}
 use Rattle.reading_laws.proofs.Holding.{Holds, HoldsBefore, HoldsBut}
@@ -45,9 +48,15 @@ pub data Renewing : Call → Part → Type 0 where
   ByCommand : Renewing Reset Command
   ByRenewal : (call : Call) → prepares call ≡ false → Renewing call Renew
 
--- the server's answer to the command that resets its session is awaited, or is an OK
+-- the server's answer to the command that resets its session is awaited, or the end of the chain of a change of user
+pub data AwaitsEnd (t : Talk) : Type 0 where
+  AwaitsReset : (terms : Terms) → t ≡ Asked terms (packet_bytes packets.ResetConnection) → AwaitsEnd t
+  AwaitsChange : (terms : Terms) (secret : Option (List ℕ)) (first : AuthStand) (change : UserChange) (chain : List Packet) (stand : AuthStand)
+      → t ≡ Changing terms secret first (packet_bytes (packets.ChangeUser change)) chain → stand_in first chain ≡ Some stand → AwaitsEnd t
+
+-- it is awaited, or an OK came
 abbrev pub IsResetting : Talk → Type 0
-IsResetting t = ((packet : ClientPacket) × (is_reset packet ≡ true) × (terms : Terms) × (t ≡ Asked terms (packet_bytes packet))) ⊎ Resets t
+IsResetting t = AwaitsEnd t ⊎ Resets t
 
 -- a transaction couldn't be committed
 abbrev pub IsRefused : Trial → Type 0

@@ -1,40 +1,47 @@
 -- A call that resets the server's session, or gives it another user: once the OK has come no statement is cached, and each one is freed.
-use Rattle.std.proofs.Common.{◌≡◌, ℕ, Bool, true, false, cond, Option, Some, None, List, ◌∷◌, inl, inr, refl, sym, ap, ◌∙◌}
-use Rattle.my_command.specs.declared.client.ClientPacket.{ClientPacket}
+use Rattle.std.proofs.Common.{◌≡◌, ℕ, Bool, true, false, cond, Option, Some, None, List, [], ◌∷◌, ◌⊎◌, inl, inr, refl, sym, ap, ◌∙◌}
+use Rattle.my_auth.specs.declared.chain.AuthAsk.{AuthAsk}
+use Rattle.my_auth.specs.declared.chain.AuthMove.{AuthMove}
+use Rattle.my_auth.specs.declared.chain.AuthMove.TheVariants.{Over, Ask, Refuse}
+use Rattle.my_auth.specs.declared.chain.AuthStand.{AuthStand}
+use Rattle.my_auth.specs.Chain.{after_ask, move_at}
 use Rattle.my_command.specs.declared.client.ClientPacket.TheVariants as packets
 use Rattle.my_command.specs.Client.Packet.{client_bytes as packet_bytes}
-use Rattle.my_flags.specs.declared.flags.CapabilityFlags.{CapabilityFlags}
+use Rattle.my_flags.specs.Sets.{deprecates_eof}
 use Rattle.my_flags.specs.declared.flags.StatusFlags.{StatusFlags}
 use Rattle.my_handshake.specs.Version.{version_of}
+use Rattle.my_handshake.specs.declared.login.ChangeUser.{ChangeUser as UserChange}
 use Rattle.my_reply.specs.declared.err.ErrPacket.{ErrPacket}
 use Rattle.my_reply.specs.ErrPacket.{err_at}
 use Rattle.my_reply.specs.declared.ok.OkPacket.{OkPacket}
 use Rattle.my_reply.specs.OkPacket.{ok_at}
-use Rattle.my_grammar.specs.declared.account.Account.{Account}
+use Rattle.my_grammar.specs.declared.packet.Packet.{Packet}
+use Rattle.my_grammar.specs.declared.spot.RowFormat.TheVariants.{Text}
+use Rattle.my_grammar.specs.declared.spot.Terms.{Terms}
+use Rattle.my_grammar.specs.Account.{change_to}
 use Rattle.my_grammar.specs.declared.login.Login.{Login}
 use Rattle.my_grammar.specs.declared.spot.Kind.{Kind}
 use Rattle.my_grammar.specs.declared.spot.Kind.TheVariants as kinds
 use Rattle.my_grammar.specs.Contexts.{is_bad}
-use Rattle.my_grammar.specs.Cut.{is_over, kind_of}
+use Rattle.my_grammar.specs.Cut.{is_idle, is_over, kind_of}
 use Rattle.my_grammar.specs.Growth.{grow}
-use Rattle.my_grammar.specs.Kinds.{failed_kind, good_kind, or_else, single_kind}
-use Rattle.my_grammar.specs.Talk.{Asked, Replied}
+use Rattle.my_grammar.specs.Kinds.{auth_kind_by, failed_kind, good_kind, kind_by, or_else, single_kind}
+use Rattle.my_grammar.specs.Talk.{Talk, Asked, Changing, Replied, chain_spot, stand_in, stand_next}
 use Rattle.my_reading.specs.declared.call.Call.{Call}
 use Rattle.my_reading.specs.declared.call.Call.TheVariants.{Reset}
-use Rattle.my_reading.specs.declared.facts.Facts.{Facts}
 use Rattle.my_reading.specs.Calls.{kind_of as kind_of_call}
-use Rattle.my_reading.specs.Commands.{queried, renewal_packet, renews_by_reset}
+use Rattle.my_reading.specs.Commands.{change_stand, queried, renewal, renews_by_reset}
 use Rattle.my_reading.specs.Course.{Part, All, Command, Clear, Goes, clean, step_of, reads, offered, with_command}
 use Rattle.my_reading.specs.Errors.{server_error}
 use Rattle.my_reading.specs.Place.{Place, exchanges, facts_at, terms_of, with_exchange, with_talk, without_end}
 use Rattle.my_reading.specs.Transactions.{rollback_text}
-use Rattle.reading_laws.specs.Kept.{Resets, is_reset}
+use Rattle.reading_laws.specs.Kept.{Resets, ByChange, ByReset, prepared_in}
 use Rattle.reading_laws.proofs.Cleaning.{Cleans, Reads, cleans_have}
 use Rattle.reading_laws.proofs.Having.{Comes, begun_has, either, reads_have}
 use Rattle.reading_laws.proofs.Holding.{Holds, grown_holds, grown_resets, opened_holds}
-use Rattle.reading_laws.proofs.Talks.{is_failed}
+use Rattle.reading_laws.proofs.Talks.{is_failed, is_open}
 use Rattle.reading_laws.proofs.Reverting.{refused_fine}
-use Rattle.reading_laws.proofs.Phases.{ByCommand, ByRenewal, IsFine, IsResetting, Phase, Readying, Commanding, Awaiting, Emptying, Renewing, is_plain, prepares}
+use Rattle.reading_laws.proofs.Phases.{AwaitsChange, AwaitsReset, ByCommand, ByRenewal, IsFine, IsResetting, Phase, Readying, Commanding, Awaiting, Emptying, Renewing, is_plain, prepares}
 
 -- where one OK or ERR is awaited, what is neither bad nor an ERR is an OK
 good_alone : (q : List ℕ) (k : Kind) → single_kind q ≡ k → is_bad k ≡ false → is_failed k ≡ false → (status : StatusFlags) × (k ≡ kinds.Good status)
@@ -45,10 +52,12 @@ good_alone q k e fits good = by_ok (ok_at q) (err_at false q) e
     by_ok None None e = absurd (cc)
     by_ok None (Some err) e = absurd (cc)
 
--- the command of a renewal
-renewal_resets : (login : Login) (kept : CapabilityFlags) (f : Facts) (account : Account) (by_reset : Bool) → is_reset (renewal_packet login kept f account by_reset) ≡ true
-renewal_resets login kept f account true = refl
-renewal_resets login kept f account false = refl
+-- a request, an OK or an ERR, where a chain stands so
+of_move : (m : AuthMove) (q : List ℕ) (k : Kind) → auth_kind_by m q ≡ k → is_bad k ≡ false → is_failed k ≡ false
+    → ((ask : AuthAsk) × (k ≡ kinds.Asks ask)) ⊎ ((status : StatusFlags) × (k ≡ kinds.Good status))
+of_move Over q k e fits good = inr (good_alone q k e fits good)
+of_move (Ask ask) q k e fits good = inl (ask, sym e)
+of_move (Refuse refusal) q k e fits good = absurd (cc)
 
 -- a call that resets the server's session
 module _ (login : Login) (ps : List Part) (plain : is_plain ps ≡ true) where
@@ -70,38 +79,63 @@ module _ (login : Login) (ps : List Part) (plain : is_plain ps ≡ true) where
         parts p left w
 
   -- the command is sent
-  begun : (call : Call) → prepares call ≡ false → (packet : ClientPacket) → is_reset packet ≡ true → (p : Place) → Holds p
-      → IsFine call (with_command call (All ∷ Clear ∷ ps) p (Some (Asked (terms_of login (exchanges p)) (packet_bytes packet))))
-  begun call other packet resets p w =
-      let t = Asked (terms_of login (exchanges p)) (packet_bytes packet) in
-      begun_has (IsFine call) p (λ s _ _. w) call (All ∷ Clear ∷ ps) t
-      (Awaiting call other ps (with_exchange p call t) plain (opened_holds (λ i. ⊥) p call t refl refl w) (inl (packet, resets, terms_of login (exchanges p), refl)))
+  begun : (call : Call) → prepares call ≡ false → (p : Place) → Holds p → (t : Talk) → prepared_in t ≡ None → is_open t ≡ false → IsResetting t
+      → IsFine call (with_command call (All ∷ Clear ∷ ps) p (Some t))
+  begun call other p w t none shut resets = begun_has (IsFine call) p (λ s _ _. w) call (All ∷ Clear ∷ ps) t
+      (Awaiting call other ps (with_exchange p call t) plain (opened_holds (λ i. ⊥) p call t none shut w) resets)
+
+  -- the session is renewed by a reset, or by a change of user
+  renewing_begun : (call : Call) → prepares call ≡ false → (p : Place) → Holds p → (by_reset : Bool)
+      → IsFine call (with_command call (All ∷ Clear ∷ ps) p (Some (renewal login (terms_of login (exchanges p)) (facts_at login p) p.account by_reset)))
+  renewing_begun call other p w true =
+      let terms = terms_of login (exchanges p) in
+      begun call other p w (Asked terms (packet_bytes packets.ResetConnection)) refl refl (inl (AwaitsReset terms refl))
+  renewing_begun call other p w false =
+      let terms = terms_of login (exchanges p) in
+      let f = facts_at login p in
+      let change = change_to login terms.kept f.version f.caching f.nonce p.account in
+      let first = change_stand login f in
+      begun call other p w (Changing terms p.account.password first (packet_bytes (packets.ChangeUser change)) []) refl refl
+      (inl (AwaitsChange terms p.account.password first change [] first refl refl))
 
   pub commanding : (call : Call) (part : Part) → Renewing call part → (p : Place) → Holds p → IsFine call (step_of login call (part ∷ All ∷ Clear ∷ ps) p)
-  commanding call part ByCommand p w = begun Reset refl packets.ResetConnection refl p w
-  commanding call part (ByRenewal d other) p w =
-      let f = facts_at login p in
-      let by_reset = renews_by_reset (kind_of_call d) (version_of f.version) in
-      let kept = (terms_of login (exchanges p)).kept in
-      begun d other (renewal_packet login kept f p.account by_reset) (renewal_resets login kept f p.account by_reset) p w
+  commanding call part ByCommand p w =
+      let terms = terms_of login (exchanges p) in
+      begun Reset refl p w (Asked terms (packet_bytes packets.ResetConnection)) refl refl (inl (AwaitsReset terms refl))
+  commanding call part (ByRenewal d other) p w = renewing_begun d other p w (renews_by_reset (kind_of_call d) (version_of (facts_at login p).version))
 
-  -- an OK, and nothing more
-  answered : (p : Place) (k : Kind) (q : List ℕ) → Comes p k q → IsResetting p.talk → Resets (grow k p.talk q)
-  answered p k q c (inr r) = grown_resets k p.talk q r
-  answered p k q c (inl r) =
-      let single : single_kind q ≡ k = sym (ap (λ t. kind_of t q) r.3) ∙ c.kind_is in
+  -- a request more of the chain, or an OK, and nothing more
+  chain_goes : (t : Talk) (terms : Terms) (secret : Option (List ℕ)) (first : AuthStand) (change : UserChange) (chain : List Packet) (stand : AuthStand) (k : Kind) (q : List ℕ)
+      → t ≡ Changing terms secret first (packet_bytes (packets.ChangeUser change)) chain → stand_in first chain ≡ Some stand
+      → ((ask : AuthAsk) × (k ≡ kinds.Asks ask)) ⊎ ((status : StatusFlags) × (k ≡ kinds.Good status)) → IsResetting (grow k t q)
+  chain_goes t terms secret first change chain stand k q e stands (inl a) =
+      inl (AwaitsChange terms secret first change (record { kind = k; payload = q } ∷ chain) (after_ask stand a.0) (ap (λ x. grow k x q) e)
+      (ap (λ x. stand_next x (stand_in first chain)) a.1 ∙ ap (stand_next (kinds.Asks a.0)) stands))
+  chain_goes t terms secret first change chain stand k q e stands (inr g) =
+      inr (ByChange terms secret first change [] chain q g.0 (ap (λ x. grow k x q) e ∙ ap (λ x. Changing terms secret first (packet_bytes (packets.ChangeUser change)) (record { kind = x; payload = q } ∷ chain)) g.1))
+
+  answered : (p : Place) (k : Kind) (q : List ℕ) → Comes p k q → IsResetting p.talk → IsResetting (grow k p.talk q)
+  answered p k q c (inr r) = inr (grown_resets k p.talk q r)
+  answered p k q c (inl (AwaitsReset terms e)) =
+      let single : single_kind q ≡ k = sym (ap (λ t. kind_of t q) e) ∙ c.kind_is in
       let ok = good_alone q k single c.fits c.good in
-      (r.0, r.1, r.2, q, ok.0, ap (λ t. grow k t q) r.3 ∙ ap (λ x. Replied r.2 (packet_bytes r.0) q x) ok.1)
+      inr (ByReset terms q ok.0 (ap (λ t. grow k t q) e ∙ ap (λ x. Replied terms (packet_bytes packets.ResetConnection) q x) ok.1))
+  answered p k q c (inl (AwaitsChange terms secret first change chain stand e stands)) =
+      let here : auth_kind_by (move_at stand q) q ≡ k = sym (ap (λ o. kind_by (chain_spot o) Text (deprecates_eof terms.kept) 0 [] q) stands) ∙ sym (ap (λ t. kind_of t q) e) ∙ c.kind_is in
+      chain_goes p.talk terms secret first change chain stand k q e stands (of_move (move_at stand q) q k here c.fits c.good)
 
   over : (p : Place) → is_over p.talk ≡ true → IsResetting p.talk → Resets p.talk
   over p e (inr r) = r
-  over p e (inl r) = let awaited : is_over p.talk ≡ false = ap is_over r.3 in absurd (cc)
+  over p e (inl (AwaitsReset terms is)) = let awaited : is_over p.talk ≡ false = ap is_over is in absurd (cc)
+  over p e (inl (AwaitsChange terms secret first change chain stand is stands)) =
+      let awaited : is_over p.talk ≡ false = ap is_over is ∙ ap (λ o. is_idle (chain_spot o)) stands in
+      absurd (cc)
 
   pub awaiting : (call : Call) → prepares call ≡ false → (p : Place) → Holds p → IsResetting p.talk → IsFine call (step_of login call (All ∷ Clear ∷ ps) p)
   awaiting call other p w r = either (IsFine call) p.end_left _ _ (Awaiting call other ps (without_end p) plain w r) (by_over (is_over p.talk) refl)
     where
       again : (k : Kind) (q rest : List ℕ) → Comes p k q → Phase call (All ∷ Clear ∷ ps) (with_talk p (grow k p.talk q) rest)
-      again k q rest c = Awaiting call other ps (with_talk p (grow k p.talk q) rest) plain (grown_holds (λ i. ⊥) p k q rest w) (inr (answered p k q c r))
+      again k q rest c = Awaiting call other ps (with_talk p (grow k p.talk q) rest) plain (grown_holds (λ i. ⊥) p k q rest w) (answered p k q c r)
 
       by_over : (b : Bool) → is_over p.talk ≡ b → IsFine call (cond b (Goes (Clear ∷ ps) p) (reads login All (Clear ∷ ps) p))
       by_over true e = Emptying call other ps p plain w (over p e r)

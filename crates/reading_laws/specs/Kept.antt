@@ -1,19 +1,21 @@
 -- What became of each statement that a connection's calls prepared.
 -- MySQL client/server protocol, "COM_STMT_CLOSE": a statement that isn't closed stays at the server while the connection lasts, unless
 -- "COM_RESET_CONNECTION" resets its session or "COM_CHANGE_USER" gives it another user, each of which frees all statements.
-use Rattle.std.specs.Prelude.{◌≡◌, ◌⊎◌, ℕ, List, [], ◌∷◌, Option, Some, None, IfSome, Bool, true, false, not, ◌||◌}
+use Rattle.std.specs.Prelude.{◌≡◌, ◌⊎◌, ℕ, List, [], ◌∷◌, ◌++◌, Option, Some, None, IfSome, Bool, true, false, not, ◌||◌}
 use Rattle.std.specs.List.{AllByRecursion}
 use Rattle.std.specs.Option.{option_map}
 use Rattle.my_flags.specs.declared.flags.StatusFlags.{StatusFlags}
-use Rattle.my_command.specs.declared.client.ClientPacket.{ClientPacket}
+use Rattle.my_auth.specs.declared.chain.AuthStand.{AuthStand}
 use Rattle.my_command.specs.declared.client.ClientPacket.TheVariants.{ResetConnection, ChangeUser}
 use Rattle.my_command.specs.Client.Packet.{client_bytes}
+use Rattle.my_handshake.specs.declared.login.ChangeUser.{ChangeUser as UserChange}
 use Rattle.my_reply.specs.Replies.{prepare_ok_at}
 use Rattle.my_grammar.specs.declared.login.Login.{Login}
+use Rattle.my_grammar.specs.declared.packet.Packet.{Packet}
 use Rattle.my_grammar.specs.declared.spot.Kind.TheVariants.{Good}
 use Rattle.my_grammar.specs.declared.spot.Terms.{Terms}
 use Rattle.my_grammar.specs.Prepares.{Reply, Complete}
-use Rattle.my_grammar.specs.Talk.{Talk, Preparing, Replied}
+use Rattle.my_grammar.specs.Talk.{Talk, Preparing, Replied, Changing}
 use Rattle.my_reading.specs.declared.call.Call.{Call}
 use Rattle.my_reading.specs.declared.call.Call.TheVariants.{Prepare, CloseStmt}
 use Rattle.my_reading.specs.declared.call.CallKind.TheVariants as kinds
@@ -39,16 +41,11 @@ prepared_in _ = None
 abbrev pub Closes : ℕ → Talk → Type 0
 Closes id t = (terms : Terms) × (t ≡ closing terms id)
 
--- the commands that reset the server's session, a new user's among them
-abbrev pub is_reset : ClientPacket → Bool
-is_reset ResetConnection = true
-is_reset (ChangeUser change) = true
-is_reset _ = false
-
--- the exchange resets the server's session: an OK answers the command, and no ERR
-abbrev pub Resets : Talk → Type 0
-Resets t = (packet : ClientPacket) × (is_reset packet ≡ true) × (terms : Terms) × (ok : List ℕ) × (status : StatusFlags)
-    × (t ≡ Replied terms (client_bytes packet) ok (Good status))
+-- the exchange resets the server's session, or gives it another user: an OK answers the reset, or is in the chain of the change
+pub data Resets (t : Talk) : Type 0 where
+  ByReset : (terms : Terms) (ok : List ℕ) (status : StatusFlags) → t ≡ Replied terms (client_bytes ResetConnection) ok (Good status) → Resets t
+  ByChange : (terms : Terms) (secret : Option (List ℕ)) (first : AuthStand) (change : UserChange) (newer older : List Packet) (ok : List ℕ) (status : StatusFlags)
+      → t ≡ Changing terms secret first (client_bytes (ChangeUser change)) (newer ++ record { kind = Good status; payload = ok } ∷ older) → Resets t
 
 -- the server freed the statement in one of these exchanges: it was closed, or the session was reset
 abbrev pub IsFreed : ℕ → List Exchange → Type 0
