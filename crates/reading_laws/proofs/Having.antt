@@ -1,5 +1,5 @@
 -- Properties of steps: what begins an exchange or reads a payload has one where each of its outcomes has.
-use Rattle.std.proofs.Common.{◌≡◌, ℕ, length, nat_lt, Bool, true, false, cond, Option, Some, None, IfSome, List, ◌∷◌, refl, sym, subst}
+use Rattle.std.proofs.Common.{◌≡◌, ℕ, Bool, true, false, cond, not, Option, Some, None, IfSome, List, ◌∷◌, refl, sym, subst, ap}
 use Rattle.my_frame.specs.Front.{Front, Waiting, Broken, Whole}
 use Rattle.my_reply.specs.declared.err.ErrPacket.{ErrPacket}
 use Rattle.my_reply.specs.ErrPacket.{err_at}
@@ -15,11 +15,13 @@ use Rattle.my_grammar.specs.Talk.{Talk, commands_in, context_of, limit_of, says,
 use Rattle.my_reading.specs.declared.call.Call.{Call}
 use Rattle.my_reading.specs.Course.{Part, Drain, Stop, Awaits, Step, Goes, Stops, with_front, reads, after_payload, after_kind, after_err, dropped_at, failed_at, is_drain, refused_at, unfit, unless_cached, unless_long, with_command, first_above, is_greeting, above}
 use Rattle.my_reading.specs.Errors.{server_error}
-use Rattle.my_reading.specs.Place.{Place, with_exchange, with_talk}
+use Rattle.my_reading.specs.declared.call.CallKind.TheVariants.{Prepare}
+use Rattle.my_reading.specs.Place.{Place, facts_at, with_exchange, with_talk}
 use Rattle.my_reading.specs.Statements.{is_cached}
 use Rattle.my_reading.specs.Told.{Told}
 use Rattle.reading_laws.specs.Kept.{leaves_open}
 use Rattle.reading_laws.proofs.Talks.{ComesFresh, is_failed}
+use Rattle.reading_laws.proofs.Unfitting.{unfit_closes}
 
 -- a property of steps that each stop at a place has by which a call that prepares a statement closes the session, or is left open
 abbrev pub StopsHave : (Step → Type 0) → Place → Type 0
@@ -78,7 +80,7 @@ module _ (R : Step → Type 0) (p : Place) (stops : StopsHave R p) where
         by_id go false i = go (subst (λ o. IfSome o (λ ok. is_cached p.statements ok.id ≡ false)) (sym e) i)
 
     payload_has : (q rest : List ℕ) (k : Kind) → kind_of p.talk q ≡ k → R (after_payload login part parts p (with_talk p (grow k p.talk q) rest) q k)
-    payload_has q rest kinds.Bad e = stops _ refl
+    payload_has q rest kinds.Bad e = stops _ (ap not (unfit_closes Prepare (context_of p.talk).spot q (facts_at login p).place))
     payload_has q rest kinds.Failed e = failed q rest (err_at (is_greeting (context_of p.talk).spot) q)
     payload_has q rest (kinds.Greets n) e = long_has (limit_of p.talk) (above (limit_of p.talk) (says login (secret_in p.talk) (kinds.Greets n) q)) _
         (again (kinds.Greets n) q rest (record { kind_is = e; fits = refl; good = refl; fresh = tt }))

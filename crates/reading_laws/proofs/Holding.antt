@@ -173,11 +173,15 @@ forgotten_holds p id w =
     still i (inl x) = inl (inl x)
     still i (inr x) = inr x
 
+reset_prepares_none : (t : Talk) → Resets t → prepared_in t ≡ None
+reset_prepares_none t (ByReset terms ok status e) = ap prepared_in e
+reset_prepares_none t (ByChange terms secret first change newer older ok status e) = ap prepared_in e
+
 -- after the server's session was reset
 pub cleared_holds : (p : Place) → Resets p.talk → Holds p → Holds (with_statements (cleared p.statements) p)
 cleared_holds p reset w = (
   (
-    none_some (λ i. IsKept (cleared p.statements) [] i ⊎ ⊥) (prepared_in p.talk) (ap prepared_in reset.5),
+    none_some (λ i. IsKept (cleared p.statements) [] i ⊎ ⊥) (prepared_in p.talk) (reset_prepares_none p.talk reset),
     each_moves (λ i. ⊥) (λ i. ⊥) p.statements (cleared p.statements) (λ e. e) (newest_of p) (newest_of p)
         (λ i x. inl (inr (inl (inl (inr reset))))) (λ i x. x) (λ i x. absurd x) p.older w.0.1,
   ),

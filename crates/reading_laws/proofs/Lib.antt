@@ -1,5 +1,6 @@
 pub mod Lists
 pub mod Talks
+pub mod Unfitting
 pub mod Having
 pub mod Holding
 pub mod Cleaning

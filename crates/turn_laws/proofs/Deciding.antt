@@ -21,7 +21,8 @@ use Rattle.my_reading.specs.Place.{Place, first_place, with_bytes}
 use Rattle.my_reading.specs.Reading.{halt_of, is_closing, read_calls, reading}
 use Rattle.my_reading.specs.Tape.{Span, spans}
 use Rattle.my_reading.specs.Told.{Told, ToldReady, ToldRow, ToldEnd, ToldNone, ToldStatement, ToldFlag, ToldError, ToldPassed, Dropped, told}
-use Rattle.turn_laws.proofs.Refusing.{begin_own, refused_by, values_own, unfit_is}
+use Rattle.turn_laws.proofs.Refusing.{begin_own, refused_by, values_own, chain_own}
+use Rattle.reading_laws.proofs.Unfitting.{unfit_is}
 use Rattle.my_client.specs.declared.poll.After.{After}
 use Rattle.my_client.specs.declared.poll.After.TheVariants.{Pending, Answered, Failed}
 use Rattle.my_client.specs.Ends.{kept_after}
@@ -149,7 +150,7 @@ read_told = record {
   flag = λ b. tt;
   server = λ e. tt;
   data_at = λ n. tt;
-  misfit = λ s p n. unfit_is IsReadError (λ m. tt) (λ e own. inl own) s p n;
+  misfit = λ s p n. unfit_is IsReadError (λ m. tt) (λ e w. inl (chain_own e w)) s p n;
   codec = λ f. tt;
   mixed = inl tt;
   values = λ s p e is. inl (values_own s p e (ap refused_by is));

@@ -12,20 +12,11 @@ use Rattle.my_reading.specs.declared.transaction.TxStatus.TheVariants as txs
 use Rattle.my_reading.specs.declared.error.DriverError.{DriverError}
 use Rattle.my_reading.specs.declared.error.DriverError.TheVariants as drivers
 use Rattle.my_reading.specs.declared.executing.TheConstants.{MOST_VALUES}
-use Rattle.my_auth.specs.declared.chain.AuthMove.{AuthMove}
-use Rattle.my_auth.specs.declared.chain.AuthMove.TheVariants.{Refuse}
-use Rattle.my_auth.specs.declared.chain.AuthRefusal.{AuthRefusal}
-use Rattle.my_auth.specs.declared.chain.AuthRefusal.TheVariants as refusals
-use Rattle.my_auth.specs.Chain.{move_at}
-use Rattle.my_grammar.specs.declared.spot.Spot.{Spot}
-use Rattle.my_grammar.specs.declared.spot.Spot.TheVariants.{Authentication}
-use Rattle.my_reading.specs.declared.error.Error.{Error}
-use Rattle.my_reading.specs.declared.error.Error.TheVariants.{Driver}
-use Rattle.my_reading.specs.Errors.{invalid_data, move_error, refusal_error, unfit_error}
 use Rattle.my_reading.specs.Executions.{Values, Fitting, Unfitting, if_as_many, values_of, values_for}
 use Rattle.my_reading.specs.Transactions.{access_refusal, begin_refusal}
 use Rattle.my_reading.specs.Versions.{can_set_access}
 use Rattle.my_session.specs.Fits.{OwnDriver}
+use Rattle.reading_laws.proofs.Unfitting.{IsOfChain}
 
 -- why the parameters of an execution are refused, where they are
 abbrev pub refused_by : Values → Option DriverError
@@ -86,19 +77,11 @@ begin_is t v txs.RequiresRollback e Holds nested old is = access_is t.readonly (
 pub begin_own : (t : TxView) (v : ServerVersion) (status : TxStatus) (e : DriverError) → begin_refusal t v status ≡ Some e → OwnDriver e
 begin_own t v status e is = begin_is t v status e OwnDriver tt tt is
 
--- a payload that fits no case is InvalidData, or one of the driver's own refusals
-refusal_is : (P : Error → Type 0) → ((n : ℕ) → P (invalid_data n)) → ((e : DriverError) → OwnDriver e → P (Driver e)) → (r : AuthRefusal) (payload : List ℕ) (n : ℕ) → P (refusal_error r payload n)
-refusal_is P plain own refusals.UnknownAuthPlugin payload n = own _ tt
-refusal_is P plain own refusals.CleartextPluginDisabled payload n = own _ tt
-refusal_is P plain own refusals.MysqlOldPasswordDisabled payload n = own _ tt
-refusal_is P plain own refusals.FullAuthRefused payload n = own _ tt
-refusal_is P plain own refusals.UnexpectedPacket payload n = own _ tt
-refusal_is P plain own refusals.Malformed payload n = plain n
-
-move_is : (P : Error → Type 0) → ((n : ℕ) → P (invalid_data n)) → ((e : DriverError) → OwnDriver e → P (Driver e)) → (m : AuthMove) (payload : List ℕ) (n : ℕ) → P (move_error m payload n)
-move_is P plain own (Refuse r) payload n = refusal_is P plain own r payload n
-move_is P plain own m payload n = plain n
-
-pub unfit_is : (P : Error → Type 0) → ((n : ℕ) → P (invalid_data n)) → ((e : DriverError) → OwnDriver e → P (Driver e)) → (s : Spot) (payload : List ℕ) (n : ℕ) → P (unfit_error s payload n)
-unfit_is P plain own (Authentication stand) payload n = move_is P plain own (move_at stand payload) payload n
-unfit_is P plain own s payload n = plain n
+-- and of what a server asks for
+pub chain_own : (e : DriverError) → IsOfChain e → OwnDriver e
+chain_own (drivers.UnexpectedPacket payload) w = tt
+chain_own (drivers.UnknownAuthPlugin name) w = tt
+chain_own drivers.CleartextPluginDisabled w = tt
+chain_own drivers.MysqlOldPasswordDisabled w = tt
+chain_own drivers.FullAuthRefused w = tt
+chain_own e w = absurd w

@@ -12,7 +12,8 @@ use Rattle.my_reading.specs.Place.{Place, first_place, with_bytes}
 use Rattle.my_reading.specs.Reading.{ReadCall, Reading, closed_answer, halt_of}
 use Rattle.my_reading.specs.Tape.{Span}
 use Rattle.my_reading.specs.Told.{Told, ToldReady, ToldError}
-use Rattle.turn_laws.proofs.Refusing.{begin_own, refused_by, values_own, unfit_is}
+use Rattle.turn_laws.proofs.Refusing.{begin_own, refused_by, values_own, chain_own}
+use Rattle.reading_laws.proofs.Unfitting.{unfit_is}
 use Rattle.my_session.specs.Fits.{OwnDriver}
 use Rattle.my_client.specs.Made.{has_closed}
 use Rattle.my_client.specs.Kept.{Asked, Kept, made_of}
@@ -70,7 +71,7 @@ met_told = record {
   flag = λ b. tt;
   server = λ e u ready. inl ready;
   data_at = λ n u ready. inl ready;
-  misfit = λ s p n u ready. unfit_is (λ e. ErrorMet e u) (λ m. inl ready) (λ e own. own_met e own u ready) s p n;
+  misfit = λ s p n u ready. unfit_is (λ e. ErrorMet e u) (λ m. inl ready) (λ e w. own_met e (chain_own e w) u ready) s p n;
   codec = λ f u ready. inl ready;
   mixed = λ u ready. inl ready;
   values = λ s p e is u ready. own_met e (values_own s p e (ap refused_by is)) u ready;
