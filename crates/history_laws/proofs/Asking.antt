@@ -1,19 +1,22 @@
 -- A connection that was made knows its settings: the login was accepted, and where an option isn't set, so was the query that asks the server.
 use Rattle.std.proofs.Common.{◌≡◌, ℕ, suc, length, List, [], ◌∷◌, ◌++◌, Bool, true, false, cond, not, Option, Some, None, reverse, slice_get, refl, sym, ap, ◌∙◌, subst, arith}
-use Rattle.my_flags.specs.declared.flags.CapabilityFlags.{CapabilityFlags}
+use Rattle.my_auth.specs.declared.chain.AuthAsk.{AuthAsk}
+use Rattle.my_auth.specs.declared.chain.AuthStand.{AuthStand}
 use Rattle.my_flags.specs.declared.flags.StatusFlags.{StatusFlags}
 use Rattle.my_grammar.specs.declared.login.Login.{Login}
 use Rattle.my_grammar.specs.declared.packet.Packet.{Packet}
 use Rattle.my_grammar.specs.declared.spot.Kind.{Kind}
+use Rattle.my_grammar.specs.declared.spot.Offer.{Offer}
 use Rattle.my_grammar.specs.declared.spot.Kind.TheVariants as kinds
 use Rattle.my_grammar.specs.declared.spot.RowFormat.TheVariants.{Text}
 use Rattle.my_grammar.specs.declared.spot.Terms.{Terms}
-use Rattle.my_grammar.proofs.Growth.Known.{is_single_kind, is_then, known_single}
+use Rattle.my_grammar.proofs.Growth.{is_chain_kind, known_chain}
+use Rattle.my_grammar.proofs.Growth.Known.{is_then}
+use Rattle.my_grammar.proofs.Growth.SetGrowth.{none}
 use Rattle.my_grammar.specs.Contexts.{is_bad}
 use Rattle.my_grammar.specs.Cut.{is_idle, is_over}
-use Rattle.my_grammar.specs.Kinds.{single_kind}
 use Rattle.my_grammar.specs.Sets.{Sets, Lone, Begun, Ended, packets_in, spot_in}
-use Rattle.my_grammar.specs.Talk.{Talk, Start, Unwelcome, Greeted, Settled, Queried, Fits, origin, packets_of}
+use Rattle.my_grammar.specs.Talk.{Talk, Start, Unwelcome, Greeted, Queried, Fits, origin, packets_of, FitChain, chain_kind, chain_spot, greeted_stand, stand_in, stand_next}
 use Rattle.my_value.specs.RowParts.{RowParts}
 use Rattle.my_reading.specs.declared.call.Call.{Call}
 use Rattle.my_reading.specs.declared.call.Call.TheVariants.{Connect}
@@ -102,17 +105,45 @@ sets_know (Ended older head rows last status) f over well asked = end_known_afte
     end_known_after ps s p g e = let h = facts_by ps g in end_knows h.settings.stage h.settings (packets_asked ps g e) refl
 sets_know _ f over well asked = absurd (cc)
 
+-- a chain that goes on after a payload: it was a request
+goes : (k : Kind) (o : Option AuthStand) (stand : AuthStand) → stand_next k o ≡ Some stand → ((ask : AuthAsk) × (k ≡ kinds.Asks ask)) × ((s : AuthStand) × (o ≡ Some s))
+goes (kinds.Asks ask) (Some s) stand e = ((ask, refl), (s, refl))
+goes (kinds.Asks ask) None stand e = cc
+goes _ o stand e = cc
+
+-- requests say nothing of the settings
+requests_say_none : (first : AuthStand) (chain others : List Packet) (f : Facts) (stand : AuthStand) → stand_in first chain ≡ Some stand → (facts_by (chain ++ others) f).settings ≡ (facts_by others f).settings
+requests_say_none first [] others f stand e = refl
+requests_say_none first (packet ∷ chain) others f stand e =
+    let g = facts_by (chain ++ others) f in
+    let w = goes packet.kind (stand_in first chain) stand e in
+    payload_settings packet.kind packet.payload g ∙ ap (λ k. settings_after k (row_at Text g.columns packet.payload) g.settings) w.0.1 ∙ requests_say_none first chain others f w.1.0 w.1.1
+
+-- what ends a chain well is an OK
+ended_well : (o : Option AuthStand) (k : Kind) (p : List ℕ) → chain_kind o p ≡ k → is_bad k ≡ false → is_chain_kind k ≡ true → is_idle (chain_spot (stand_next k o)) ≡ true → not (is_failed k) ≡ true
+    → ((status : StatusFlags) × (k ≡ kinds.Good status)) × ((s : AuthStand) × (o ≡ Some s))
+ended_well None k p e good known over well = absurd (none k e good)
+ended_well (Some s) (kinds.Good status) p e good known over well = ((status, refl), (s, refl))
+ended_well (Some s) (kinds.Asks ask) p e good known over well = absurd (cc)
+ended_well (Some s) kinds.Failed p e good known over well = absurd (cc)
+ended_well (Some s) _ p e good known over well = absurd (cc)
+
 -- the login
-login_settled : (login : Login) (kind : Kind) (q last : List ℕ) (n : CapabilityFlags) → is_single_kind kind ≡ true → is_bad kind ≡ false → not (is_failed kind) ≡ true
-    → (facts_by (record { kind = kind; payload = last } ∷ record { kind = kinds.Greets n; payload = q } ∷ []) (first_facts login)).settings ≡ settled login.packet_limit login.wait_timeout (first_settings login)
-login_settled login (kinds.Good status) q last n i b e = ap (λ (s : Settings). good_settings s.stage s) (payload_settings (kinds.Greets n) q (first_facts login))
-login_settled login _ q last n i b e = absurd (cc)
+login_settled : (login : Login) (first : AuthStand) (packet : Packet) (chain : List Packet) (q : List ℕ) (offer : Offer) → FitChain first (packet ∷ chain) → is_idle (chain_spot (stand_in first (packet ∷ chain))) ≡ true → not (is_failed packet.kind) ≡ true
+    → (facts_by ((packet ∷ chain) ++ record { kind = kinds.Greets offer; payload = q } ∷ []) (first_facts login)).settings ≡ settled login.packet_limit login.wait_timeout (first_settings login)
+login_settled login first packet chain q offer f over well =
+    let o = stand_in first chain in
+    let w = ended_well o packet.kind packet.payload f.1 f.2 (is_then is_chain_kind (chain_kind o packet.payload) packet.kind (known_chain o packet.payload) f.1) over well in
+    let others : List Packet = record { kind = kinds.Greets offer; payload = q } ∷ [] in
+    let g = facts_by (chain ++ others) (first_facts login) in
+    payload_settings packet.kind packet.payload g ∙ ap (λ k. settings_after k (row_at Text g.columns packet.payload) g.settings) w.0.1
+    ∙ ap (λ (s : Settings). good_settings s.stage s) (requests_say_none first chain others (first_facts login) w.1.0 w.1.1 ∙ payload_settings (kinds.Greets offer) q (first_facts login))
 
 first_settled : (login : Login) (t : Talk) → origin t ≡ Start login → Fits t → is_over t ≡ true → ends_well (packets_of t) ≡ true → (facts_by (packets_of t) (first_facts login)).settings ≡ settled login.packet_limit login.wait_timeout (first_settings login)
 first_settled login (Start l) o f over well = absurd (cc)
 first_settled login (Unwelcome l q) o f over well = absurd (cc)
-first_settled login (Greeted l q n) o f over well = absurd (cc)
-first_settled login (Settled l q n last kind) o f over well = login_settled login kind q last n (is_then is_single_kind (single_kind last) kind (known_single last) f.kinds.1) f.kinds.2 well
+first_settled login (Greeted l q offer []) o f over well = absurd (cc)
+first_settled login (Greeted l q offer (packet ∷ chain)) o f over well = login_settled login (greeted_stand l offer) packet chain q offer f.kinds.1 over well
 first_settled login _ o f over well = cc
 
 settled_asked : (a b : Option ℕ) (s : Settings) → is_asked (settled a b s).stage ≡ true

@@ -1,9 +1,12 @@
 -- What a payload more does to the server's errors.
-use Rattle.std.proofs.Common.{◌≡◌, ℕ, List, [], ◌∷◌, ◌==◌, Bool, true, false, cond, leb, ◌-◌, refl, sym, ap, ◌∙◌}
+use Rattle.std.proofs.Common.{◌≡◌, ℕ, List, [], ◌∷◌, ◌==◌, Bool, true, false, cond, leb, ◌-◌, refl, sym, ap, ◌∙◌, ◌++◌, Option, Some, None}
 use Rattle.my_flags.specs.declared.flags.StatusFlags.{StatusFlags}
 use Rattle.my_flags.specs.Sets.{deprecates_eof, has_more_results}
+use Rattle.my_auth.specs.declared.chain.AuthStand.{AuthStand}
+use Rattle.my_reply.specs.declared.err.ErrPacket.{ErrPacket}
 use Rattle.my_reply.specs.ErrPacket.{err_at}
 use Rattle.my_grammar.specs.declared.login.Login.{Login}
+use Rattle.my_grammar.specs.declared.packet.Packet.{Packet}
 use Rattle.my_grammar.specs.declared.spot.Kind.{Kind}
 use Rattle.my_grammar.specs.declared.spot.Kind.TheVariants as kinds
 use Rattle.my_grammar.specs.declared.spot.Spot.TheVariants as spots
@@ -14,9 +17,10 @@ use Rattle.my_grammar.specs.Kinds.{kind_by}
 use Rattle.my_grammar.specs.Prepares.{PreparedHead, Described, Reply, Unanswered, Refused, InParameters, AfterParameters, InFields, AfterFields, Complete, spot_in_reply, open_part, closed_part, with_parameters, with_head, with_parameter, with_field, with_part_end, grow_reply}
 use Rattle.my_grammar.specs.Sets.{SetHead, Sets, NoSets, Lone, Heading, Headed, Begun, Ended, grow_sets, with_column, with_column_of, with_close, with_row, with_end, spot_in}
 use Rattle.my_grammar.specs.Sets as sets
-use Rattle.my_grammar.specs.Talk.{Talk, Start, Greeted, Asked, Queried, Preparing, context_of}
+use Rattle.my_grammar.specs.Talk.{Talk, Start, Greeted, Asked, Queried, Preparing, context_of, Changing, chain_spot, greeted_stand, stand_in}
 use Rattle.my_reading.specs.Course.{is_greeting}
-use Rattle.history_laws.specs.Errors.{error_onto, error_of, errors_in_sets, errors_in_reply, errors_in}
+use Rattle.history_laws.proofs.Shaping.{chain_shook}
+use Rattle.history_laws.specs.Errors.{error_onto, error_of, errors_in_sets, errors_in_reply, errors_in, errors_in_chain}
 
 abbrev pub is_failed : Kind → Bool
 is_failed kinds.Failed = true
@@ -105,7 +109,8 @@ reply_blames _ d r p e = refl
 -- another payload than an ERR has none
 pub calm_blames : (k : Kind) (t : Talk) (p : List ℕ) → is_failed k ≡ false → errors_in (grow k t p) ≡ errors_in t
 calm_blames k (Start login) p e = start_blames k login p e
-calm_blames k (Greeted login q c) p e = one_blames k p e
+calm_blames k (Greeted login q offer chain) p e = ap (λ es. es ++ errors_in_chain chain) (one_blames k p e)
+calm_blames k (Changing terms secret stand c chain) p e = ap (λ es. es ++ errors_in_chain chain) (one_blames k p e)
 calm_blames k (Asked terms c) p e = one_blames k p e
 calm_blames k (Queried terms c x) p e = sets_blame k (deprecates_eof terms.kept) x p e
 calm_blames k (Preparing terms c reply) p e = reply_blames k (deprecates_eof terms.kept) reply p e
@@ -129,10 +134,19 @@ failed_reply : (d : Bool) (r : Reply) (p : List ℕ) → kind_by (spot_in_reply 
 failed_reply d (Refused q) p e = cc
 failed_reply d _ p e = refl
 
+-- an ERR in a chain
+chain_fails : (o : Option AuthStand) (chain : List Packet) (x : Option ErrPacket) (p : List ℕ) → err_at false p ≡ x → error_onto x [] ++ errors_in_chain chain ≡ error_onto (err_at (is_greeting (chain_spot o)) p) (errors_in_chain chain)
+chain_fails o chain x p e = onto x ∙ ap (λ y. error_onto y (errors_in_chain chain)) (sym e ∙ ap (λ b. err_at b p) (sym (chain_shook o)))
+  where
+    onto : (x : Option ErrPacket) → error_onto x [] ++ errors_in_chain chain ≡ error_onto x (errors_in_chain chain)
+    onto None = refl
+    onto (Some packet) = refl
+
 -- an ERR has its error
 pub failed_blames : (t : Talk) (p : List ℕ) → kind_of t p ≡ kinds.Failed → errors_in (grow kinds.Failed t p) ≡ error_onto (err_at (is_greeting (context_of t).spot) p) (errors_in t)
 failed_blames (Start login) p e = refl
-failed_blames (Greeted login q c) p e = refl
+failed_blames (Greeted login q offer chain) p e = chain_fails (stand_in (greeted_stand login offer) chain) chain (err_at false p) p refl
+failed_blames (Changing terms secret stand c chain) p e = chain_fails (stand_in stand chain) chain (err_at false p) p refl
 failed_blames (Asked terms c) p e = refl
 failed_blames (Queried terms c x) p e = failed_sets x p ∙ ap (λ b. error_onto (err_at b p) (errors_in_sets x)) (sym (sets_greet x))
 failed_blames (Preparing terms c reply) p e = failed_reply (deprecates_eof terms.kept) reply p e

@@ -5,6 +5,7 @@ use Rattle.my_grammar.specs.declared.login.Login.{Login}
 use Rattle.my_params.specs.declared.params.Params.{Params}
 use Rattle.my_reading.specs.declared.call.Call.{Call}
 use Rattle.my_reading.specs.declared.call.Call.TheVariants.{Connect, Query, Execute, Batch, DropResult, SkipTaken, Reset, ChangeUser, Begin, Commit, ResetForPool, Quit}
+use Rattle.my_grammar.specs.Talk.{context_of}
 use Rattle.my_reading.specs.declared.call.CallKind.{CallKind}
 use Rattle.my_reading.specs.declared.call.CallKind.TheVariants as callkinds
 use Rattle.my_reading.specs.declared.error.ServerError.{ServerError}
@@ -12,7 +13,7 @@ use Rattle.my_reading.specs.declared.transaction.TxStatus.TheVariants.{InTransac
 use Rattle.my_reading.specs.Calls.{asks, is_connect, kind_of, statement_in}
 use Rattle.my_reading.specs.Commands.{arranging_texts, renews_by_reset, setup_texts}
 use Rattle.my_reading.specs.Course.{Part, All, Head, Item, Set, Rest, Command, Find, Check, Run, Reply, Keep, Give, Offered, Text, Flag, Renew, Drain, Undo, Refuse, Settle, Try, Back, parts_of, parts_of_batch, parts_of_lists, parts_of_queries, parts_of_texts}
-use Rattle.my_reading.specs.Endings.{closes_cancelled}
+use Rattle.my_reading.specs.Endings.{closes_cancelled, awaits_head}
 use Rattle.my_reading.specs.Executions.{values_for}
 use Rattle.my_reading.specs.Place.{Place}
 use Rattle.my_reading.specs.Reading.{closed_answer}
@@ -85,6 +86,13 @@ cancelled_reads c p e = cc
 pub cancelled_asks : (k : CallKind) (p : Place) → closes_cancelled k p ≡ false → asks k ≡ false
 cancelled_asks callkinds.Quit p e = absurd (cc)
 cancelled_asks k p e = cc
+
+pub cancelled_awaits : (k : CallKind) (p : Place) → closes_cancelled k p ≡ false → awaits_head (context_of p.talk).spot ≡ false
+cancelled_awaits callkinds.NextRow p e = e
+cancelled_awaits callkinds.DropResult p e = e
+cancelled_awaits callkinds.TakeSet p e = e
+cancelled_awaits callkinds.SkipTaken p e = e
+cancelled_awaits k p e = absurd (cc)
 
 or_right : (a b : Bool) → b ≡ true → (a || b) ≡ true
 or_right true b e = refl

@@ -12,12 +12,11 @@ use Rattle.my_grammar.specs.declared.spot.Kind.TheVariants as kinds
 use Rattle.my_grammar.specs.Contexts.{is_bad}
 use Rattle.my_grammar.specs.Cut.{front_of, kind_of}
 use Rattle.my_grammar.specs.Growth.{grow}
-use Rattle.my_grammar.specs.Response.{response}
-use Rattle.my_grammar.specs.Talk.{Talk, commands_in, context_of, limit_of, number_of, turns}
+use Rattle.my_grammar.specs.Talk.{Talk, commands_in, context_of, limit_of, number_of, turns, says, secret_in}
 use Rattle.my_reading.specs.declared.call.Call.{Call}
 use Rattle.my_reading.specs.declared.error.Error.TheVariants.{Io}
 use Rattle.my_reading.specs.declared.error.IoError.{IoError}
-use Rattle.my_reading.specs.Course.{Part, Drain, Awaits, Step, Goes, Stops, failure, with_front, reads, after_payload, after_kind, after_err, dropped_at, failed_at, is_drain, refused_at, unfit, unless_cached, unless_long, with_command, first_above, is_greeting}
+use Rattle.my_reading.specs.Course.{Part, Drain, Awaits, Step, Goes, Stops, failure, with_front, reads, after_payload, after_kind, after_err, dropped_at, failed_at, is_drain, refused_at, unfit, unless_cached, unless_long, with_command, first_above, is_greeting, above}
 use Rattle.my_reading.specs.Errors.{server_error}
 use Rattle.my_reading.specs.Place.{Place, facts_at, with_exchange, with_talk}
 use Rattle.my_reading.specs.Rows.{row_of}
@@ -74,8 +73,10 @@ module _ (R : Step → Type 0) (p : Place) (faults : (e : IoError) → R (failur
     payload_has : (q rest : List ℕ) (k : Kind) → kind_of p.talk q ≡ k → length q ≤ limit_of p.talk → R (after_payload login part parts p (with_talk p (grow k p.talk q) rest) q k)
     payload_has q rest kinds.Bad e l = faults _
     payload_has q rest kinds.Failed e l = failed q rest (record { kind_is = e; good = refl; short = l }) (err_at (is_greeting (context_of p.talk).spot) q) refl
-    payload_has q rest (kinds.Greets n) e l = either R (nat_lt (limit_of p.talk) (length (response login q))) _ _ (λ _. faults _)
-        (λ _. again (kinds.Greets n) refl refl q rest (record { kind_is = e; good = refl; short = l }))
+    payload_has q rest (kinds.Greets n) e l = long_has (limit_of p.talk) (above (limit_of p.talk) (says login (secret_in p.talk) (kinds.Greets n) q)) _
+        (again (kinds.Greets n) refl refl q rest (record { kind_is = e; good = refl; short = l }))
+    payload_has q rest (kinds.Asks n) e l = long_has (limit_of p.talk) (above (limit_of p.talk) (says login (secret_in p.talk) (kinds.Asks n) q)) _
+        (again (kinds.Asks n) refl refl q rest (record { kind_is = e; good = refl; short = l }))
     payload_has q rest (kinds.Prepared params columns) e l = head_has q rest params columns (record { kind_is = e; good = refl; short = l }) (prepare_ok_at q)
     payload_has q rest k e l = other k refl q rest (record { kind_is = e; good = refl; short = l })
 

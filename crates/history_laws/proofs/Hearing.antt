@@ -39,7 +39,7 @@ use Rattle.history_laws.proofs.Calls.{commit_closes, commits, is_commits, is_tri
 use Rattle.history_laws.proofs.Blaming.{failed_blames, is_failed}
 use Rattle.history_laws.proofs.Growing.{failed_over}
 use Rattle.history_laws.proofs.Having.{Comes, either, errors_have}
-use Rattle.history_laws.proofs.Opening.{IsNew, closing_new, executed_new, opened_new, queried_new, some_new}
+use Rattle.history_laws.proofs.Opening.{IsNew, closing_new, executed_new, opened_new, queried_new, some_new, renewing_new}
 use Rattle.history_laws.proofs.Phases.{reads_sets, returned_so}
 use Rattle.history_laws.proofs.Stepping.{both, not_true}
 use Rattle.history_laws.proofs.Heard.{HeardAt, Phase, Hearing, Undoing, Backing, IsHalted, Stopped, IsFine, grown_calm, grown_error, hushed_grown, begun_heard, told_heard, opened}
@@ -226,7 +226,7 @@ module _ (login : Login) (c : Call) (ms : List Made) where
       heard_part (Text text ∷ parts) e = one c parts (queried (terms_of login (exchanges p)) text) (queried_new (terms_of login (exchanges p)) text) e
       heard_part (Flag flag ∷ parts) e = tells (ToldFlag flag) (λ es. refl) (untried _ e)
       heard_part (Adopt change ∷ parts) e = goes hushed parts (with_account (changed change p.account) p) e off over w unrefused
-      heard_part (Renew ∷ parts) e = one c parts (renewing login c p (facts_at login p)) (record { fits = record { kinds = tt; within = tt }; silent = refl; origin_is = refl }) e
+      heard_part (Renew ∷ parts) e = one c parts (renewing login c p (facts_at login p)) (renewing_new login c p) e
       heard_part (Undo ∷ parts) e = undoes parts (is_given_up p.status) e
       heard_part (Undone ∷ parts) e = goes hushed parts (with_status (rolled_back p.status) p) e off over w unrefused
       heard_part (Refuse opts ∷ parts) e = refuses parts (begin_refusal opts (version_of (facts_at login p).version) p.status) e

@@ -20,6 +20,7 @@ pub mod Shaping
 pub mod Setting
 pub mod Saying
 pub mod Asking
+pub mod Awaiting
 pub mod Owning
 pub mod Parts
 pub mod Connecting

@@ -13,8 +13,7 @@ use Rattle.my_grammar.specs.declared.spot.Terms.{Terms}
 use Rattle.my_grammar.specs.Contexts.{is_bad}
 use Rattle.my_grammar.specs.Cut.{front_of, is_over, kind_of as payload_kind}
 use Rattle.my_grammar.specs.Growth.{grow}
-use Rattle.my_grammar.specs.Response.{response}
-use Rattle.my_grammar.specs.Talk.{Talk, commands_in, context_of, limit_of}
+use Rattle.my_grammar.specs.Talk.{Talk, commands_in, context_of, limit_of, says, secret_in}
 use Rattle.my_handshake.specs.Version.{version_of}
 use Rattle.my_reading.specs.declared.call.Call.{Call}
 use Rattle.my_reading.specs.declared.call.Call.TheVariants.{Prepare}
@@ -25,7 +24,7 @@ use Rattle.my_reading.specs.declared.transaction.Trial.{Trial}
 use Rattle.my_reading.specs.declared.transaction.Trial.TheVariants as trials
 use Rattle.my_reading.specs.Calls.{id_in, statement_in, text_in}
 use Rattle.my_reading.specs.Commands.{queried}
-use Rattle.my_reading.specs.Course.{Part, All, Head, Item, Set, Rest, Command, Find, Check, Run, Reply, Keep, Give, Learn, Offered, Text, Flag, Renew, Drain, Undo, Refuse, Back, Step, Goes, Stops, after_err, after_kind, after_payload, checked, closing_of, dropped_at, executed, failure, first_above, found, is_drain, is_greeting, is_rows, offered, reads, refused_at, renewing, returned, step, step_of, undone, unfit, unless_cached, unless_long, unless_owed, unless_refused, with_command, with_front}
+use Rattle.my_reading.specs.Course.{Part, All, Head, Item, Set, Rest, Command, Find, Check, Run, Reply, Keep, Give, Learn, Offered, Text, Flag, Renew, Drain, Undo, Refuse, Back, Step, Goes, Stops, after_err, after_kind, after_payload, checked, closing_of, dropped_at, executed, failure, first_above, found, is_drain, is_greeting, is_rows, offered, reads, refused_at, renewing, returned, step, step_of, undone, unfit, unless_cached, unless_long, unless_owed, unless_refused, with_command, with_front, above}
 use Rattle.my_reading.specs.Errors.{server_error}
 use Rattle.my_reading.specs.Executions.{Values, Fitting, Unfitting, values_for}
 use Rattle.my_reading.specs.Facts.{prepared_by}
@@ -35,7 +34,7 @@ use Rattle.my_reading.specs.Told.{Told}
 use Rattle.my_reading.specs.Transactions.{begin_refusal, is_given_up, rollback_text}
 use Rattle.my_reading.specs.Versions.{can_reset}
 use Rattle.my_statements.specs.Cache.{Held}
-use Rattle.history_laws.proofs.Opening.{IsNew, closing_new, executed_new, opened_new, queried_new, some_new}
+use Rattle.history_laws.proofs.Opening.{IsNew, closing_new, executed_new, opened_new, queried_new, some_new, renewing_new}
 
 -- another place with the same exchanges and bytes
 pub record IsAlike (p q : Place) : Type 0 where
@@ -88,9 +87,9 @@ module _ (p : Place) (paid : owed p ≡ []) where
     failed_moves i true o = dropped_moves i o
     failed_moves i false o = err_moves i o
 
-    long_moves : (n : CapabilityFlags) → payload_kind p.talk payload ≡ kinds.Greets n → (b : Bool) (e : Error) → Moved p (place_of (cond b (failure p e) (Goes (part ∷ parts) (new (kinds.Greets n)))))
-    long_moves n i true e = stays
-    long_moves n i false e = took (kinds.Greets n) i refl _ (record { talk = refl; older = refl; unread = refl; sent = refl; call = refl })
+    said_moves : (k : Kind) → payload_kind p.talk payload ≡ k → is_bad k ≡ false → (o : Option ℕ) → Moved p (place_of (unless_long p (limit_of p.talk) o (Goes (part ∷ parts) (new k))))
+    said_moves k i good (Some len) = stays
+    said_moves k i good None = took k i good _ (record { talk = refl; older = refl; unread = refl; sent = refl; call = refl })
 
     cached_moves : (m n : ℕ) → payload_kind p.talk payload ≡ kinds.Prepared m n → (o : Option PrepareOk) → Moved p (place_of (unless_cached login p o (Goes (part ∷ parts) (new (kinds.Prepared m n)))))
     cached_moves m n i None = took (kinds.Prepared m n) i refl _ (record { talk = refl; older = refl; unread = refl; sent = refl; call = refl })
@@ -111,7 +110,8 @@ module _ (p : Place) (paid : owed p ≡ []) where
     payload_moves : (k : Kind) → payload_kind p.talk payload ≡ k → Moved p (place_of (after_payload login part parts p (new k) payload k))
     payload_moves kinds.Bad i = stays
     payload_moves kinds.Failed i = failed_moves i (is_drain part) (err_at (is_greeting (context_of p.talk).spot) payload)
-    payload_moves (kinds.Greets n) i = long_moves n i (nat_lt (limit_of p.talk) (length (response login payload))) _
+    payload_moves (kinds.Greets n) i = said_moves (kinds.Greets n) i refl (above (limit_of p.talk) (says login (secret_in p.talk) (kinds.Greets n) payload))
+    payload_moves (kinds.Asks n) i = said_moves (kinds.Asks n) i refl (above (limit_of p.talk) (says login (secret_in p.talk) (kinds.Asks n) payload))
     payload_moves (kinds.Prepared m n) i = cached_moves m n i (prepare_ok_at payload)
     payload_moves k i = kind_moves part k _ i refl
 
@@ -203,7 +203,7 @@ module _ (p : Place) (paid : owed p ≡ []) where
   part_moves login c (Offered ∷ parts) = offered_moves login c parts (can_reset (version_of (facts_at login p).version))
   part_moves login c (Text text ∷ parts) = one_moves c parts (queried (terms_of login (exchanges p)) text) (queried_new (terms_of login (exchanges p)) text)
   part_moves login c (Flag flag ∷ parts) = stays
-  part_moves login c (Renew ∷ parts) = one_moves c parts (renewing login c p (facts_at login p)) (record { fits = record { kinds = tt; within = tt }; silent = refl; origin_is = refl })
+  part_moves login c (Renew ∷ parts) = one_moves c parts (renewing login c p (facts_at login p)) (renewing_new login c p)
   part_moves login c (Drain ∷ parts) = if_moves login c parts p.end_left _ _ (Alters (without_end p) (record { talk = refl; older = refl; unread = refl; sent = refl; call = refl })) (if_moves login c parts (is_over p.talk) _ _ stays (reads_move login Drain parts))
   part_moves login c (Undo ∷ parts) = undone_moves login c parts (is_given_up p.status)
   part_moves login c (Refuse opts ∷ parts) = unless_moves login c parts (begin_refusal opts (version_of (facts_at login p).version) p.status)

@@ -3,7 +3,9 @@ use Rattle.std.proofs.Common.{◌≡◌, ℕ, suc, zero, List, [], Bool, true, f
 use Rattle.my_command.specs.declared.client.ClientPacket.{ClientPacket}
 use Rattle.my_command.specs.declared.client.ClientPacket.TheVariants as packets
 use Rattle.my_command.specs.Client.Packet.{client_bytes as packet_bytes}
+use Rattle.my_handshake.specs.Version.{version_of}
 use Rattle.my_grammar.proofs.Commands.{commands_silent}
+use Rattle.my_grammar.specs.declared.account.Account.{Account}
 use Rattle.my_grammar.specs.declared.login.Login.{Login}
 use Rattle.my_grammar.specs.declared.spot.Terms.{Terms}
 use Rattle.my_grammar.specs.Prepares.{Unanswered}
@@ -13,10 +15,12 @@ use Rattle.my_params.specs.LongData.{ahead_of}
 use Rattle.my_params.specs.Parameters.{body_of}
 use Rattle.my_reading.specs.declared.call.Call.{Call}
 use Rattle.my_reading.specs.declared.call.Call.TheVariants.{Connect, Query, Prepare, Execute, CloseStmt, Quit}
+use Rattle.my_reading.specs.declared.facts.Facts.{Facts}
 use Rattle.my_reading.specs.Calls.{is_connect, kind_of}
-use Rattle.my_reading.specs.Commands.{arranging, arranging_texts, closing, execution, opening, queried, simple, simple_packet}
-use Rattle.my_reading.specs.Course.{closing_of}
+use Rattle.my_reading.specs.Commands.{arranging, arranging_texts, closing, execution, opening, queried, renewal, renews_by_reset, simple, simple_packet}
+use Rattle.my_reading.specs.Course.{closing_of, renewing}
 use Rattle.my_reading.specs.Executions.{Values, Fitting, Unfitting, values_for}
+use Rattle.my_reading.specs.Place.{Place, exchanges, facts_at, terms_of}
 use Rattle.my_reading.specs.Statements.{Statements, known_in, query_of}
 
 -- The kinds of exchanges that a call begins: the login, where it connects; a query; a statement is prepared; a command that one packet
@@ -72,6 +76,16 @@ some_new u t n e = let same : u ≡ t = cc in subst IsNew same n
 pub closing_new : (terms : Terms) (x : Option ℕ) (t : Talk) → closing_of terms x ≡ Some t → IsNew t
 closing_new terms None t e = cc
 closing_new terms (Some id) t e = some_new (closing terms id) t (record { fits = record { kinds = tt; within = tt }; silent = refl; origin_is = refl }) e
+
+-- the renewal of the server's session, by a reset or by a change of user
+renewal_new : (login : Login) (terms : Terms) (f : Facts) (account : Account) (by_reset : Bool) → IsNew (renewal login terms f account by_reset)
+renewal_new login terms f account true = record { fits = record { kinds = tt; within = tt }; silent = refl; origin_is = refl }
+renewal_new login terms f account false = record { fits = record { kinds = tt; within = tt }; silent = refl; origin_is = refl }
+
+pub renewing_new : (login : Login) (c : Call) (p : Place) → IsNew (renewing login c p (facts_at login p))
+renewing_new login c p =
+    let f = facts_at login p in
+    renewal_new login (terms_of login (exchanges p)) f p.account (renews_by_reset (kind_of c) (version_of f.version))
 
 begun_new : (connects : Bool) (terms : Terms) (t : Talk) → Opened connects terms t → IsNew t
 begun_new connects terms t (Queries text) = queried_new terms text

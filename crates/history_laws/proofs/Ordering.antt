@@ -30,7 +30,7 @@ use Rattle.history_laws.proofs.Calls.{is_orderly, parts_orderly}
 use Rattle.history_laws.proofs.Growing.{failed_over}
 use Rattle.history_laws.proofs.Having.{Comes, begun_has, command_has, drains_have, either, reads_have, row_at}
 use Rattle.history_laws.specs.Order.{AreDone, IsOrderly, EachIsOrderly}
-use Rattle.history_laws.proofs.Opening.{opened_fits, executed_fits}
+use Rattle.history_laws.proofs.Opening.{opened_fits, executed_fits, renewing_new}
 use Rattle.history_laws.proofs.Stepping.{both}
 use Rattle.my_reading.specs.Reading.{halt_of, is_closing, read_calls, reading}
 use Rattle.my_reading.specs.Tape.{Span, spans}
@@ -150,7 +150,7 @@ module _ (login : Login) (p : Place) (w : IsOrderly p) where
     part_fine c (Run params ∷ parts) e = let x = both over _ e in
         command c parts (executed login c p params) (executed_fits (terms_of login (exchanges p)) p.statements (id_in c) (values_for (statement_in c) params)) (is x.0) x.1
     part_fine c (Text text ∷ parts) e = let x = both over _ e in asked c parts (queried (terms_of login (exchanges p)) text) (record { kinds = tt; within = tt }) (is x.0) x.1
-    part_fine c (Renew ∷ parts) e = let x = both over _ e in asked c parts (renewing login c p (facts_at login p)) (record { kinds = tt; within = tt }) (is x.0) x.1
+    part_fine c (Renew ∷ parts) e = let x = both over _ e in asked c parts (renewing login c p (facts_at login p)) (renewing_new login c p).fits (is x.0) x.1
     part_fine c (Undo ∷ parts) e = let x = both over _ e in undoes c parts (is_given_up p.status) (is x.0) x.1
     part_fine c (Find ∷ parts) e = either IsFine (is_mixed_text (text_in c)) _ _ (λ _. w) (λ _. finds parts (text_in c) (held_in p.statements (query_of (text_in c))) e)
     part_fine c (Check params ∷ parts) e = checks parts (values_for (statement_in c) params) e

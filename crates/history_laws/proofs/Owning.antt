@@ -6,7 +6,7 @@ use Rattle.my_grammar.specs.declared.spot.Kind.{Kind}
 use Rattle.my_grammar.specs.declared.spot.Kind.TheVariants as kinds
 use Rattle.my_grammar.specs.declared.spot.Terms.{Terms}
 use Rattle.my_grammar.specs.Cut.{is_over}
-use Rattle.my_grammar.specs.Growth.{grow}
+use Rattle.my_grammar.specs.Growth.{grow, is_calm}
 use Rattle.my_grammar.specs.Talk.{Talk, Fits, context_of, packets_of}
 use Rattle.my_handshake.specs.Version.{version_of}
 use Rattle.my_params.specs.declared.params.Params.{Params}
@@ -38,13 +38,16 @@ use Rattle.history_laws.specs.Owners.{IsTied, OwnsFirst, calls_in, may_lack, nee
 use Rattle.history_laws.specs.Sent.{is_answered}
 use Rattle.history_laws.specs.Settled.{Knows, is_known}
 use Rattle.history_laws.specs.Table.{Follow, Opens, Opening, Closing, Running, Asking, Renewing, Undoing, queries_of, renews}
+use Rattle.my_grammar.specs.declared.spot.Context.{Context}
+use Rattle.my_reading.specs.Endings.{awaits_head}
+use Rattle.history_laws.proofs.Awaiting.{not_calm_awaits}
 use Rattle.history_laws.proofs.Calls.{pooled}
 use Rattle.history_laws.proofs.Having.{Comes, begun_has, drains_have, either, reads_have, row_at}
 use Rattle.history_laws.proofs.Heard.{idle_bad}
-use Rattle.history_laws.proofs.Opening.{IsNew, closing_new, executed_new, opened_new, queried_new}
+use Rattle.history_laws.proofs.Opening.{IsNew, closing_new, executed_new, opened_new, queried_new, renewing_new}
 use Rattle.history_laws.proofs.Sending.{fresh, grown_paid}
 use Rattle.history_laws.proofs.Setting.{known_on}
-use Rattle.history_laws.proofs.Shaping.{IsShook, executed_shook, opened_shook, shook_on}
+use Rattle.history_laws.proofs.Shaping.{IsShook, executed_shook, opened_shook, shook_on, renewing_shook}
 
 -- What the parts that are left of a call need, while it has surely begun an exchange or may not have, and where a transaction stands so:
 -- what begins an exchange is the call's, and a call that needs one has begun one where it returns.
@@ -87,12 +90,16 @@ abbrev pub is_off : Trial → Bool
 is_off trials.Off = true
 is_off _ = false
 
+-- a call that sends no commands owes nothing, unless the head of a set is awaited, or an end of a chain
+abbrev pub OwesNone : Call → Place → Type 0
+OwesNone c p = asks (kind_of c) ≡ false → awaits_head (context_of p.talk).spot ≡ false → owed p ≡ []
+
 -- only a call that sends commands has a trial, and owes bytes
 abbrev Calm : Call → Place → Type 0
-Calm c p = ((is_off p.trial || asks (kind_of c)) ≡ true) × (asks (kind_of c) ≡ false → owed p ≡ [])
+Calm c p = ((is_off p.trial || asks (kind_of c)) ≡ true) × OwesNone c p
 
 abbrev pub Waits : Login → Call → List Made → Place → Type 0
-Waits login c ms p = (own : Bool) × HeldAt login c ms own p × (asks (kind_of c) ≡ false → owed p ≡ [])
+Waits login c ms p = (own : Bool) × HeldAt login c ms own p × OwesNone c p
 
 abbrev pub Stopped : Login → Call → List Made → Place → Stop → Type 0
 Stopped login c ms p Owes = Waits login c ms p
@@ -152,26 +159,34 @@ module _ (login : Login) (c : Call) (ms : List Made) (other : is_connect (kind_o
     Fine s = IsFine login c ms s
 
     waits : Fine (Stops p Awaits)
-    waits = (own, w, λ _. paid)
+    waits = (own, w, λ _ _. paid)
 
-    stays_paid : (k : Kind) (q rest : List ℕ) → Comes p k q → owed (with_talk p (grow k p.talk q) rest) ≡ []
-    stays_paid k q rest come =
-        let answered : Bool = is_answered (grow k p.talk q) in
-        grown_paid p k q rest (grows p.talk k q come.kind_is come.good come.short w.fits).origin_is (ap (λ b. answered || not b) w.shook ∙ or_true answered) paid
+    stays_paid : (k : Kind) (q rest : List ℕ) → Comes p k q → is_calm k ≡ true → owed (with_talk p (grow k p.talk q) rest) ≡ []
+    stays_paid k q rest come quiet = grown_paid p k q rest (grows p.talk k q come.kind_is come.good come.short w.fits).origin_is quiet paid
+
+    -- after a greeting or a request of a chain its end is awaited
+    stays_calm : (k : Kind) (q rest : List ℕ) → Comes p k q → OwesNone c (with_talk p (grow k p.talk q) rest)
+    stays_calm k q rest come = λ _ none. by_calm (is_calm k) refl none
+      where
+        by_calm : (b : Bool) → is_calm k ≡ b → awaits_head (context_of (grow k p.talk q)).spot ≡ false → owed (with_talk p (grow k p.talk q) rest) ≡ []
+        by_calm true quiet none = stays_paid k q rest come quiet
+        by_calm false loud none =
+            let g = grows p.talk k q come.kind_is come.good come.short w.fits in
+            absurd (not_calm_awaits k (context_of p.talk).spot _ _ _ _ q come.kind_is loud (sym (ap (λ (x : Context). awaits_head x.spot) g.context) ∙ none))
 
     after : (parts : List Part) (k : Kind) (q rest : List ℕ) → Comes p k q → Leads login c own p.status parts → Fine (Goes parts (with_talk p (grow k p.talk q) rest))
-    after parts k q rest come l = (own, held_on own p k q rest come w, l, (calm.0, λ _. stays_paid k q rest come))
+    after parts k q rest come l = (own, held_on own p k q rest come w, l, (calm.0, stays_calm k q rest come))
 
-    gives : (k : Kind) (q rest : List ℕ) → Comes p k q → (t : Told) → (own || may_lack t c) ≡ true → Fine (Stops (with_talk p (grow k p.talk q) rest) (Returns t))
-    gives k q rest come t may = (own, held_on own p k q rest come w, may, stays_paid k q rest come)
+    gives : (k : Kind) (q rest : List ℕ) → Comes p k q → is_calm k ≡ true → (t : Told) → (own || may_lack t c) ≡ true → Fine (Stops (with_talk p (grow k p.talk q) rest) (Returns t))
+    gives k q rest come quiet t may = (own, held_on own p k q rest come w, may, stays_paid k q rest come quiet)
 
     errs : (q rest : List ℕ) → Comes p kinds.Failed q → (e : ErrPacket) → Fine (refused_at p.trial (with_talk p (grow kinds.Failed p.talk q) rest) (server_error e))
     errs q rest come e = by_trial p.trial calm.0
       where
         by_trial : (x : Trial) → (is_off x || asks (kind_of c)) ≡ true → Fine (refused_at x (with_talk p (grow kinds.Failed p.talk q) rest) (server_error e))
-        by_trial trials.Off t = gives kinds.Failed q rest come (ToldError (Server (server_error e))) (or_true own)
-        by_trial trials.On t = (own, held_on own p kinds.Failed q rest come w, (t, refl), (t, λ _. stays_paid kinds.Failed q rest come))
-        by_trial (trials.Refused first) t = gives kinds.Failed q rest come (ToldError (Server first)) (or_true own)
+        by_trial trials.Off t = gives kinds.Failed q rest come refl (ToldError (Server (server_error e))) (or_true own)
+        by_trial trials.On t = (own, held_on own p kinds.Failed q rest come w, (t, refl), (t, stays_calm kinds.Failed q rest come))
+        by_trial (trials.Refused first) t = gives kinds.Failed q rest come refl (ToldError (Server first)) (or_true own)
 
     whole : (part : Part) (parts : List Part) → is_drain part ≡ false → Leads login c own p.status (part ∷ parts)
         → ((k : Kind) (q rest : List ℕ) → Comes p k q → Fine (after_kind part parts k (with_talk p (grow k p.talk q) rest) (row_at login p q))) → Fine (reads login part parts p)
@@ -182,13 +197,13 @@ module _ (login : Login) (c : Call) (ms : List Made) (other : is_connect (kind_o
     head_kind parts l k q rest come = after (Head ∷ parts) k q rest come l
 
     item_kind : (parts : List Part) → Leads login c own p.status parts → (k : Kind) (q rest : List ℕ) → Comes p k q → Fine (after_kind Item parts k (with_talk p (grow k p.talk q) rest) (row_at login p q))
-    item_kind parts l (kinds.Good s) q rest come = gives (kinds.Good s) q rest come ToldEnd (or_true own)
-    item_kind parts l kinds.Row q rest come = gives kinds.Row q rest come (row_at login p q) (or_true own)
-    item_kind parts l (kinds.End s) q rest come = gives (kinds.End s) q rest come ToldEnd (or_true own)
+    item_kind parts l (kinds.Good s) q rest come = gives (kinds.Good s) q rest come refl ToldEnd (or_true own)
+    item_kind parts l kinds.Row q rest come = gives kinds.Row q rest come refl (row_at login p q) (or_true own)
+    item_kind parts l (kinds.End s) q rest come = gives (kinds.End s) q rest come refl ToldEnd (or_true own)
     item_kind parts l k q rest come = after (Item ∷ parts) k q rest come l
 
     set_kind : (parts : List Part) → Leads login c own p.status (Set ∷ parts) → (k : Kind) (q rest : List ℕ) → Comes p k q → Fine (after_kind Set parts k (with_talk p (grow k p.talk q) rest) (row_at login p q))
-    set_kind parts l (kinds.Good s) q rest come = gives (kinds.Good s) q rest come ToldReady l.0
+    set_kind parts l (kinds.Good s) q rest come = gives (kinds.Good s) q rest come refl ToldReady l.0
     set_kind parts l k q rest come = after (Set ∷ parts) k q rest come l
 
     -- the call goes on, with the exchanges as they are
@@ -198,7 +213,7 @@ module _ (login : Login) (c : Call) (ms : List Made) (other : is_connect (kind_o
     -- an exchange begins
     begins : (parts : List Part) (t : Talk) → asks (kind_of c) ≡ true → Opens login (terms_of login (exchanges p)) c (connects_in (exchanges p)) t → IsNew t → IsShook t → Leads login c true p.status parts → Fine (with_command c parts p (Some t))
     begins parts t sends opens new shook l = begun_has (IsFine login c ms) p (λ e. (own, w, or_true own, paid)) c parts t
-        (true, held_more own p t sends opens new shook w, l, (calm.0, λ e. absurd (cc)))
+        (true, held_more own p t sends opens new shook w, l, (calm.0, λ e _. absurd (cc)))
 
     opens_one : (parts : List Part) (o : Option Talk) → asks (kind_of c) ≡ true → is_some o ≡ true → ((t : Talk) → o ≡ Some t → Opens login (terms_of login (exchanges p)) c (connects_in (exchanges p)) t) → ((t : Talk) → o ≡ Some t → IsNew t)
         → ((t : Talk) → o ≡ Some t → IsShook t) → Leads login c true p.status parts → Fine (with_command c parts p o)
@@ -234,7 +249,7 @@ module _ (login : Login) (c : Call) (ms : List Made) (other : is_connect (kind_o
         let reset = renews_by_reset (kind_of c) (version_of f.version) in
         begins parts (renewal login (terms_of login (exchanges p)) f p.account reset) l.0
         (Renewing (record { kind = l.1; facts = f; account = p.account; by_reset = reset; pooled = pooled c (version_of f.version); renewal_is = refl }))
-        (record { fits = record { kinds = tt; within = tt }; silent = refl; origin_is = refl }) refl l.2
+        (renewing_new login c p) (renewing_shook login c p) l.2
 
     finds : (parts : List Part) (text : List ℕ) (x : Option Cached) → Leads login c own p.status parts → Fine (found parts p text x)
     finds parts text None l = on parts l
@@ -268,7 +283,7 @@ module _ (login : Login) (c : Call) (ms : List Made) (other : is_connect (kind_o
         let kind : kind_of c ≡ callkinds.Prepare = ap kind_of (sym same) in
         let sends : asks (kind_of c) ≡ true = ap asks kind in
         begun_has (IsFine login c ms) (with_statements st p) (λ e. (own, w, or_true own, paid)) c parts (closing terms id)
-        (own, looser own (with_exchange (with_statements st p) c (closing terms id)) (held_more own p (closing terms id) sends (Closing id kind (ap (λ ts. closing ts id) (sym is))) (closing_new terms (Some id) (closing terms id) refl) refl w), l, (calm.0, λ e. absurd (cc)))
+        (own, looser own (with_exchange (with_statements st p) c (closing terms id)) (held_more own p (closing terms id) sends (Closing id kind (ap (λ ts. closing ts id) (sym is))) (closing_new terms (Some id) (closing terms id) refl) refl w), l, (calm.0, λ e _. absurd (cc)))
 
     part_fine : (parts : List Part) → Leads login c own p.status parts → Fine (step_of login c parts p)
     part_fine [] l = (own, w, l, paid)

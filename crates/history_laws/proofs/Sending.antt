@@ -1,5 +1,5 @@
 -- What was sent is what the exchanges say, the end of it perhaps cut.
-use Rattle.std.proofs.Common.{◌≡◌, ℕ, List, [], ◌∷◌, ◌++◌, ◌==◌, ◌≤◌, length, drop, Bool, true, false, not, ◌||◌, refl, sym, ap, ◌∙◌, subst, arith}
+use Rattle.std.proofs.Common.{◌≡◌, ℕ, List, [], ◌∷◌, ◌++◌, ◌==◌, ◌≤◌, length, drop, Bool, true, false, not, ◌||◌, refl, sym, ap, ◌∙◌, subst, arith, Option, None}
 use Rattle.std.proofs.lemmas.Bool.{eqb-true}
 use Rattle.std.proofs.Math.Seq.{drop-nil}
 use Rattle.my_grammar.proofs.Growth.{grows}
@@ -9,11 +9,10 @@ use Rattle.my_flags.specs.Sets.{deprecates_eof}
 use Rattle.my_grammar.specs.declared.packet.Packet.{Packet}
 use Rattle.my_grammar.specs.declared.spot.Kind.{Kind}
 use Rattle.my_grammar.specs.declared.spot.Kind.TheVariants as kinds
-use Rattle.my_grammar.specs.Growth.{grow}
+use Rattle.my_grammar.specs.Growth.{grow, is_calm}
 use Rattle.my_grammar.specs.Prepares.{grow_reply, packets_in_reply}
 use Rattle.my_grammar.specs.Sets.{Asking, ByText, asking_in, grow_sets, packets_in}
-use Rattle.my_grammar.specs.Talk.{Talk, Start, Queried, Preparing, Turn, Client, Fits, client_bytes, commands_by, context_of, limit_of, number_of, origin, packets_of, served, turns}
-use Rattle.my_reading.specs.Course.{is_greeting}
+use Rattle.my_grammar.specs.Talk.{Talk, Start, Queried, Preparing, Turn, Client, Fits, client_bytes, commands_by, limit_of, number_of, origin, packets_of, served, turns, Greeted, Changing, Server, answers, client_turns}
 use Rattle.my_reading.specs.Endings.{AreCalls, IsTape}
 use Rattle.my_reading.specs.Place.{Place, begins_with, client_side, exchanges, first_place, owed, with_bytes, with_exchange, with_talk}
 use Rattle.my_reading.specs.Reading.{halt_of, is_closing, read_calls, reading}
@@ -52,7 +51,7 @@ each_is_sent login t w =
     let q : Place = (read_calls login (spans t) false (first_place login)).place in
     subst (λ x. begins_with (client_side (exchanges q)) x ≡ true) (reads_sent login t w) (reads_begun login t w)
 
--- a payload of the server more changes nothing of what the client says, but for a greeting, to which it responds
+-- a payload of the server more changes nothing of what the client says, but for a greeting and a request of a chain, to which it answers
 served_client : (ps : List Packet) (ts : List Turn) → client_bytes (served ps ts) ≡ client_bytes ts
 served_client [] ts = refl
 served_client (p ∷ ps) ts = served_client ps ts
@@ -61,12 +60,19 @@ abbrev asked_in : Talk → Asking
 asked_in (Queried terms c sets) = asking_in sets
 asked_in _ = ByText
 
-start_kept : (login : Login) (k : Kind) (q : List ℕ) → (is_answered (grow k (Start login) q) || false) ≡ true → client_bytes (turns (grow k (Start login) q)) ≡ []
-start_kept login (kinds.Greets n) q e = absurd (cc)
+calm_answers : (secret : Option (List ℕ)) (k : Kind) (q : List ℕ) → is_calm k ≡ true → answers secret k q ≡ None
+calm_answers secret (kinds.Greets offer) q e = absurd (cc)
+calm_answers secret (kinds.Asks ask) q e = absurd (cc)
+calm_answers secret _ q e = refl
+
+start_kept : (login : Login) (k : Kind) (q : List ℕ) → is_calm k ≡ true → client_bytes (turns (grow k (Start login) q)) ≡ []
+start_kept login (kinds.Greets offer) q e = absurd (cc)
 start_kept login _ q e = refl
 
-client_kept : (t : Talk) (k : Kind) (q : List ℕ) → origin (grow k t q) ≡ origin t → (is_answered (grow k t q) || not (is_greeting (context_of t).spot)) ≡ true → client_bytes (turns (grow k t q)) ≡ client_bytes (turns t)
+client_kept : (t : Talk) (k : Kind) (q : List ℕ) → origin (grow k t q) ≡ origin t → is_calm k ≡ true → client_bytes (turns (grow k t q)) ≡ client_bytes (turns t)
 client_kept (Start login) k q o e = start_kept login k q e
+client_kept (Greeted login p offer chain) k q o e = ap (λ x. client_bytes (client_turns x ++ Server q ∷ turns (Greeted login p offer chain))) (calm_answers login.password k q e)
+client_kept (Changing terms secret stand c chain) k q o e = ap (λ x. client_bytes (client_turns x ++ Server q ∷ turns (Changing terms secret stand c chain))) (calm_answers secret k q e)
 client_kept (Queried terms c x) k q o e =
     let y = grow_sets (deprecates_eof terms.kept) k x q in
     served_client (packets_in y) (commands_by c (asking_in y)) ∙ ap (λ a. client_bytes (commands_by c a)) (ap asked_in o) ∙ sym (served_client (packets_in x) (commands_by c (asking_in x)))
@@ -74,7 +80,7 @@ client_kept (Preparing terms c r) k q o e =
     served_client (packets_in_reply (grow_reply (deprecates_eof terms.kept) k r q)) (Client c ∷ []) ∙ sym (served_client (packets_in_reply r) (Client c ∷ []))
 client_kept _ k q o e = refl
 
-pub grown_paid : (p : Place) (k : Kind) (q rest : List ℕ) → origin (grow k p.talk q) ≡ origin p.talk → (is_answered (grow k p.talk q) || not (is_greeting (context_of p.talk).spot)) ≡ true → owed p ≡ [] → owed (with_talk p (grow k p.talk q) rest) ≡ []
+pub grown_paid : (p : Place) (k : Kind) (q rest : List ℕ) → origin (grow k p.talk q) ≡ origin p.talk → is_calm k ≡ true → owed p ≡ [] → owed (with_talk p (grow k p.talk q) rest) ≡ []
 grown_paid p k q rest o e paid = ap (λ bs. drop (length p.sent) (client_side p.older ++ bs)) (client_kept p.talk k q o e) ∙ paid
 
 -- nothing is answered where an exchange begins
@@ -123,7 +129,7 @@ keeps_paid a b p q w (Takes r k payload rest next paid front kind good alike) =
     let short : length payload ≤ limit_of p.talk = omega (arith, taken.within) in
     let g = grows p.talk k payload kind good short w.fits in
     alike_paid (with_talk p (grow k p.talk payload) rest) q alike
-    (record { older = w.older; answered = λ e. grown_paid p k payload rest g.origin_is (ap (λ b. b || not (is_greeting (context_of p.talk).spot)) e) paid; fits = g.fits })
+    (record { older = w.older; answered = λ e. grown_paid p k payload rest g.origin_is (sym (ap ends_answered g.packets_are) ∙ e) paid; fits = g.fits })
 keeps_paid a b p q w (Begins r call t paid n alike) =
     alike_paid (with_exchange p call t) q alike
     (record { older = paid; answered = λ e. absurd (let no : is_answered t ≡ false = unanswered t n.origin_is in cc); fits = n.fits })

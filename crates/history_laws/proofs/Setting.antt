@@ -1,5 +1,8 @@
 -- What payloads do to the settings.
 use Rattle.std.proofs.Common.{◌≡◌, ℕ, List, [], ◌∷◌, ◌++◌, Bool, true, false, cond, Option, Some, None, unwrap_or, refl, sym, ap, ◌∙◌, subst}
+use Rattle.my_auth.specs.declared.chain.AuthAsk.{AuthAsk}
+use Rattle.my_auth.specs.declared.chain.AuthAsk.TheVariants.{Switch}
+use Rattle.my_auth.specs.declared.plugin.AuthPlugin.TheVariants.{Native, Caching}
 use Rattle.my_grammar.specs.declared.login.Login.{Login}
 use Rattle.my_grammar.specs.declared.packet.Packet.{Packet}
 use Rattle.my_grammar.specs.declared.spot.Kind.{Kind}
@@ -18,7 +21,7 @@ use Rattle.my_reading.specs.declared.facts.Facts.{Facts}
 use Rattle.my_reading.specs.declared.settings.Settings.{Settings}
 use Rattle.my_reading.specs.declared.settings.Stage.{Stage}
 use Rattle.my_reading.specs.declared.settings.Stage.TheVariants.{Unasked, Asked, Known}
-use Rattle.my_reading.specs.Facts.{facts_after, facts_by, with_column, with_field, with_greeting, with_head, with_parameter}
+use Rattle.my_reading.specs.Facts.{facts_after, facts_by, with_column, with_field, with_greeting, with_head, with_parameter, with_ask}
 use Rattle.my_reading.specs.Place.{Exchange, facts_of}
 use Rattle.my_reading.specs.Rows.{row_at}
 use Rattle.my_reading.specs.Settings.{awaited, awaits_row, end_settings, in_force, good_settings, limit_in, row_settings, settled, told, told_by, wait_in}
@@ -55,8 +58,14 @@ field_says_none : (c : Option Column) (f : Facts) → (with_field c f).settings 
 field_says_none None f = refl
 field_says_none (Some c) f = refl
 
+ask_says_none : (ask : AuthAsk) (p : List ℕ) (f : Facts) → (with_ask ask p f).settings ≡ f.settings
+ask_says_none (Switch Native) p f = refl
+ask_says_none (Switch Caching) p f = refl
+ask_says_none _ p f = refl
+
 pub payload_settings : (k : Kind) (p : List ℕ) (f : Facts) → (facts_after k p f).settings ≡ settings_after k (row_at Text f.columns p) f.settings
-payload_settings (kinds.Greets capabilities) p f = greeting_says_none (greeting_at p) f
+payload_settings (kinds.Greets offer) p f = greeting_says_none (greeting_at p) f
+payload_settings (kinds.Asks ask) p f = ask_says_none ask p f
 payload_settings kinds.Column p f = column_says_none (column_at p) f
 payload_settings (kinds.Prepared params columns) p f = head_says_none (prepare_ok_at p) f
 payload_settings kinds.Parameter p f = parameter_says_none (column_at p) f

@@ -42,7 +42,7 @@ use Rattle.my_reading.specs.Versions.{can_reset}
 use Rattle.history_laws.specs.Given.{NonePassed}
 use Rattle.history_laws.specs.Groups.{Group, Made, given, given_after}
 use Rattle.history_laws.proofs.Calls.{ready_same}
-use Rattle.history_laws.proofs.Opening.{executed_fits, opened_fits}
+use Rattle.history_laws.proofs.Opening.{executed_fits, opened_fits, renewing_new}
 use Rattle.history_laws.proofs.Growing.{failed_over, given_on}
 use Rattle.history_laws.proofs.Having.{Comes, begun_has, command_has, drains_have, either, reads_have, row_at}
 use Rattle.history_laws.proofs.Phases.{Gave, GaveAt, IsFine, IsHalted, KeptAt, Stopped, Safely, Heading, Replying, Backing, is_back, is_fitting, is_head, is_query, is_reply, is_safe, may_return, reads_sets, returned_so, settled, shifted}
@@ -324,7 +324,7 @@ module _ (login : Login) (ms : List Made) where
   safe_fine c plain kept trying (Text text ∷ parts) p o e w k = asked_fine login c ms plain trying parts p o (queried (terms_of login (exchanges p)) text) (record { kinds = tt; within = tt }) e w
   safe_fine c plain kept trying (Flag flag ∷ parts) p o e w k = let r = rests kept trying e in told_fine login c ms plain (ToldFlag flag) p o refl (of_trying login c ms plain trying p o r.1 w) (k r.0)
   safe_fine c plain kept trying (Adopt change ∷ parts) p o e w k = at login c ms plain kept trying parts (with_account (changed change p.account) p) o e w k
-  safe_fine c plain kept trying (Renew ∷ parts) p o e w k = asked_fine login c ms plain trying parts p o (renewing login c p (facts_at login p)) (record { kinds = tt; within = tt }) e w
+  safe_fine c plain kept trying (Renew ∷ parts) p o e w k = asked_fine login c ms plain trying parts p o (renewing login c p (facts_at login p)) (renewing_new login c p).fits e w
   safe_fine c plain kept trying (Drain ∷ parts) p o e w k = drain_fine login c ms plain trying parts p o e w
   safe_fine c plain kept trying (Undo ∷ parts) p o e w k = undone_fine login c ms plain trying parts p o (is_given_up p.status) e w
   safe_fine c plain kept trying (Undone ∷ parts) p o e w k = at login c ms plain kept trying parts (with_status (rolled_back p.status) p) o e w k

@@ -20,7 +20,7 @@ use Rattle.history_laws.specs.Owners.{AreOf, IsArranged, IsOwnedOf, IsTied, begu
 use Rattle.history_laws.specs.Sent.{is_answered}
 use Rattle.history_laws.specs.Settled.{Knows}
 use Rattle.history_laws.specs.Table.{Follow}
-use Rattle.history_laws.proofs.Calls.{cancelled_asks, closed_lacks}
+use Rattle.history_laws.proofs.Calls.{cancelled_asks, cancelled_awaits, closed_lacks}
 use Rattle.history_laws.proofs.Heard.{Rests}
 use Rattle.history_laws.proofs.Owning.{HeldAt, Owned, Stopped, Waits, is_off, run_fine}
 use Rattle.history_laws.proofs.Parts.{parts_lead}
@@ -118,7 +118,7 @@ module _ (login : Login) (s : Span) (ms : List Made) (other : is_connect (kind_o
 
     cut_ended : Waits login c ms h.place → IsCut login as_read → Ended
     cut_ended w (IsOpen e) = inl (e, w)
-    cut_ended w (IsCancelled e) = so (Dropped (closes_cancelled (kind_of c) h.place)) e (answered (Dropped (closes_cancelled (kind_of c) h.place)) w.0 (closes_cancelled (kind_of c) h.place) h.place w.1 (or_lack w.0) (λ x. w.2 (cancelled_asks (kind_of c) h.place x)))
+    cut_ended w (IsCancelled e) = so (Dropped (closes_cancelled (kind_of c) h.place)) e (answered (Dropped (closes_cancelled (kind_of c) h.place)) w.0 (closes_cancelled (kind_of c) h.place) h.place w.1 (or_lack w.0) (λ x. w.2 (cancelled_asks (kind_of c) h.place x) (cancelled_awaits (kind_of c) h.place x)))
     cut_ended w (IsLinkFailure e) = so _ e (answered _ w.0 true h.place w.1 (or_lack w.0) (λ x. absurd (cc)))
     cut_ended w (IsLinkEnd a e) = so _ e (answered _ w.0 true h.place w.1 (or_lack w.0) (λ x. absurd (cc)))
 
@@ -131,7 +131,7 @@ module _ (login : Login) (s : Span) (ms : List Made) (other : is_connect (kind_o
   call_stands p ms0 b r =
       let q : Place = with_bytes s.sent s.taken p in
       run_fine login c ms other (enough login c q) (Goes (parts_of login c) q)
-      (false, held_first p b, parts_lead login c q.status other, (ap (λ x. is_off x || asks (kind_of c)) (r.off refl), λ _. bytes_paid p s.sent s.taken (b.paid refl)))
+      (false, held_first p b, parts_lead login c q.status other, (ap (λ x. is_off x || asks (kind_of c)) (r.off refl), λ _ _. bytes_paid p s.sent s.taken (b.paid refl)))
 
 -- a call that is open
 open_of : (login : Login) (s : Span) (ms : List Made) (p : Place) → Waits login s.call ms p → AreOf (Some s.call) ms (begun_in (exchanges p))

@@ -5,13 +5,14 @@ use Rattle.my_reply.specs.declared.err.ErrPacket.{ErrPacket}
 use Rattle.my_reply.specs.ErrPacket.{err_at}
 use Rattle.my_frame.specs.FrontLaws.{AreBytes}
 use Rattle.my_grammar.specs.declared.login.Login.{Login}
+use Rattle.my_grammar.specs.declared.packet.Packet.{Packet}
 use Rattle.my_grammar.specs.declared.spot.Kind.{Kind}
 use Rattle.my_grammar.specs.declared.spot.Kind.TheVariants as kinds
 use Rattle.my_grammar.specs.declared.spot.Terms.{Terms}
 use Rattle.my_grammar.specs.Cut.{cut}
 use Rattle.my_grammar.specs.Prepares.{Reply, Refused}
 use Rattle.my_grammar.specs.Sets.{Sets, NoSets, Lone, Failed, Heading, Headed, Begun, Ended, Broken}
-use Rattle.my_grammar.specs.Talk.{Talk, Unwelcome, Settled, Replied, Queried, Preparing, origin}
+use Rattle.my_grammar.specs.Talk.{Talk, Unwelcome, Greeted, Changing, Replied, Queried, Preparing, origin}
 use Rattle.my_reading.specs.declared.call.Call.{Call}
 use Rattle.my_reading.specs.declared.call.Call.TheVariants.{CleanForPool, Commit}
 use Rattle.my_reading.specs.declared.error.Error.{Error}
@@ -55,11 +56,17 @@ abbrev pub errors_in_reply : Reply → List ServerError
 errors_in_reply (Refused p) = error_onto (err_at false p) []
 errors_in_reply _ = []
 
+-- the ERR that ends a chain in which the client shows who it is
+abbrev pub errors_in_chain : List Packet → List ServerError
+errors_in_chain [] = []
+errors_in_chain (packet ∷ chain) = error_of packet.kind packet.payload ++ errors_in_chain chain
+
 -- the ERRs of an exchange; one in place of the greeting has no state
 abbrev pub errors_in : Talk → List ServerError
 errors_in (Unwelcome login p) = error_onto (err_at true p) []
-errors_in (Settled login p capabilities last kind) = error_of kind last
+errors_in (Greeted login p offer chain) = errors_in_chain chain
 errors_in (Replied terms c last kind) = error_of kind last
+errors_in (Changing terms secret stand c chain) = errors_in_chain chain
 errors_in (Queried terms c sets) = errors_in_sets sets
 errors_in (Preparing terms c reply) = errors_in_reply reply
 errors_in _ = []

@@ -2,7 +2,7 @@
 use Rattle.std.specs.Prelude.{◌≡◌, ℕ, List, [], ◌∷◌, ◌++◌, Bool, true, false}
 use Rattle.my_grammar.specs.declared.login.Login.{Login}
 use Rattle.my_grammar.specs.declared.packet.Packet.{Packet}
-use Rattle.my_grammar.specs.Growth.{not_greets}
+use Rattle.my_grammar.specs.Growth.{is_calm}
 use Rattle.my_grammar.specs.Talk.{Talk, client_bytes, packets_of, turns}
 use Rattle.my_reading.specs.Endings.{IsTape}
 use Rattle.my_reading.specs.Place.{Place, begins_with, client_side, exchanges, owed}
@@ -16,7 +16,7 @@ EachIsSent = (login : Login) (t : Tape) → IsTape login t → begins_with (clie
 -- the newest payload answers what the client said last
 abbrev pub ends_answered : List Packet → Bool
 ends_answered [] = false
-ends_answered (packet ∷ packets) = not_greets packet.kind
+ends_answered (packet ∷ packets) = is_calm packet.kind
 
 abbrev pub is_answered : Talk → Bool
 is_answered t = ends_answered (packets_of t)

@@ -9,5 +9,5 @@ mod tape;
 
 pub use judging::{Verdict, first_reader, judge};
 pub use reader::{Reader, between};
-pub use stand::{Stand, is_same_row};
+pub use stand::{Stand, is_same_error, is_same_row};
 pub use tape::{Ending, Tape, TapeCall};

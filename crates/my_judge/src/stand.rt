@@ -8,7 +8,7 @@ ghost use Rattle.my_judge.specs.Stands.{IsAt, IsSomewhere, Settles, with_bytes};
 
 mod ending;
 
-pub use ending::is_same_row;
+pub use ending::{is_same_error, is_same_row};
 use my_frame::NoMemory;
 use my_grammar::{Login, Queue};
 use my_machine::{Progress, Stop};

@@ -4,7 +4,7 @@ ghost use Rattle.std.specs.Prelude.{◌≡◌, Err, Ok, Some};
 ghost use Rattle.std.specs.Bool.{Decides};
 ghost use Rattle.my_run_judge.specs.Lines.{AreRows, IsGathered};
 
-use my_judge::is_same_row;
+use my_judge::{is_same_error, is_same_row};
 use my_reading::{Answer, Error};
 use my_script::TapeCall;
 use my_statements::Statement;
@@ -102,7 +102,7 @@ pub fn is_error(error: &Error, answer: &Option<Result<Answer, Error>>) -> bool
     ensures { Decides result (answer.now ≡ Some (Err error.now)) }
 {
     match answer {
-        Some(Err(other)) => other == error,
+        Some(Err(other)) => is_same_error(other, error),
         _ => false,
     }
 }

@@ -75,7 +75,8 @@ fn is_same_url(a: &UrlError, b: &UrlError) -> bool
     a == b
 }
 
-fn is_same_error(a: &Error, b: &Error) -> bool
+/// Whether both are the same error.
+pub fn is_same_error(a: &Error, b: &Error) -> bool
     ensures { Decides result (a.now ≡ b.now) }
 {
     match (a, b) {
