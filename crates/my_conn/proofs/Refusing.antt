@@ -1,6 +1,13 @@
 -- Why no connection was made: never since a URL can't be read, nor since a dial gave no link.
 use Rattle.std.proofs.Common.{◌≡◌, ℕ, List, [], ◌∷◌, ◌++◌, Option, Some, None, Result, Ok, Err, IfErr, inl, inr, Bool, true, false, cond, if◌then◌else◌, refl, sym, ap, ◌∙◌, subst}
+use Rattle.my_auth.specs.declared.chain.AuthMove.{AuthMove}
+use Rattle.my_auth.specs.declared.chain.AuthMove.TheVariants.{Refuse}
+use Rattle.my_auth.specs.declared.chain.AuthRefusal.{AuthRefusal}
+use Rattle.my_auth.specs.declared.chain.AuthRefusal.TheVariants as refusals
+use Rattle.my_auth.specs.Chain.{move_at}
 use Rattle.my_grammar.specs.declared.login.Login.{Login}
+use Rattle.my_grammar.specs.declared.spot.Spot.{Spot}
+use Rattle.my_grammar.specs.declared.spot.Spot.TheVariants.{Authentication}
 use Rattle.my_link.specs.Looks.{Looks}
 use Rattle.my_link.specs.Moves.{LinkEnd, NoStop, ReadFault, ReadHold, Stop as LinkStop, WriteFault, WriteHold}
 use Rattle.my_opts.specs.Opts.{OptsView}
@@ -14,7 +21,7 @@ use Rattle.my_reading.specs.declared.error.IoKind.{IoKind}
 use Rattle.my_reading.specs.declared.error.IoKind.TheVariants as kinds
 use Rattle.my_reading.specs.Calls.{is_unrefused, kind_of}
 use Rattle.my_reading.specs.Course.{Stop, Owes, Awaits, Returns, Goes, enough, parts_of}
-use Rattle.my_reading.specs.Errors.{connection_closed}
+use Rattle.my_reading.specs.Errors.{connection_closed, move_error, refusal_error, unfit_error}
 use Rattle.my_reading.specs.Place.{Place, with_bytes}
 use Rattle.my_reading.specs.Reading.{ReadCall, Reading, halt_of}
 use Rattle.my_reading.specs.Tape.{Span}
@@ -51,6 +58,22 @@ abbrev IsOfCall : Told → Type 0
 IsOfCall (ToldError e) = IsOwn e
 IsOfCall t = Unit {0}
 
+refusal_own : (r : AuthRefusal) (payload : List ℕ) (n : ℕ) → IsOwn (refusal_error r payload n)
+refusal_own refusals.UnknownAuthPlugin payload n = tt
+refusal_own refusals.CleartextPluginDisabled payload n = tt
+refusal_own refusals.MysqlOldPasswordDisabled payload n = tt
+refusal_own refusals.FullAuthRefused payload n = tt
+refusal_own refusals.UnexpectedPacket payload n = tt
+refusal_own refusals.Malformed payload n = tt
+
+move_own : (m : AuthMove) (payload : List ℕ) (n : ℕ) → IsOwn (move_error m payload n)
+move_own (Refuse r) payload n = refusal_own r payload n
+move_own m payload n = tt
+
+unfit_own : (s : Spot) (payload : List ℕ) (n : ℕ) → IsOwn (unfit_error s payload n)
+unfit_own (Authentication stand) payload n = move_own (move_at stand payload) payload n
+unfit_own s payload n = tt
+
 are_of_calls : AreTold IsOfCall
 are_of_calls = record {
   ready = tt;
@@ -61,6 +84,7 @@ are_of_calls = record {
   flag = λ b. tt;
   server = λ e. tt;
   data_at = λ n. tt;
+  misfit = λ s p n. unfit_own s p n;
   codec = λ f. tt;
   mixed = tt;
   values = λ s p e is. tt;
