@@ -26,7 +26,7 @@ use Rattle.history_laws.specs.Settled.{is_known}
 use Rattle.history_laws.specs.Table.{Follow, Opens, Opening}
 use Rattle.history_laws.proofs.Asking.{AreAccepted, AreConnects, all_connect, connect_known, ends_well}
 use Rattle.history_laws.proofs.Blaming.{is_failed}
-use Rattle.history_laws.proofs.Having.{Comes, begun_has, either, errors_have}
+use Rattle.history_laws.proofs.Having.{Comes, begun_has, either, errors_have, fault_closes}
 use Rattle.history_laws.proofs.Opening.{queried_new}
 use Rattle.history_laws.proofs.Shaping.{connects, connects_on}
 use Rattle.history_laws.proofs.Stepping.{both}
@@ -113,7 +113,7 @@ module _ (login : Login) (p : Place) (w : JoinsAt login p) (paid : owed p ≡ []
   all_fine parts e count = either Fine p.end_left _ _
       (λ _. (false, record { table = w.table; own = w.own; owns = w.owns; fits = w.fits; connects_is = w.connects_is; off = w.off }, e, λ x. absurd (cc), count, done, accepted))
       (λ _. either Fine (is_over p.talk) _ _ (λ over. (true, w, e, λ _. over, count, done, accepted))
-      (λ _. errors_have (IsFine login) p (λ x. (w, inr (_, refl, refl))) login All parts w (goes_on parts e count) (goes_on parts e count) (λ q rest come x is. errs q rest come x)))
+      (λ _. errors_have (IsFine login) p (λ x is. (w, inr (x, refl, fault_closes callkinds.Connect x is))) login All parts w (goes_on parts e count) (goes_on parts e count) (λ q rest come x is. errs q rest come x)))
 
   counted : connects_in (exchanges p) ≡ suc n
   counted = all_connect (exchanges p) (w.own, w.owns)
@@ -128,7 +128,7 @@ module _ (login : Login) (p : Place) (w : JoinsAt login p) (paid : owed p ≡ []
       let t : Talk = queried terms f.0 in
       let is : next_exchange login Connect p ≡ Some t = next f.0 f.1 in
       subst (λ o. Fine (with_command Connect parts p o)) (sym is)
-      (begun_has (IsFine login) p (λ x. (w, inr (_, refl, refl))) Connect parts t (
+      (begun_has (IsFine login) p (λ x is. (w, inr (x, refl, fault_closes callkinds.Connect x is))) Connect parts t (
         false,
         record {
           table = (Opening p.statements is, w.table);

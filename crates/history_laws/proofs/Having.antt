@@ -14,14 +14,20 @@ use Rattle.my_grammar.specs.Cut.{front_of, kind_of}
 use Rattle.my_grammar.specs.Growth.{grow}
 use Rattle.my_grammar.specs.Talk.{Talk, commands_in, context_of, limit_of, number_of, turns, says, secret_in}
 use Rattle.my_reading.specs.declared.call.Call.{Call}
-use Rattle.my_reading.specs.declared.error.Error.TheVariants.{Io}
-use Rattle.my_reading.specs.declared.error.IoError.{IoError}
+use Rattle.my_frame.specs.declared.fault.CodecFault.TheVariants.{TooLarge}
+use Rattle.my_reading.specs.declared.call.CallKind.{CallKind}
+use Rattle.my_reading.specs.declared.call.CallKind.TheVariants as callkinds
+use Rattle.my_reading.specs.declared.error.Error.{Error}
+use Rattle.my_reading.specs.declared.error.Error.TheVariants as errors
+use Rattle.my_reading.specs.declared.error.ServerError.{ServerError}
 use Rattle.my_reading.specs.Course.{Part, Drain, Awaits, Step, Goes, Stops, failure, with_front, reads, after_payload, after_kind, after_err, dropped_at, failed_at, is_drain, refused_at, unfit, unless_cached, unless_long, with_command, first_above, is_greeting, above}
-use Rattle.my_reading.specs.Errors.{server_error}
+use Rattle.my_reading.specs.Errors.{server_error, codec_error, invalid_data, unfit_error}
 use Rattle.my_reading.specs.Place.{Place, facts_at, with_exchange, with_talk}
 use Rattle.my_reading.specs.Rows.{row_of}
 use Rattle.my_reading.specs.Statements.{is_cached}
-use Rattle.my_reading.specs.Told.{Told, ToldRow}
+use Rattle.my_reading.specs.Told.{Told, ToldRow, closes_by}
+use Rattle.reading_laws.proofs.Unfitting.{unfit_closes}
+use Rattle.history_laws.specs.Errors.{with_error}
 use Rattle.history_laws.proofs.Blaming.{is_failed}
 use Rattle.history_laws.proofs.Growing.{is_quiet}
 
@@ -39,10 +45,23 @@ pub either : (R : Step → Type 0) (b : Bool) (x y : Step) → (b ≡ true → R
 either R true x y v w = v refl
 either R false x y v w = w refl
 
-module _ (R : Step → Type 0) (p : Place) (faults : (e : IoError) → R (failure p (Io e))) where
+-- an error by which a call closes the connection, and no server's
+abbrev pub IsFault : Error → Type 0
+IsFault e = closes_by e callkinds.Ping ≡ true
+
+pub fault_closes : (c : CallKind) (e : Error) → IsFault e → closes_by e c ≡ true
+fault_closes c (errors.Driver e) is = is
+fault_closes c (errors.Server e) is = absurd (cc)
+fault_closes c _ is = refl
+
+pub fault_tells_none : (e : Error) (es : List ServerError) → IsFault e → with_error e es ≡ es
+fault_tells_none (errors.Server e) es is = absurd (cc)
+fault_tells_none _ es is = refl
+
+module _ (R : Step → Type 0) (p : Place) (faults : (e : Error) → IsFault e → R (failure p e)) where
   long_has : (limit : ℕ) (o : Option ℕ) (s : Step) → R s → R (unless_long p limit o s)
   long_has limit None s w = w
-  long_has limit (Some n) s w = faults _
+  long_has limit (Some n) s w = faults (codec_error (TooLarge n limit)) refl
 
   pub begun_has : (call : Call) (parts : List Part) (t : Talk) → R (Goes parts (with_exchange p call t)) → R (with_command call parts p (Some t))
   begun_has call parts t w = long_has (limit_of t) (first_above (limit_of t) (commands_in t)) (Goes parts (with_exchange p call t)) w
@@ -53,11 +72,11 @@ module _ (R : Step → Type 0) (p : Place) (faults : (e : IoError) → R (failur
   command_has call parts (Some t) w v = begun_has call parts t (v t refl)
 
   err_has : (login : Login) (new : Place) (o : Option ErrPacket) → ((e : ErrPacket) → R (refused_at p.trial new (server_error e))) → R (after_err login p new o)
-  err_has login new None refused = faults _
+  err_has login new None refused = faults (invalid_data (facts_at login p).place) refl
   err_has login new (Some e) refused = refused e
 
   dropped_has : (login : Login) (parts : List Part) (new : Place) (o : Option ErrPacket) → R (Goes (Drain ∷ parts) new) → R (dropped_at login parts p new o)
-  dropped_has login parts new None again = faults _
+  dropped_has login parts new None again = faults (invalid_data (facts_at login p).place) refl
   dropped_has login parts new (Some e) again = again
 
   module _ (login : Login) (part : Part) (parts : List Part) (waits : R (Stops p Awaits))
@@ -68,10 +87,10 @@ module _ (R : Step → Type 0) (p : Place) (faults : (e : IoError) → R (failur
     head_has : (q rest : List ℕ) (params columns : ℕ) → Comes p (kinds.Prepared params columns) q → (o : Option PrepareOk)
         → R (unless_cached login p o (Goes (part ∷ parts) (with_talk p (grow (kinds.Prepared params columns) p.talk q) rest)))
     head_has q rest params columns c None = again (kinds.Prepared params columns) refl refl q rest c
-    head_has q rest params columns c (Some ok) = either R (is_cached p.statements ok.id) _ _ (λ _. faults _) (λ _. again (kinds.Prepared params columns) refl refl q rest c)
+    head_has q rest params columns c (Some ok) = either R (is_cached p.statements ok.id) _ _ (λ _. faults (invalid_data (facts_at login p).place) refl) (λ _. again (kinds.Prepared params columns) refl refl q rest c)
 
     payload_has : (q rest : List ℕ) (k : Kind) → kind_of p.talk q ≡ k → length q ≤ limit_of p.talk → R (after_payload login part parts p (with_talk p (grow k p.talk q) rest) q k)
-    payload_has q rest kinds.Bad e l = faults _
+    payload_has q rest kinds.Bad e l = faults _ (unfit_closes callkinds.Ping (context_of p.talk).spot q (facts_at login p).place)
     payload_has q rest kinds.Failed e l = failed q rest (record { kind_is = e; good = refl; short = l }) (err_at (is_greeting (context_of p.talk).spot) q) refl
     payload_has q rest (kinds.Greets n) e l = long_has (limit_of p.talk) (above (limit_of p.talk) (says login (secret_in p.talk) (kinds.Greets n) q)) _
         (again (kinds.Greets n) refl refl q rest (record { kind_is = e; good = refl; short = l }))
@@ -82,7 +101,7 @@ module _ (R : Step → Type 0) (p : Place) (faults : (e : IoError) → R (failur
 
     front_has : (x : Front) → front_of p.talk p.unread ≡ x → R (with_front login part parts p x)
     front_has Waiting e = waits
-    front_has (Broken fault) e = faults _
+    front_has (Broken fault) e = faults (codec_error fault) refl
     front_has (Whole q rest next) e =
         let taken = takes_whole (number_of (turns p.talk)) (limit_of p.talk) p.unread q rest next e in
         payload_has q rest (kind_of p.talk q) refl (omega (arith, taken.within))
@@ -120,6 +139,6 @@ module _ (R : Step → Type 0) (p : Place) (faults : (e : IoError) → R (failur
       by_error q rest c None is = by_drain (is_drain part)
         where
           by_drain : (b : Bool) → R (cond b (unfit login p) (unfit login p))
-          by_drain true = faults _
-          by_drain false = faults _
+          by_drain true = faults (invalid_data (facts_at login p).place) refl
+          by_drain false = faults (invalid_data (facts_at login p).place) refl
       by_error q rest c (Some e) is = failed q rest c e is

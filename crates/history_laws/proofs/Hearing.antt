@@ -13,23 +13,24 @@ use Rattle.my_handshake.specs.Version.{version_of}
 use Rattle.my_reading.specs.declared.call.Call.{Call}
 use Rattle.my_reading.specs.declared.call.Call.TheVariants.{Prepare, Commit}
 use Rattle.my_reading.specs.declared.error.DriverError.{DriverError}
-use Rattle.my_reading.specs.declared.error.Error.TheVariants.{Driver, Io, Server}
-use Rattle.my_reading.specs.declared.error.IoError.{IoError}
+use Rattle.my_reading.specs.declared.error.Error.TheVariants.{Driver, Server}
+use Rattle.my_frame.specs.declared.fault.CodecFault.TheVariants.{TooLarge}
+use Rattle.my_reading.specs.declared.error.Error.{Error}
 use Rattle.my_reading.specs.declared.error.ServerError.{ServerError}
 use Rattle.my_reading.specs.declared.transaction.Trial.{Trial}
 use Rattle.my_reading.specs.declared.transaction.Trial.TheVariants.{Off, On, Refused}
 use Rattle.my_reading.specs.declared.transaction.TxStatus.TheVariants.{RequiresRollback}
 use Rattle.my_reading.specs.Accounts.{changed}
-use Rattle.my_reading.specs.Calls.{id_in, statement_in, text_in}
+use Rattle.my_reading.specs.Calls.{id_in, statement_in, text_in, kind_of}
 use Rattle.my_reading.specs.Commands.{queried}
 use Rattle.my_reading.specs.Course.{Part, All, Head, Item, Set, Rest, Command, Find, Check, Run, Reply, Keep, Give, Learn, Forget, Offered, Clear, Text, Flag, Adopt, Renew, Drain, Undo, Undone, Refuse, Settle, GiveUp, Try, Back, Goes, Returns, after_kind, checked, closing_of, executed, failure, first_above, found, is_drain, is_greeting, is_rows, offered, reads, refused_at, renewing, returned, step, step_of, undone, unless_long, unless_owed, unless_refused, with_command}
-use Rattle.my_reading.specs.Errors.{mixed_params, server_error}
+use Rattle.my_reading.specs.Errors.{mixed_params, server_error, codec_error}
 use Rattle.my_reading.specs.Executions.{Values, Fitting, Unfitting, values_for}
 use Rattle.my_reading.specs.Facts.{prepared_by}
 use Rattle.my_reading.specs.Place.{Place, connects_in, exchanges, facts_at, next_exchange, owed, terms_of, with_account, with_end, with_exchange, with_statements, with_status, with_talk, with_taken, with_trial, without_end}
 use Rattle.my_reading.specs.Rows.{row_of}
 use Rattle.my_reading.specs.Statements.{Statements, cleared, held_in, is_mixed_text, leaving, names_of, query_of, statement_with, with_columns, with_fetched, with_prepared, without_statement}
-use Rattle.my_reading.specs.Told.{Told, ToldReady, ToldRow, ToldEnd, ToldNone, ToldStatement, ToldFlag, ToldError, ToldPassed}
+use Rattle.my_reading.specs.Told.{Told, ToldReady, ToldRow, ToldEnd, ToldNone, ToldStatement, ToldFlag, ToldError, ToldPassed, closes}
 use Rattle.my_reading.specs.Transactions.{begin_refusal, given_up, is_given_up, rollback_text, rolled_back}
 use Rattle.my_reading.specs.Versions.{can_reset}
 use Rattle.my_statements.specs.Cache.{Held}
@@ -38,7 +39,7 @@ use Rattle.history_laws.specs.Groups.{Made}
 use Rattle.history_laws.proofs.Calls.{commit_closes, commits, is_commits, is_tried}
 use Rattle.history_laws.proofs.Blaming.{failed_blames, is_failed}
 use Rattle.history_laws.proofs.Growing.{failed_over}
-use Rattle.history_laws.proofs.Having.{Comes, either, errors_have}
+use Rattle.history_laws.proofs.Having.{Comes, either, errors_have, IsFault, fault_closes, fault_tells_none}
 use Rattle.history_laws.proofs.Opening.{IsNew, closing_new, executed_new, opened_new, queried_new, some_new, renewing_new}
 use Rattle.history_laws.proofs.Phases.{reads_sets, returned_so}
 use Rattle.history_laws.proofs.Stepping.{both, not_true}
@@ -57,11 +58,11 @@ module _ (login : Login) (c : Call) (ms : List Made) where
   returns hushed p t calm off over w = record { hushed = hushed; unheard = None; heard = told_heard hushed c ms p None t calm w; clear = λ x. refl; over = λ x. over; off = λ x. off; spent = λ x y. absurd (cc) }
 
   -- a fault closes the session
-  faulted : (hushed : Bool) (o : Option ServerError) (p : Place) → HeardAt hushed ms p o → (hushed ≡ false → is_some o ≡ true → is_over p.talk ≡ true) → (e : IoError) → IsFine c ms (failure p (Io e))
-  faulted hushed o p w spent e = record {
+  faulted : (hushed : Bool) (o : Option ServerError) (p : Place) → HeardAt hushed ms p o → (hushed ≡ false → is_some o ≡ true → is_over p.talk ≡ true) → (e : Error) → IsFault e → IsFine c ms (failure p e)
+  faulted hushed o p w spent e is = let shut : closes (ToldError e) (kind_of c) ≡ true = fault_closes (kind_of c) e is in record {
     hushed = hushed;
     unheard = o;
-    heard = told_heard hushed c ms p o (ToldError (Io e)) (λ es. refl) w;
+    heard = told_heard hushed c ms p o (ToldError e) (λ es. fault_tells_none e es is) w;
     clear = λ x. absurd (cc);
     over = λ x. absurd (cc);
     off = λ x. absurd (cc);
@@ -145,7 +146,7 @@ module _ (login : Login) (c : Call) (ms : List Made) where
         where
           by_long : (o : Option ℕ) → IsFine c ms (unless_long p (limit_of t) o (Goes parts (with_exchange p call t)))
           by_long None = goes false parts (with_exchange p call t) e off (λ x. absurd (cc)) (begun_heard hushed ms p None call t (fresh t refl) w) unrefused
-          by_long (Some n) = faulted hushed None p w (λ x y. absurd (cc)) _
+          by_long (Some n) = faulted hushed None p w (λ x y. absurd (cc)) (codec_error (TooLarge n (limit_of t))) refl
 
       one : (call : Call) (parts : List Part) (t : Talk) → IsNew t → is_tried c trying parts ≡ true → IsFine c ms (with_command call parts p (Some t))
       one call parts t n e = command call parts (Some t) (λ u i. some_new t u n i) e
@@ -157,7 +158,7 @@ module _ (login : Login) (c : Call) (ms : List Made) where
         where
           by_long : (o : Option ℕ) → IsFine c ms (unless_long (with_statements st p) (limit_of t) o (Goes parts (with_exchange (with_statements st p) call t)))
           by_long None = goes false parts (with_exchange (with_statements st p) call t) e off (λ x. absurd (cc)) (begun_heard hushed ms p None call t (fresh t refl) w) unrefused
-          by_long (Some n) = faulted hushed None (with_statements st p) w (λ x y. absurd (cc)) _
+          by_long (Some n) = faulted hushed None (with_statements st p) w (λ x y. absurd (cc)) (codec_error (TooLarge n (limit_of t))) refl
 
       -- a refusal of the driver's own, where the call may return
       driver : (e : DriverError) → trying ≡ false → IsFine c ms (failure p (Driver e))
@@ -261,7 +262,7 @@ module _ (login : Login) (c : Call) (ms : List Made) where
   undo_long : (first : ServerError) (p : Place) (t : Talk) → c ≡ Commit → p.trial ≡ Refused first → is_over p.talk ≡ true → HeardAt false ms p (Some first) → HeardAt true ms (with_exchange p c t) (Some first) → (o : Option ℕ)
       → IsFine c ms (unless_long p (limit_of t) o (Goes (Back ∷ []) (with_exchange p c t)))
   undo_long first p t is i over w v None = (ms, NoErrors, Backing first true (with_exchange p c t) is i (λ x. absurd (cc)) v)
-  undo_long first p t is i over w v (Some n) = faulted false (Some first) p w (λ x y. over) _
+  undo_long first p t is i over w v (Some n) = faulted false (Some first) p w (λ x y. over) (codec_error (TooLarge n (limit_of t))) refl
 
   undoing_part : (first : ServerError) (p : Place) (b : Bool) → c ≡ Commit → p.trial ≡ Refused first → is_over p.talk ≡ true → EndedBy first (exchanges p) → HeardAt false ms p (Some first) → IsFine c ms (undone login c (Back ∷ []) p b)
   undoing_part first p true is i over after w =

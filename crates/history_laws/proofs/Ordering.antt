@@ -73,7 +73,7 @@ module _ (login : Login) (p : Place) (w : IsOrderly p) where
 
   whole : (part : Part) (parts : List Part) → is_drain part ≡ false → is_orderly false (part ∷ parts) ≡ true → ((k : Kind) (q rest : List ℕ) → Comes p k q → IsFine (after_kind part parts k (with_talk p (grow k p.talk q) rest) (row_at login p q)))
       → IsFine (reads login part parts p)
-  whole part parts tells e other = reads_have IsFine p (λ _. w) login part parts tells w (λ k quiet q rest c. stays part parts e k q rest c) other errs
+  whole part parts tells e other = reads_have IsFine p (λ _ _. w) login part parts tells w (λ k quiet q rest c. stays part parts e k q rest c) other errs
 
   head_kind : (parts : List Part) → is_orderly false parts ≡ true → (k : Kind) (q rest : List ℕ) → Comes p k q → IsFine (after_kind Head parts k (with_talk p (grow k p.talk q) rest) (row_at login p q))
   head_kind parts e (kinds.Good s) q rest c = loose parts (with_end (with_talk p (grow (kinds.Good s) p.talk q) rest)) e (same (with_talk p (grow (kinds.Good s) p.talk q) rest) _ refl refl (grown p (kinds.Good s) q rest c w))
@@ -90,10 +90,10 @@ module _ (login : Login) (p : Place) (w : IsOrderly p) where
   set_kind parts e k q rest c = stays Set parts e k q rest c
 
   command : (call : Call) (parts : List Part) (o : Option Talk) → ((t : Talk) → o ≡ Some t → Fits t) → is_over p.talk ≡ true → is_orderly false parts ≡ true → IsFine (with_command call parts p o)
-  command call parts o f over e = command_has IsFine p (λ _. w) call parts o (loose parts p e w) (λ t i. loose parts (with_exchange p call t) e (begun p call t (f t i) over w))
+  command call parts o f over e = command_has IsFine p (λ _ _. w) call parts o (loose parts p e w) (λ t i. loose parts (with_exchange p call t) e (begun p call t (f t i) over w))
 
   asked : (call : Call) (parts : List Part) (t : Talk) → Fits t → is_over p.talk ≡ true → is_orderly false parts ≡ true → IsFine (with_command call parts p (Some t))
-  asked call parts t f over e = begun_has IsFine p (λ _. w) call parts t (loose parts (with_exchange p call t) e (begun p call t f over w))
+  asked call parts t f over e = begun_has IsFine p (λ _ _. w) call parts t (loose parts (with_exchange p call t) e (begun p call t f over w))
 
   undoes : (call : Call) (parts : List Part) (b : Bool) → is_over p.talk ≡ true → is_orderly false parts ≡ true → IsFine (undone login call parts p b)
   undoes call parts true over e = asked call parts (queried (terms_of login (exchanges p)) rollback_text) (record { kinds = tt; within = tt }) over e
@@ -138,7 +138,7 @@ module _ (login : Login) (p : Place) (w : IsOrderly p) where
         (λ _. either IsFine (is_over p.talk) _ _ (λ x. (true, e, λ _. x, w)) (λ _. whole All parts refl e (stays All parts e)))
     part_fine c (Reply ∷ parts) e = either IsFine (is_over p.talk) _ _ (λ x. (true, e, λ _. x, w)) (λ _. whole Reply parts refl e (stays Reply parts e))
     part_fine c (Drain ∷ parts) e = either IsFine p.end_left _ _ (λ _. loose (Drain ∷ parts) (without_end p) e (same p _ refl refl w))
-        (λ _. either IsFine (is_over p.talk) _ _ (λ x. (true, e, λ _. x, w)) (λ _. drains_have IsFine p (λ _. w) login parts w (stays Drain parts e)))
+        (λ _. either IsFine (is_over p.talk) _ _ (λ x. (true, e, λ _. x, w)) (λ _. drains_have IsFine p (λ _ _. w) login parts w (stays Drain parts e)))
     part_fine c (Back ∷ parts) e = either IsFine (is_over p.talk) _ _ (λ _. returns p.trial) (λ _. whole Back parts refl e (stays Back parts e))
     part_fine c (Head ∷ parts) e = either IsFine (is_rows (context_of p.talk).spot) _ _ (λ _. loose parts p e w) (λ _. whole Head parts refl e (head_kind parts e))
     part_fine c (Item ∷ parts) e = either IsFine p.end_left _ _ (λ _. same p _ refl refl w) (λ _. either IsFine (is_over p.talk) _ _ (λ _. w) (λ _. whole Item parts refl e (item_kind parts e)))
@@ -174,7 +174,7 @@ module _ (login : Login) (p : Place) (w : IsOrderly p) where
       where
         closing_at : (st : Statements) (q : Place) → IsOrderly q → (terms : Terms) (x : Option ℕ) → is_over q.talk ≡ true → is_orderly false parts ≡ true → IsFine (with_command (Prepare (text_in c)) parts q (closing_of terms x))
         closing_at st q v terms None over e = loose parts q e v
-        closing_at st q v terms (Some id) over e = begun_has IsFine q (λ _. v) (Prepare (text_in c)) parts (closing terms id) (loose parts (with_exchange q (Prepare (text_in c)) (closing terms id)) e (begun q (Prepare (text_in c)) (closing terms id) (record { kinds = tt; within = tt }) over v))
+        closing_at st q v terms (Some id) over e = begun_has IsFine q (λ _ _. v) (Prepare (text_in c)) parts (closing terms id) (loose parts (with_exchange q (Prepare (text_in c)) (closing terms id)) e (begun q (Prepare (text_in c)) (closing terms id) (record { kinds = tt; within = tt }) over v))
 
 step_fine : (login : Login) (c : Call) (parts : List Part) (p : Place) → Ordered parts p → IsFine (step login c parts p)
 unfolding step

@@ -190,7 +190,7 @@ module _ (login : Login) (c : Call) (ms : List Made) (other : is_connect (kind_o
 
     whole : (part : Part) (parts : List Part) → is_drain part ≡ false → Leads login c own p.status (part ∷ parts)
         → ((k : Kind) (q rest : List ℕ) → Comes p k q → Fine (after_kind part parts k (with_talk p (grow k p.talk q) rest) (row_at login p q))) → Fine (reads login part parts p)
-    whole part parts tells l other_kind = reads_have (IsFine login c ms) p (λ e. (own, w, or_true own, paid)) login part parts tells waits (λ k quiet q rest come. after (part ∷ parts) k q rest come l) other_kind errs
+    whole part parts tells l other_kind = reads_have (IsFine login c ms) p (λ e _. (own, w, or_true own, paid)) login part parts tells waits (λ k quiet q rest come. after (part ∷ parts) k q rest come l) other_kind errs
 
     head_kind : (parts : List Part) → Leads login c own p.status parts → (k : Kind) (q rest : List ℕ) → Comes p k q → Fine (after_kind Head parts k (with_talk p (grow k p.talk q) rest) (row_at login p q))
     head_kind parts l (kinds.Good s) q rest come = after parts (kinds.Good s) q rest come l
@@ -212,7 +212,7 @@ module _ (login : Login) (c : Call) (ms : List Made) (other : is_connect (kind_o
 
     -- an exchange begins
     begins : (parts : List Part) (t : Talk) → asks (kind_of c) ≡ true → Opens login (terms_of login (exchanges p)) c (connects_in (exchanges p)) t → IsNew t → IsShook t → Leads login c true p.status parts → Fine (with_command c parts p (Some t))
-    begins parts t sends opens new shook l = begun_has (IsFine login c ms) p (λ e. (own, w, or_true own, paid)) c parts t
+    begins parts t sends opens new shook l = begun_has (IsFine login c ms) p (λ e _. (own, w, or_true own, paid)) c parts t
         (true, held_more own p t sends opens new shook w, l, (calm.0, λ e _. absurd (cc)))
 
     opens_one : (parts : List Part) (o : Option Talk) → asks (kind_of c) ≡ true → is_some o ≡ true → ((t : Talk) → o ≡ Some t → Opens login (terms_of login (exchanges p)) c (connects_in (exchanges p)) t) → ((t : Talk) → o ≡ Some t → IsNew t)
@@ -282,14 +282,14 @@ module _ (login : Login) (c : Call) (ms : List Made) (other : is_connect (kind_o
     keeps parts st terms (Some id) is same l =
         let kind : kind_of c ≡ callkinds.Prepare = ap kind_of (sym same) in
         let sends : asks (kind_of c) ≡ true = ap asks kind in
-        begun_has (IsFine login c ms) (with_statements st p) (λ e. (own, w, or_true own, paid)) c parts (closing terms id)
+        begun_has (IsFine login c ms) (with_statements st p) (λ e _. (own, w, or_true own, paid)) c parts (closing terms id)
         (own, looser own (with_exchange (with_statements st p) c (closing terms id)) (held_more own p (closing terms id) sends (Closing id kind (ap (λ ts. closing ts id) (sym is))) (closing_new terms (Some id) (closing terms id) refl) refl w), l, (calm.0, λ e _. absurd (cc)))
 
     part_fine : (parts : List Part) → Leads login c own p.status parts → Fine (step_of login c parts p)
     part_fine [] l = (own, w, l, paid)
     part_fine (All ∷ parts) l = either Fine p.end_left _ _ (λ _. (own, w, l, calm)) (λ _. either Fine (is_over p.talk) _ _ (λ _. on parts l) (λ _. whole All parts refl l (λ k q rest come. after (All ∷ parts) k q rest come l)))
     part_fine (Reply ∷ parts) l = either Fine (is_over p.talk) _ _ (λ _. on parts l) (λ _. whole Reply parts refl l (λ k q rest come. after (Reply ∷ parts) k q rest come l))
-    part_fine (Drain ∷ parts) l = either Fine p.end_left _ _ (λ _. (own, w, l, calm)) (λ _. either Fine (is_over p.talk) _ _ (λ _. on parts l) (λ _. drains_have Fine p (λ e. (own, w, or_true own, paid)) login parts waits (λ k q rest come. after (Drain ∷ parts) k q rest come l)))
+    part_fine (Drain ∷ parts) l = either Fine p.end_left _ _ (λ _. (own, w, l, calm)) (λ _. either Fine (is_over p.talk) _ _ (λ _. on parts l) (λ _. drains_have Fine p (λ e _. (own, w, or_true own, paid)) login parts waits (λ k q rest come. after (Drain ∷ parts) k q rest come l)))
     part_fine (Back ∷ parts) l = either Fine (is_over p.talk) _ _ (λ _. returns p.trial l) (λ _. whole Back parts refl l (λ k q rest come. after (Back ∷ parts) k q rest come l))
     part_fine (Head ∷ parts) l = either Fine (is_rows (context_of p.talk).spot) _ _ (λ _. on parts l) (λ _. whole Head parts refl l (head_kind parts l))
     part_fine (Item ∷ parts) l = either Fine p.end_left _ _ (λ _. (own, w, or_true own, paid)) (λ _. either Fine (is_over p.talk) _ _ (λ _. (own, w, or_true own, paid)) (λ _. whole Item parts refl l (item_kind parts l)))

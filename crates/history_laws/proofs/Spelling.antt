@@ -13,7 +13,7 @@ use Rattle.my_grammar.specs.declared.spot.Kind.{Kind}
 use Rattle.my_grammar.specs.Contexts.{is_bad}
 use Rattle.my_grammar.specs.Cut.{front_of, kind_of}
 use Rattle.my_grammar.specs.Growth.{grow}
-use Rattle.my_grammar.specs.Talk.{Talk, Fits, limit_of, login_in, number_of, server_bytes, turns}
+use Rattle.my_grammar.specs.Talk.{Talk, Fits, limit_of, login_in, number_of, server_bytes, turns, secret_in}
 use Rattle.my_reading.specs.Place.{Place, first_place, with_bytes, with_exchange, with_talk}
 use Rattle.my_reading.specs.Reading.{reading}
 use Rattle.my_reading.specs.Tape.{spans}
@@ -60,7 +60,7 @@ taken_spelled b p k payload rest next are front kind good w =
     let here = server_bytes (turns p.talk) in
     let whole = whole_stands n (limit_of p.talk) p.unread payload rest next (bytes_after (before ++ here) p.unread b (sym w.spelled) are) front in
     let gr = grows p.talk k payload kind good whole.within w.fits in
-    let more : server_bytes (turns (grow k p.talk payload)) ≡ here ++ chunks payload n = ap server_bytes (gr.turns_are any_login) ∙ (reads (login_in any_login p.talk) k payload (turns p.talk)).server in
+    let more : server_bytes (turns (grow k p.talk payload)) ≡ here ++ chunks payload n = ap server_bytes (gr.turns_are any_login) ∙ (reads (login_in any_login p.talk) (secret_in p.talk) k payload (turns p.talk)).server in
     record {
       fits = gr.fits;
       spelled = ap (λ x. (before ++ x) ++ rest) more

@@ -18,7 +18,6 @@ use Rattle.my_reading.specs.declared.call.Call.TheVariants.{Query, Prepare, Exec
 use Rattle.my_reading.specs.declared.error.DriverError.{DriverError}
 use Rattle.my_reading.specs.declared.error.Error.{Error}
 use Rattle.my_reading.specs.declared.error.Error.TheVariants.{Driver, Io, Server}
-use Rattle.my_reading.specs.declared.error.IoError.{IoError}
 use Rattle.my_reading.specs.declared.error.ServerError.{ServerError}
 use Rattle.my_reading.specs.declared.transaction.Trial.{Trial}
 use Rattle.my_reading.specs.declared.transaction.Trial.TheVariants.{Off, On, Refused}
@@ -44,7 +43,7 @@ use Rattle.history_laws.specs.Groups.{Group, Made, given, given_after}
 use Rattle.history_laws.proofs.Calls.{ready_same}
 use Rattle.history_laws.proofs.Opening.{executed_fits, opened_fits, renewing_new}
 use Rattle.history_laws.proofs.Growing.{failed_over, given_on}
-use Rattle.history_laws.proofs.Having.{Comes, begun_has, command_has, drains_have, either, reads_have, row_at}
+use Rattle.history_laws.proofs.Having.{Comes, begun_has, command_has, drains_have, either, reads_have, row_at, IsFault, fault_closes}
 use Rattle.history_laws.proofs.Phases.{Gave, GaveAt, IsFine, IsHalted, KeptAt, Stopped, Safely, Heading, Replying, Backing, is_back, is_fitting, is_head, is_query, is_reply, is_safe, may_return, reads_sets, returned_so, settled, shifted}
 
 pub both : (a b : Bool) → (a && b) ≡ true → (a ≡ true) × (b ≡ true)
@@ -71,12 +70,14 @@ module _ (c : Call) (ms : List Made) where
   pub told_gave : (trying : Bool) (t : Told) (p : Place) (o : Option (List Group)) → given_after t (kind_of c) (given ms) ≡ given ms → GaveAt trying ms p o → GaveAt trying (returned_so c t ms) p o
   told_gave trying t p o e w = record { olds = w.olds; given_is = e ∙ w.given_is; newest = w.newest; each = w.each; fits = w.fits; off = w.off }
 
-  pub faults_fine : (trying : Bool) (p : Place) (o : Option (List Group)) → GaveAt trying ms p o → (e : IoError) → IsFine c ms (failure p (Io e))
-  faults_fine trying p o w e = record {
-    share = o;
-    gave = shifted trying true (returned_so c (ToldError (Io e)) ms) p.talk p.older p.trial o (λ x. absurd (cc)) (told_gave trying (ToldError (Io e)) p o refl w);
-    kept = λ x. absurd (cc);
-  }
+  pub faults_fine : (trying : Bool) (p : Place) (o : Option (List Group)) → GaveAt trying ms p o → (e : Error) → IsFault e → IsFine c ms (failure p e)
+  faults_fine trying p o w e is =
+      let shut : closes (ToldError e) (kind_of c) ≡ true = fault_closes (kind_of c) e is in
+      record {
+        share = o;
+        gave = shifted trying (closes (ToldError e) (kind_of c)) (returned_so c (ToldError e) ms) p.talk p.older p.trial o (λ x. absurd (cc)) (told_gave trying (ToldError e) p o refl w);
+        kept = λ x. absurd (cc);
+      }
 
   -- an error that leaves a session open, if it does, as it was
   pub error_fine : (p : Place) (o : Option (List Group)) → GaveAt false ms p o → KeptAt p o → (e : Error) → IsFine c ms (failure p e)
