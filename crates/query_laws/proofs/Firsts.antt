@@ -111,6 +111,7 @@ is_good k = false
 -- more of a head is read
 pub head_grows : (d : Bool) (k : Kind) (x : Sets) (q : List ℕ) → is_failed k ≡ false → is_good k ≡ false → is_rows (spot_in x) ≡ false → FitSets d (grow_sets d k x q) → IsHeading x → IsHeading (grow_sets d k x q)
 head_grows d (kinds.Greets n) x q calm other e f w = w
+head_grows d (kinds.Asks n) x q calm other e f w = w
 head_grows d (kinds.Good s) x q calm other e f w = absurd (cc)
 head_grows d kinds.Failed x q calm other e f w = absurd (cc)
 head_grows d (kinds.Count n) x q calm other e f w = none_at_head x w f.0.place
@@ -217,6 +218,7 @@ close_first rows (Broken older head ps last) q w = absurd w
 
 pub first_grows : (rows : List RowParts) (d : Bool) (k : Kind) (x : Sets) (q : List ℕ) → is_failed k ≡ false → is_item k ≡ false → FitSets d (grow_sets d k x q) → IsFirst rows x → IsFirst rows (grow_sets d k x q)
 first_grows rows d (kinds.Greets n) x q calm other f w = w
+first_grows rows d (kinds.Asks n) x q calm other f w = w
 first_grows rows d (kinds.Good s) x q calm other f w = absurd (head_in_rows rows x w f.0)
 first_grows rows d kinds.Failed x q calm other f w = absurd (cc)
 first_grows rows d (kinds.Count n) x q calm other f w = absurd (head_in_rows rows x w f.0.place)
@@ -321,6 +323,7 @@ module _ (holds : Set → Type 0) (grows : Grows holds) where
 
   pub grow_keeps : (d : Bool) (k : Kind) (x : Sets) (q : List ℕ) → Oldest holds (sets_in x) → Oldest holds (sets_in (grow_sets d k x q))
   grow_keeps d (kinds.Greets n) x q w = w
+  grow_keeps d (kinds.Asks n) x q w = w
   grow_keeps d (kinds.Good t) x q w = more_set _ _ w
   grow_keeps d kinds.Failed x q w = with_error_keeps x q w
   grow_keeps d (kinds.Count n) x q w = more_set _ _ w

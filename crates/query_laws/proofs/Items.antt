@@ -125,6 +125,7 @@ module _ (login : Login) (c : Call) (B : Talk → Type 0) (rows : List RowParts)
       after : (k : Kind) → is_failed k ≡ false → (q rest : List ℕ) → Comes p k q → Fine (after_kind Item [] k (with_talk p (grow k p.talk q) rest) (row_at login p q))
       after (kinds.Good s) calm q rest come = absurd (good_fine s q rest come)
       after (kinds.Greets n) calm q rest come = again (kinds.Greets n) calm refl q rest come
+      after (kinds.Asks n) calm q rest come = again (kinds.Asks n) calm refl q rest come
       after kinds.Failed calm q rest come = absurd (cc)
       after (kinds.Count n) calm q rest come = again (kinds.Count n) calm refl q rest come
       after kinds.Column calm q rest come = again kinds.Column calm refl q rest come

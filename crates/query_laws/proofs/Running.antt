@@ -11,15 +11,14 @@ use Rattle.my_grammar.specs.declared.spot.Kind.{Kind}
 use Rattle.my_grammar.specs.declared.spot.Kind.TheVariants as kinds
 use Rattle.my_grammar.specs.Cut.{front_of, is_over, kind_of}
 use Rattle.my_grammar.specs.Growth.{grow}
-use Rattle.my_grammar.specs.Response.{response}
-use Rattle.my_grammar.specs.Talk.{Talk, context_of, limit_of, number_of, turns}
+use Rattle.my_grammar.specs.Talk.{Talk, context_of, limit_of, number_of, turns, says, secret_in}
 use Rattle.my_reading.specs.declared.call.Call.{Call}
 use Rattle.my_reading.specs.declared.error.Error.{Error}
 use Rattle.my_reading.specs.declared.error.ServerError.{ServerError}
 use Rattle.my_reading.specs.declared.transaction.Trial.{Trial}
 use Rattle.my_reading.specs.declared.transaction.Trial.TheVariants as trials
 use Rattle.my_reading.specs.Commands.{queried}
-use Rattle.my_reading.specs.Course.{Part, Undo, Back, Step, Goes, Stops, Stop, Owes, Awaits, Returns, Halt, after_err, after_kind, after_payload, course, dropped_at, enough, failed_at, is_greeting, reads, unless_cached, with_front, halt, is_drain, parts_of, refused_at, returned, run, step, step_of, undone, unless_owed}
+use Rattle.my_reading.specs.Course.{Part, Undo, Back, Step, Goes, Stops, Stop, Owes, Awaits, Returns, Halt, after_err, after_kind, after_payload, course, dropped_at, enough, failed_at, is_greeting, reads, unless_cached, with_front, halt, is_drain, parts_of, refused_at, returned, run, step, step_of, undone, unless_owed, above, unless_long}
 use Rattle.my_reading.specs.Place.{Place, exchanges, owed, terms_of, with_exchange, with_talk}
 use Rattle.my_reading.specs.Statements.{is_cached}
 use Rattle.my_reading.specs.Told.{Told, ToldError}
@@ -72,11 +71,16 @@ module _ (login : Login) (c : Call) (Own : List Part → Place → Type 0) (Q : 
     head_fine q rest params columns come None = again (kinds.Prepared params columns) refl refl q rest come
     head_fine q rest params columns come (Some ok) = either (IsFine Own Q) (is_cached p.statements ok.id) _ _ (λ _. fails _ _) (λ _. again (kinds.Prepared params columns) refl refl q rest come)
 
+    said_fine : (k : Kind) → is_quiet k ≡ true → is_failed k ≡ false → (q rest : List ℕ) → Comes p k q → (o : Option ℕ)
+        → IsFine Own Q (unless_long p (limit_of p.talk) o (Goes (part ∷ parts) (with_talk p (grow k p.talk q) rest)))
+    said_fine k quiet calm q rest come None = again k quiet calm q rest come
+    said_fine k quiet calm q rest come (Some len) = fails _ _
+
     payload_fine : (q rest : List ℕ) (k : Kind) → kind_of p.talk q ≡ k → length q ≤ limit_of p.talk → IsFine Own Q (after_payload login part parts p (with_talk p (grow k p.talk q) rest) q k)
     payload_fine q rest kinds.Bad e l = fails _ _
     payload_fine q rest kinds.Failed e l = failed_fine part parts p _ (err_at (is_greeting (context_of p.talk).spot) q) other
-    payload_fine q rest (kinds.Greets n) e l = either (IsFine Own Q) (nat_lt (limit_of p.talk) (length (response login q))) _ _ (λ _. fails _ _)
-        (λ _. again (kinds.Greets n) refl refl q rest (record { kind_is = e; good = refl; short = l }))
+    payload_fine q rest (kinds.Greets n) e l = said_fine (kinds.Greets n) refl refl q rest (record { kind_is = e; good = refl; short = l }) (above (limit_of p.talk) (says login (secret_in p.talk) (kinds.Greets n) q))
+    payload_fine q rest (kinds.Asks n) e l = said_fine (kinds.Asks n) refl refl q rest (record { kind_is = e; good = refl; short = l }) (above (limit_of p.talk) (says login (secret_in p.talk) (kinds.Asks n) q))
     payload_fine q rest (kinds.Prepared params columns) e l = head_fine q rest params columns (record { kind_is = e; good = refl; short = l }) (prepare_ok_at q)
     payload_fine q rest k e l = after k refl q rest (record { kind_is = e; good = refl; short = l })
 
