@@ -86,7 +86,7 @@ said_moved login p q f w (Takes r k payload rest next paid front kind good alike
     let g : Grows p.talk k payload = grows p.talk k payload kind good short f in
     let response : List ℕ = response_to (login_in login p.talk) (secret_in p.talk) k payload (number_of (turns p.talk)) in
     let more : client_bytes (turns (grow k p.talk payload)) ≡ client_bytes (turns p.talk) ++ response =
-    ap client_bytes (g.turns_are login) ∙ (reads (login_in login p.talk) k payload (turns p.talk)).client in
+    ap client_bytes (g.turns_are login) ∙ (reads (login_in login p.talk) (secret_in p.talk) k payload (turns p.talk)).client in
     said_alike (with_talk p (grow k p.talk payload) rest) q alike
     (ap (λ bs. begins_with (client_side p.older ++ bs) p.sent) more
     ∙ ap (λ bs. begins_with bs p.sent) (sym (append_assoc (client_side p.older) (client_bytes (turns p.talk)) response))
