@@ -1,11 +1,11 @@
 -- The answer that my_grammar's client gives to a nonce, as the server tests it.
-use Rattle.std.proofs.Common.{◌≡◌, ℕ, ◌≤◌, ◌&&◌, List, [], ◌∷◌, ◌++◌, length, true, bit_xor, Some, refl, ap, ◌∙◌, arith}
+use Rattle.std.proofs.Common.{◌≡◌, ℕ, ◌≤◌, ◌&&◌, List, [], ◌∷◌, ◌++◌, length, true, false, bit_xor, Some, refl, ap, ◌∙◌, arith}
 use Rattle.std.specs.Str.{bytes_eq}
 use Rattle.std.specs.Int.Bits.{xor_assoc, xor_self, xor_zero_r}
 use Rattle.std.specs.Cmp.{unsigned_Decides}
 use Rattle.std.proofs.lemmas.Slice.Eq.{bytes_eq-Decides}
 use Rattle.sha1.specs.Sha1.{digest_bytes, sha1}
-use Rattle.my_grammar.specs.Scramble.{native_answer}
+use Rattle.my_grammar.specs.Scramble.{password_answer}
 use Rattle.my_auth.specs.Scrambles.{native_scramble, xor_bytes}
 use Rattle.my_server.specs.Machine.{knows_password}
 
@@ -33,7 +33,7 @@ known stored nonce scramble l e =
     ap (λ b. b && bytes_eq (sha1 (xor_bytes scramble (sha1 (nonce ++ stored)))) stored) ((unsigned_Decides (length scramble) 20).1 l)
     ∙ (bytes_eq-Decides (sha1 (xor_bytes scramble (sha1 (nonce ++ stored)))) stored).1 e
 
-pub right_answer_known : (b : ℕ) (bytes nonce : List ℕ) → knows_password (Some (sha1 (sha1 (b ∷ bytes)))) nonce (native_answer (Some (b ∷ bytes)) nonce) ≡ true
+pub right_answer_known : (b : ℕ) (bytes nonce : List ℕ) → knows_password (Some (sha1 (sha1 (b ∷ bytes)))) nonce (password_answer false (Some (b ∷ bytes)) nonce) ≡ true
 unfolding native_scramble
 right_answer_known b bytes nonce =
     let hash = sha1 (b ∷ bytes) in

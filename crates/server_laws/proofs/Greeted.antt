@@ -9,12 +9,11 @@ use Rattle.my_grammar.specs.declared.login.Login.{Login}
 use Rattle.my_grammar.specs.Cut.{Cut, Read, cut, cut_after, read_from, read_within, rest_in_front}
 use Rattle.my_grammar.specs.Talk.{Talk, Start, Greeted, Fits, turns, server_bytes}
 use Rattle.my_grammar.proofs.Sound.{exchange_is_cut}
-use Rattle.my_server.specs.declared.greet.TheConstants.{OFFERED}
 use Rattle.my_server.specs.declared.phase.Phase.{Phase}
 use Rattle.my_server.specs.declared.phase.Phase.TheVariants.{Login as AtLogin, Commands, Closed}
 use Rattle.my_server.specs.declared.phase.CloseCause.TheVariants.{Quit, Denied, BadPacket, Codec}
 use Rattle.my_server.specs.declared.script.ServerScript.{ServerScript}
-use Rattle.server_laws.specs.Conversation.{IsGreeted, IsTyped}
+use Rattle.server_laws.specs.Conversation.{IsGreeted, IsTyped, offered}
 use Rattle.my_server.specs.Faults.{is_served}
 use Rattle.my_server.specs.History.{History, IsJudged, IsNew, Stands, StandsAt, answer_bytes, kept_after, verdict_bytes}
 use Rattle.my_server.specs.Machine.{Served, greeting_payload}
@@ -42,16 +41,16 @@ unfolding read_from read_within
 reads_none t = refl
 
 -- the greeting is an exchange's beginning
-greeting_fits : (laws : PacketLaws) (script : ServerScript) (login : Login) → is_served script ≡ true → IsTyped script → Fits (Greeted login (greeting_payload script) OFFERED)
+greeting_fits : (laws : PacketLaws) (script : ServerScript) (login : Login) → is_served script ≡ true → IsTyped script → Fits (Greeted login (greeting_payload script) offered [])
 greeting_fits laws script login served typed =
     let small = greeting_is_short script served in
-    record { kinds = greets laws script served typed; within = (omega arith, tt) }
+    record { kinds = (greets laws script served typed, tt); within = (omega arith, tt) }
 
 pub greeted : (laws : PacketLaws) (login : Login) (talks : List Talk) (s : Served) (h : History) → Stands s h → IsTyped h.script → h.login ≡ None → IsGreeted login talks s h
 greeted laws login talks s h st typed e =
     let script = h.script in
     let p = greeting_payload script in
-    let t = Greeted login p OFFERED in
+    let t = Greeted login p offered [] in
     let new = still_new s.phase h s.unread e st.place in
     let f = answer_bytes script (kept_after h.login) in
     let said : h.sent ++ s.owed ≡ server_bytes (turns t) ++ [] =

@@ -1,5 +1,5 @@
 -- An exchange with several payloads more.
-use Rattle.std.proofs.Common.{◌≡◌, ℕ, ◌≤◌, List, [], ◌∷◌, ◌++◌, length, true, false, refl, sym, ap, ◌∙◌, append_assoc}
+use Rattle.std.proofs.Common.{◌≡◌, ℕ, ◌≤◌, List, [], ◌∷◌, ◌++◌, length, true, false, Option, refl, sym, ap, ◌∙◌, append_assoc}
 use Rattle.std.proofs.lemmas.List.{append-nil}
 use Rattle.my_frame.specs.Chunks.{chunks, number_after_payload}
 use Rattle.my_grammar.specs.declared.login.Login.{Login}
@@ -7,8 +7,8 @@ use Rattle.my_grammar.specs.declared.spot.Kind.{Kind}
 use Rattle.my_grammar.specs.declared.spot.Kind.TheVariants as kinds
 use Rattle.my_grammar.specs.Contexts.{is_bad}
 use Rattle.my_grammar.specs.Kinds.{kind_there}
-use Rattle.my_grammar.specs.Talk.{Talk, Fits, turns, number_of, server_bytes, context_of, described, limit_of, login_in, origin}
-use Rattle.my_grammar.specs.Growth.{grow, not_greets, number_next}
+use Rattle.my_grammar.specs.Talk.{Talk, Fits, turns, number_of, server_bytes, context_of, described, limit_of, login_in, origin, secret_in}
+use Rattle.my_grammar.specs.Growth.{grow, is_calm, number_next}
 use Rattle.my_grammar.proofs.Growth.{any_login, grows, reads}
 use Rattle.my_server.specs.Machine.{all_chunks}
 
@@ -36,29 +36,30 @@ pub record Heard (t : Talk) (ps : List (List ℕ)) (u : Talk) : Type 0 where
 pub heard_none : (t : Talk) → Fits t → Heard t [] t
 heard_none t fits = record { fits = fits; bytes = sym (append-nil _); number = refl; origin_is = refl }
 
-quiet_number : (login : Login) (k : Kind) (p : List ℕ) (n : ℕ) → not_greets k ≡ true → number_next login k p n ≡ number_after_payload p n
-quiet_number login (kinds.Greets capabilities) p n i = absurd cc
-quiet_number login (kinds.Good status) p n i = refl
-quiet_number login kinds.Failed p n i = refl
-quiet_number login (kinds.Count columns) p n i = refl
-quiet_number login kinds.Column p n i = refl
-quiet_number login kinds.ColumnsDone p n i = refl
-quiet_number login kinds.Row p n i = refl
-quiet_number login (kinds.End status) p n i = refl
-quiet_number login (kinds.Prepared params columns) p n i = refl
-quiet_number login kinds.Parameter p n i = refl
-quiet_number login kinds.Field p n i = refl
-quiet_number login kinds.Bad p n i = refl
+quiet_number : (login : Login) (secret : Option (List ℕ)) (k : Kind) (p : List ℕ) (n : ℕ) → is_calm k ≡ true → number_next login secret k p n ≡ number_after_payload p n
+quiet_number login secret (kinds.Greets offer) p n i = absurd cc
+quiet_number login secret (kinds.Asks ask) p n i = absurd cc
+quiet_number login secret (kinds.Good status) p n i = refl
+quiet_number login secret kinds.Failed p n i = refl
+quiet_number login secret (kinds.Count columns) p n i = refl
+quiet_number login secret kinds.Column p n i = refl
+quiet_number login secret kinds.ColumnsDone p n i = refl
+quiet_number login secret kinds.Row p n i = refl
+quiet_number login secret (kinds.End status) p n i = refl
+quiet_number login secret (kinds.Prepared params columns) p n i = refl
+quiet_number login secret kinds.Parameter p n i = refl
+quiet_number login secret kinds.Field p n i = refl
+quiet_number login secret kinds.Bad p n i = refl
 
-pub heard_one : (t : Talk) (k : Kind) (p : List ℕ) → kind_there (context_of t) (described t) p ≡ k → is_bad k ≡ false → not_greets k ≡ true → length p ≤ limit_of t → Fits t → Heard t (p ∷ []) (grow k t p)
+pub heard_one : (t : Talk) (k : Kind) (p : List ℕ) → kind_there (context_of t) (described t) p ≡ k → is_bad k ≡ false → is_calm k ≡ true → length p ≤ limit_of t → Fits t → Heard t (p ∷ []) (grow k t p)
 heard_one t k p is good quiet short fits =
     let w = grows t k p is good short fits in
-    let r = reads (login_in any_login t) k p (turns t) in
+    let r = reads (login_in any_login t) (secret_in t) k p (turns t) in
     let e = w.turns_are any_login in
     record {
       fits = w.fits;
       bytes = ap server_bytes e ∙ r.server ∙ ap (λ x. server_bytes (turns t) ++ x) (sym (append-nil (chunks p (number_of (turns t)))));
-      number = ap number_of e ∙ r.number ∙ quiet_number (login_in any_login t) k p (number_of (turns t)) quiet;
+      number = ap number_of e ∙ r.number ∙ quiet_number (login_in any_login t) (secret_in t) k p (number_of (turns t)) quiet;
       origin_is = w.origin_is;
     }
 

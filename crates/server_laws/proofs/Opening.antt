@@ -1,5 +1,5 @@
 -- The opening of a connection.
-use Rattle.std.proofs.Common.{◌≡◌, ◌≢◌, ℕ, ◌+◌, ◌≤◌, ◌==◌, ◌||◌, not, List, [], ◌∷◌, ◌++◌, length, Bool, true, false, cond, nat_le, lit<, lit≤, codes, bit_and, inl, Some, MatchBool, refl, sym, ap, subst, ◌∙◌, arith, length-append, append_assoc}
+use Rattle.std.proofs.Common.{◌≡◌, ◌≢◌, ℕ, ◌+◌, ◌≤◌, ◌==◌, ◌||◌, not, List, [], ◌∷◌, ◌++◌, length, Bool, true, false, cond, nat_le, lit<, lit≤, codes, bit_and, inl, Option, Some, None, MatchBool, refl, sym, ap, subst, ◌∙◌, arith, length-append, append_assoc}
 use Rattle.std.specs.List.{AllByRecursion, list_any}
 use Rattle.std.proofs.lemmas.Bool.Decides.{nat_tests}
 use Rattle.std.proofs.lemmas.List.Elements.{All-from_recursion}
@@ -17,6 +17,7 @@ use Rattle.my_frame.proofs.WritingLaws.{length-le_bytes, number_read_back}
 use Rattle.my_handshake.specs.declared.login.HandshakeResponse.{HandshakeResponse}
 use Rattle.my_handshake.specs.Greeting.{greeting_at}
 use Rattle.my_handshake.specs.Login.{response_bytes, names_bytes, kept_bytes}
+use Rattle.my_auth.specs.declared.chain.AuthStand.{AuthStand}
 use Rattle.my_reply.specs.ErrPacket.{err_at}
 use Rattle.my_reply.specs.Sent.{HasNoZero, IsSentGreeting}
 use Rattle.my_reply.specs.Server.{fitted}
@@ -25,14 +26,14 @@ use Rattle.my_grammar.specs.declared.spot.Kind.{Kind}
 use Rattle.my_grammar.specs.declared.spot.Kind.TheVariants as kinds
 use Rattle.my_grammar.specs.Contexts.{is_bad}
 use Rattle.my_grammar.specs.Cut.{is_over}
-use Rattle.my_grammar.specs.Kinds.{failed_kind, greeting_kind, greets_kind, or_else, single_kind}
+use Rattle.my_grammar.specs.Kinds.{auth_kind, failed_kind, greeting_kind, greets_kind, or_else, single_kind}
 use Rattle.my_grammar.specs.Response.{response, response_by, response_to}
-use Rattle.my_grammar.specs.Talk.{Talk, Start, Settled, Fits, turns, server_bytes, origin}
+use Rattle.my_grammar.specs.Talk.{Talk, Start, Greeted, Client, Server, Fits, answers, client_turns, greeted_stand, turns, server_bytes, origin}
 use Rattle.my_server.specs.declared.answer.TheConstants.{DONE}
 use Rattle.my_server.specs.declared.greet.TheConstants.{OFFERED}
 use Rattle.my_server.specs.declared.script.ServerScript.{ServerScript}
 use Rattle.my_server.specs.ClientLogin.{LoginParts, login_at}
-use Rattle.server_laws.specs.Conversation.{IsTyped, OpensBadly, OpensWell}
+use Rattle.server_laws.specs.Conversation.{IsTyped, OpensBadly, OpensWell, offered}
 use Rattle.my_server.specs.Faults.{is_served, is_version}
 use Rattle.my_server.specs.History.{verdict}
 use Rattle.my_server.specs.Machine.{admits, denial, fine_payload, greeting_of, greeting_payload, kept_of, refusal_payload}
@@ -77,7 +78,7 @@ sent_greeting script served typed = record {
 greeting_back : (laws : PacketLaws) (script : ServerScript) → is_served script ≡ true → IsTyped script → greeting_at (greeting_payload script) ≡ Some (greeting_of script)
 greeting_back laws script served typed = laws.greeting (greeting_of script) (sent_greeting script served typed)
 
-pub greets : (laws : PacketLaws) (script : ServerScript) → is_served script ≡ true → IsTyped script → greeting_kind (greeting_payload script) ≡ kinds.Greets OFFERED
+pub greets : (laws : PacketLaws) (script : ServerScript) → is_served script ≡ true → IsTyped script → greeting_kind (greeting_payload script) ≡ kinds.Greets offered
 greets laws script served typed =
     ap (λ g. or_else (greets_kind g) (failed_kind (err_at true (greeting_payload script)))) (greeting_back laws script served typed)
 
@@ -147,14 +148,24 @@ pub record IsOpening (script : ServerScript) (login : Login) (user : LoginParts)
   pub bytes : server_bytes (turns t) ≡ chunks (greeting_payload script) 0 ++ chunks (verdict script (Some user)) (number_after_payload (response login (greeting_payload script)) 1)
   pub opens : MatchBool (admits script user) (OpensWell script login t) (OpensBadly script login t)
 
-opened : (laws : PacketLaws) (script : ServerScript) (login : Login) (last : List ℕ) (k : Kind) → is_served script ≡ true → IsTyped script → single_kind last ≡ k → is_bad k ≡ false → length last ≤ 400
-    → let t = Settled login (greeting_payload script) OFFERED last k in Fits t × (server_bytes (turns t) ≡ chunks (greeting_payload script) 0 ++ chunks last (number_after_payload (response login (greeting_payload script)) 1))
-opened laws script login last k served typed is good short =
+opened : (laws : PacketLaws) (script : ServerScript) (login : Login) (last : List ℕ) (k : Kind) → is_served script ≡ true → IsTyped script → auth_kind (greeted_stand login offered) last ≡ k → is_bad k ≡ false
+    → answers login.password k last ≡ None → length last ≤ 400
+    → let t = Greeted login (greeting_payload script) offered (record { kind = k; payload = last } ∷ []) in Fits t × (server_bytes (turns t) ≡ chunks (greeting_payload script) 0 ++ chunks last (number_after_payload (response login (greeting_payload script)) 1))
+opened laws script login last k served typed is good silent short =
     let p = greeting_payload script in
     let small = greeting_is_short script served in (
-      record { kinds = (greets laws script served typed, is, good); within = (omega arith, (omega arith, tt)) },
-      ap (λ n. chunks p 0 ++ chunks last (number_after_payload (response login p) n)) (login_number script served),
+      record { kinds = (greets laws script served typed, (tt, is, good)); within = (omega arith, (omega arith, tt)) },
+      ap (λ (o : Option (List ℕ)). server_bytes (client_turns o ++ Server last ∷ Client (response login p) ∷ Server p ∷ [])) silent ∙ ap (λ n. chunks p 0 ++ chunks last (number_after_payload (response login p) n)) (login_number script served),
     )
+
+-- an OK and an ERR end a chain wherever it stands
+fine_ends : (stand : AuthStand) → auth_kind stand fine_payload ≡ single_kind fine_payload
+unfolding le_bytes
+fine_ends stand = refl
+
+denied_ends : (stand : AuthStand) → auth_kind stand (refusal_payload denial) ≡ single_kind (refusal_payload denial)
+unfolding le_bytes
+denied_ends stand = refl
 
 fine_is_short : length fine_payload ≤ 400
 unfolding le_bytes len_bytes
@@ -169,8 +180,8 @@ opening laws script login user served typed = by_verdict (admits script user) re
   where
     by_verdict : (b : Bool) → admits script user ≡ b → (t : Talk) × IsOpening script login user t
     by_verdict true e =
-        let w = opened laws script login fine_payload (kinds.Good DONE) served typed (single_fine laws) refl fine_is_short in
-        let t = Settled login (greeting_payload script) OFFERED fine_payload (kinds.Good DONE) in
+        let w = opened laws script login fine_payload (kinds.Good DONE) served typed (fine_ends (greeted_stand login offered) ∙ single_fine laws) refl refl fine_is_short in
+        let t = Greeted login (greeting_payload script) offered (record { kind = kinds.Good DONE; payload = fine_payload } ∷ []) in
         let n = number_after_payload (response login (greeting_payload script)) 1 in
         let says : OpensWell script login t = record { payload = fine_payload; talk = refl; packet = fine_back laws } in (
           t,
@@ -184,8 +195,8 @@ opening laws script login user served typed = by_verdict (admits script user) re
         )
     by_verdict false e =
         let last = refusal_payload denial in
-        let w = opened laws script login last kinds.Failed served typed (single_err laws denial typed_denied) refl denied_is_short in
-        let t = Settled login (greeting_payload script) OFFERED last kinds.Failed in
+        let w = opened laws script login last kinds.Failed served typed (denied_ends (greeted_stand login offered) ∙ single_err laws denial typed_denied) refl refl denied_is_short in
+        let t = Greeted login (greeting_payload script) offered (record { kind = kinds.Failed; payload = last } ∷ []) in
         let n = number_after_payload (response login (greeting_payload script)) 1 in
         let says : OpensBadly script login t = record { payload = last; talk = refl; packet = laws.err denial typed_denied } in (
           t,

@@ -12,10 +12,11 @@ use Rattle.my_value.specs.TextRow.{text_row_at}
 use Rattle.my_value.specs.WrittenRow.{sent_value}
 use Rattle.my_grammar.specs.declared.login.Login.{Login}
 use Rattle.my_grammar.specs.declared.spot.Kind.TheVariants as kinds
+use Rattle.my_grammar.specs.declared.spot.Offer.{Offer}
 use Rattle.my_grammar.specs.declared.spot.Terms.{Terms}
 use Rattle.my_grammar.specs.Response.{response}
 use Rattle.my_grammar.specs.Sets.{SetHead, Sets, ByText, NoSets, Lone, Failed, Ended}
-use Rattle.my_grammar.specs.Talk.{Talk, Start, Greeted, Settled, Asked, Replied, Queried, Silent}
+use Rattle.my_grammar.specs.Talk.{Talk, Start, Greeted, Asked, Replied, Queried, Silent}
 use Rattle.my_grammar.specs.Cut.{Trailing, Unfinished, cut}
 use Rattle.my_server.specs.declared.answer.TheConstants.{DONE}
 use Rattle.my_server.specs.declared.command.CommandKind.{CommandKind}
@@ -128,15 +129,19 @@ EndEach script terms [] [] = Unit {0}
 EndEach script terms (c ∷ cs) (t ∷ ts) = EndsBy script terms c (command_kind c) t × EndEach script terms cs ts
 EndEach script terms _ _ = ⊥
 
+-- what the server's greeting offers: its nonce is answered by the native plugin
+abbrev pub offered : Offer
+offered = record { capabilities = OFFERED; caching = false }
+
 -- The login was admitted: an OK ended the opening; or it was denied.
 pub record OpensWell (script : ServerScript) (login : Login) (t : Talk) : Type 0 where
   pub payload : List ℕ
-  pub talk : t ≡ Settled login (greeting_payload script) OFFERED payload (kinds.Good DONE)
+  pub talk : t ≡ Greeted login (greeting_payload script) offered (record { kind = kinds.Good DONE; payload = payload } ∷ [])
   pub packet : ok_at payload ≡ Some (ok_of DONE)
 
 pub record OpensBadly (script : ServerScript) (login : Login) (t : Talk) : Type 0 where
   pub payload : List ℕ
-  pub talk : t ≡ Settled login (greeting_payload script) OFFERED payload kinds.Failed
+  pub talk : t ≡ Greeted login (greeting_payload script) offered (record { kind = kinds.Failed; payload = payload } ∷ [])
   pub packet : err_at false payload ≡ Some denial
 
 -- What the client reads, once its login was read: the grammar cuts the bytes sent and owed into the opening and one exchange for
@@ -156,4 +161,4 @@ pub record IsHeard (login : Login) (limit : ℕ) (s : Served) (h : History) : Ty
 abbrev pub IsGreeted : Login → List Talk → Served → History → Type 0
 IsGreeted login talks s h =
     cut (Start login ∷ talks) (h.sent ++ s.owed)
-    ≡ record { talks = Greeted login (greeting_payload h.script) OFFERED ∷ []; rest = Unfinished [] }
+    ≡ record { talks = Greeted login (greeting_payload h.script) offered [] ∷ []; rest = Unfinished [] }

@@ -2,13 +2,13 @@
 //! Each function's clause is the law.
 #![tactic(auto)]
 
-ghost use Rattle.std.specs.Prelude.{◌≡◌, ℕ, List, ◌∷◌, None, Some, true};
+ghost use Rattle.std.specs.Prelude.{◌≡◌, ℕ, List, ◌∷◌, None, Some, false, true};
 ghost use Rattle.sha1.specs.Sha1.{sha1};
 ghost use Rattle.my_frame.specs.Reading.{FindsExactly};
 ghost use Rattle.my_handshake.specs.declared.login.HandshakeResponse.{HandshakeResponse as AnyResponse};
 ghost use Rattle.my_handshake.specs.Login.{response_bytes};
 ghost use Rattle.my_grammar.specs.declared.login.Login.{Login as AnyLogin};
-ghost use Rattle.my_grammar.specs.Scramble.{native_answer};
+ghost use Rattle.my_grammar.specs.Scramble.{password_answer};
 ghost use Rattle.my_grammar.specs.Talk.{Talk};
 ghost use Rattle.my_server.specs.ClientLogin.{IsLogin, IsSentResponse, login_at, login_of};
 ghost use Rattle.my_server.specs.History.{History, Stands};
@@ -50,10 +50,10 @@ pub fn responses_are_read()
     ensures { (r : AnyResponse) → IsSentResponse r → login_at (response_bytes r) ≡ Some (login_of r) }
 {}
 
-/// The answer of the grammar's client to a nonce is that of a client who knows the password, where the script has this
-/// password's SHA1(SHA1(password)); and where neither has a password.
+/// The answer of the grammar's client to a nonce of the native plugin is that of a client who knows the password, where the
+/// script has this password's SHA1(SHA1(password)); and where neither has a password.
 pub fn answers_are_known()
     ensures password { (b : ℕ) (bytes nonce : List ℕ) → let password = b ∷ bytes in
-        knows_password (Some (sha1 (sha1 password))) nonce (native_answer (Some password) nonce) ≡ true }
-    ensures none { (nonce : List ℕ) → knows_password None nonce (native_answer None nonce) ≡ true }
+        knows_password (Some (sha1 (sha1 password))) nonce (password_answer false (Some password) nonce) ≡ true }
+    ensures none { (nonce : List ℕ) → knows_password None nonce (password_answer false None nonce) ≡ true }
 {}

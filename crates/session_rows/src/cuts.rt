@@ -8,7 +8,7 @@ use crate::rows::cuts::CUTS;
 use my_flags::CapabilityFlags;
 use my_frame::{Blob, CodecFault, Listed, NoMemory};
 use my_grammar::{
-    CutRest, Found, Kind, Login, Opening, Packet, Queue, Terms, cut_bytes, native_answer,
+    CutRest, Found, Kind, Login, Offer, Opening, Packet, Queue, Terms, cut_bytes, password_answer,
 };
 use my_session::login_for;
 use std::alloc::{AllocError, Global};
@@ -124,9 +124,15 @@ fn show_row(text: &mut String, cells: &[u8]) -> Result<(), AllocError> {
     text.push(' ')
 }
 
+fn show_offer(text: &mut String, offer: Offer) -> Result<(), AllocError> {
+    let name = if offer.caching { "caches" } else { "greets" };
+    write!(text, "{name}:{:x} ", offer.capabilities.0)
+}
+
 fn show_packet(text: &mut String, packet: &Packet) -> Result<(), AllocError> {
     match packet.kind {
-        Kind::Greets(capabilities) => write!(text, "greets:{:x} ", capabilities.0),
+        Kind::Greets(offer) => show_offer(text, offer),
+        Kind::Asks(_) => text.push_str("asks "),
         Kind::Good(status) => write!(text, "ok:{} ", status.0),
         Kind::Failed => text.push_str("err "),
         Kind::Count(columns) => write!(text, "count:{columns} "),
@@ -368,14 +374,14 @@ fn streams_are_cut(rt: HostRuntime) -> Result<(), Fail> {
     assert!(rt; fault.is_empty(), "{fault}");
     let rows = CUTS.lines().filter(|line| line.contains('|')).count();
     println!(rt; "{rows} streams")?;
-    assert!(rt; rows == 58);
+    assert!(rt; rows == 63);
     Ok(())
 }
 
 // The digits of the answer that a password has to a nonce.
 fn answer(alloc: Global) -> Result<String, NoMemory> {
     let password = Some(Blob::from_slice(alloc, b"password")?);
-    let answer = native_answer(alloc, &password, b"abcdefghijklmnopqrst")?;
+    let answer = password_answer(alloc, false, &password, b"abcdefghijklmnopqrst")?;
     let mut text = String::new(alloc);
     add_digits(&mut text, answer.as_slice())?;
     Ok(text)

@@ -49,6 +49,11 @@ pub struct Head<'a> {
     pub attributes: &'a str,
     /// How many statements are kept.
     pub cached: u64,
+    /// The password.
+    pub pass: Option<&'a str>,
+    /// Whether a password may be sent as it is, and whether the oldest plugin is refused by its name.
+    pub cleartext: bool,
+    pub secure: bool,
     pub then: Then,
 }
 
@@ -63,6 +68,9 @@ pub fn usual(version: &str) -> Head<'_> {
         setup: "",
         attributes: "",
         cached: 32,
+        pass: None,
+        cleartext: false,
+        secure: true,
         then: Then::Cancels,
     }
 }
@@ -82,6 +90,7 @@ fn with_value<'a>(head: Head<'a>, name: &str, value: &'a str) -> Head<'a> {
         "init" => head.init = value,
         "setup" => head.setup = value,
         "attributes" => head.attributes = value,
+        "pass" => head.pass = Some(value),
         "cached" => head.cached = number(value).unwrap_or(0),
         _ => {}
     }
@@ -93,6 +102,8 @@ fn with_word<'a>(head: Head<'a>, word: &'a str) -> Head<'a> {
     match word {
         "@" => head.connects = true,
         "+" => head.connects = false,
+        "cleartext" => head.cleartext = true,
+        "insecure" => head.secure = false,
         "fails" => head.then = Then::Fails,
         "ends" => head.then = Then::Ends,
         _ => match word.split_once('=') {
@@ -139,13 +150,24 @@ fn with_attributes(
     Ok(builder)
 }
 
+fn pass_of(alloc: Global, head: &Head) -> Result<Option<String>, AllocError> {
+    match head.pass {
+        Some(pass) => Ok(Some(String::from_str(alloc, pass)?)),
+        None => Ok(None),
+    }
+}
+
 /// The options of a user `root`, with what the head says.
 pub fn options(alloc: Global, head: &Head) -> Result<Opts, NoMemory> {
     let user = String::from_str(alloc, "root")?;
     let init = texts(alloc, head.init)?;
     let setup = texts(alloc, head.setup)?;
+    let pass = pass_of(alloc, head)?;
     let builder = OptsBuilder::new(alloc)?
         .user(Some(user))
+        .pass(pass)
+        .enable_cleartext_plugin(head.cleartext)
+        .secure_auth(head.secure)
         .max_allowed_packet(head.limit)
         .wait_timeout(head.wait)
         .init(init)

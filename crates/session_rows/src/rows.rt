@@ -7,6 +7,7 @@
 pub mod changes;
 pub mod connects;
 pub mod cuts;
+pub mod logins;
 pub mod resets;
 pub mod statements;
 pub mod talks;

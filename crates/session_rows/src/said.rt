@@ -52,6 +52,14 @@ fn show_fault(text: &mut String, fault: IoFault) -> Result<(), AllocError> {
     }
 }
 
+fn show_plugin(text: &mut String, name: &[u8]) -> Result<(), AllocError> {
+    text.push_str("plugin ")?;
+    match str::from_utf8(name) {
+        Ok(name) => text.push_str(name),
+        Err(_) => add_digits(text, name),
+    }
+}
+
 fn show_refusal(text: &mut String, error: &DriverError) -> Result<(), AllocError> {
     match error {
         DriverError::ConnectionClosed => text.push_str("closed"),
@@ -63,6 +71,14 @@ fn show_refusal(text: &mut String, error: &DriverError) -> Result<(), AllocError
             write!(text, "mismatch {required} {supplied}")
         }
         DriverError::StmtParamsNumberExceedsLimit { supplied } => write!(text, "many {supplied}"),
+        DriverError::UnexpectedPacket { payload } => {
+            text.push_str("unexpected ")?;
+            add_digits(text, payload.as_slice())
+        }
+        DriverError::UnknownAuthPlugin { name } => show_plugin(text, name.as_slice()),
+        DriverError::CleartextPluginDisabled => text.push_str("cleartext"),
+        DriverError::MysqlOldPasswordDisabled => text.push_str("old"),
+        DriverError::FullAuthRefused => text.push_str("full"),
         _ => text.push_str("driver"),
     }
 }

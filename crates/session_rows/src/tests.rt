@@ -3,6 +3,7 @@
 use crate::play::fault_of_talk;
 use crate::rows::changes::CHANGES;
 use crate::rows::connects::CONNECTS;
+use crate::rows::logins::LOGINS;
 use crate::rows::resets::RESETS;
 use crate::rows::statements::STATEMENTS;
 use crate::rows::talks::TALKS;
@@ -31,11 +32,13 @@ fn talks(rt: HostRuntime) -> Result<(), Fail> {
     let statements = played(&rt, rt.alloc(), STATEMENTS)?;
     let transactions = played(&rt, rt.alloc(), TRANSACTIONS)?;
     let changes = played(&rt, rt.alloc(), CHANGES)?;
+    let logins = played(&rt, rt.alloc(), LOGINS)?;
     println!(rt;
         "{talks} talks, {connects} connections, {resets} resets, {statements} of statements"
     )?;
     println!(rt; "{transactions} of transactions, {changes} of changes of user and of a pool")?;
+    println!(rt; "{logins} of logins that go on")?;
     assert!(rt; talks == 14 && connects == 17 && resets == 23);
-    assert!(rt; statements == 12 && transactions == 50 && changes == 27);
+    assert!(rt; statements == 12 && transactions == 50 && changes == 27 && logins == 29);
     Ok(())
 }

@@ -1,7 +1,10 @@
 //! What a client answers while it logs in.
 
 use crate::notes::{Notes, four};
-use my_auth::{AuthFault, AuthNext, AuthPlugin, AuthStand, AuthTerms, answer_of, next_of};
+use my_auth::{
+    AuthAsk, AuthMove, AuthPlugin, AuthRefusal, AuthRules, AuthStand, answer_of, nonce_in,
+    plugin_in, reply_to,
+};
 use my_frame::{Blob, NoMemory};
 
 fn plugin_of(name: &str) -> AuthPlugin {
@@ -31,40 +34,55 @@ pub fn named(notes: &mut Notes, given: &str) {
     }
 }
 
-fn refused(notes: &mut Notes, fault: &AuthFault) {
-    match fault {
-        AuthFault::UnknownAuthPlugin(name) => {
+fn refused(notes: &mut Notes, refusal: AuthRefusal, payload: &[u8]) {
+    match refusal {
+        AuthRefusal::UnknownAuthPlugin => {
             notes.word("unknown");
-            notes.bytes(name.as_slice());
+            notes.bytes(plugin_in(payload));
         }
-        AuthFault::CleartextPluginDisabled => notes.word("cleartext"),
-        AuthFault::MysqlOldPasswordDisabled => notes.word("old"),
-        AuthFault::FullAuthRefused => notes.word("full"),
-        AuthFault::UnexpectedPacket(payload) => {
+        AuthRefusal::CleartextPluginDisabled => notes.word("cleartext"),
+        AuthRefusal::MysqlOldPasswordDisabled => notes.word("old"),
+        AuthRefusal::FullAuthRefused => notes.word("full"),
+        AuthRefusal::UnexpectedPacket => {
             notes.word("unexpected");
-            notes.bytes(payload.as_slice());
+            notes.bytes(payload);
         }
-        AuthFault::Malformed => notes.word("malformed"),
+        AuthRefusal::Malformed => notes.word("malformed"),
     }
 }
 
-// The chain stands at the answer, if it goes on.
-fn went(notes: &mut Notes, next: AuthNext) -> Option<AuthStand> {
+// What the client answers to what it is asked for.
+fn replied(
+    notes: &mut Notes,
+    password: &[u8],
+    ask: AuthAsk,
+    payload: &[u8],
+) -> Result<(), NoMemory> {
+    match reply_to(notes.alloc, password, ask, payload)? {
+        Some(answer) => notes.bytes(answer.as_slice()),
+        None => notes.word("wait"),
+    }
+    Ok(())
+}
+
+// Whether the answer needs the payload's nonce.
+fn has_nonce(ask: AuthAsk) -> bool {
+    match ask {
+        AuthAsk::Switch(AuthPlugin::Native | AuthPlugin::Caching) => true,
+        _ => false,
+    }
+}
+
+// What is asked for, if the chain goes on.
+fn went(notes: &mut Notes, next: AuthMove, payload: &[u8]) -> Option<AuthAsk> {
     match next {
-        AuthNext::Over => {
+        AuthMove::Over => {
             notes.word("over");
             None
         }
-        AuthNext::Answer(bytes, stand) => {
-            notes.bytes(bytes.as_slice());
-            Some(stand)
-        }
-        AuthNext::Wait(stand) => {
-            notes.word("wait");
-            Some(stand)
-        }
-        AuthNext::Refuse(fault) => {
-            refused(notes, &fault);
+        AuthMove::Ask(ask) => Some(ask),
+        AuthMove::Refuse(refusal) => {
+            refused(notes, refusal, payload);
             None
         }
     }
@@ -72,36 +90,38 @@ fn went(notes: &mut Notes, next: AuthNext) -> Option<AuthStand> {
 
 fn chain(
     notes: &mut Notes,
-    terms: &AuthTerms,
+    password: &[u8],
     first: AuthStand,
     payloads: &str,
 ) -> Result<(), NoMemory> {
     let mut stand = first;
+    let mut nonce = Blob::from_slice(notes.alloc, &[7])?;
     for digits in payloads.split(',') {
         let payload = notes.spelled(digits);
-        let next = next_of(notes.alloc, terms, &stand, &payload)?;
-        match went(notes, next) {
-            Some(later) => stand = later,
-            None => break,
+        let Some(ask) = went(notes, stand.read(&payload), &payload) else {
+            break;
+        };
+        replied(notes, password, ask, &payload)?;
+        if has_nonce(ask) {
+            nonce = Blob::from_slice(notes.alloc, nonce_in(&payload))?;
         }
+        stand = stand.after(ask);
     }
-    notes.bytes(stand.kept.nonce.as_slice());
+    notes.bytes(nonce.as_slice());
     Ok(())
 }
 
-/// `auth PLUGIN ALLOWED PASSWORD PAYLOADS`: what is answered to each payload, and the nonce that is kept. Allowed are, by
-/// letters, a clear password, the oldest plugin's refusal by name (`s`), and that the link is on this machine.
+/// `auth PLUGIN ALLOWED PASSWORD PAYLOADS`: what is answered to each payload, and the last nonce that was answered. Allowed
+/// are, by letters, a clear password, the oldest plugin's refusal by name (`s`), and that the link is on this machine.
 pub fn auth(notes: &mut Notes, given: &str) {
     let [name, allowed, password, payloads] = four(given, ' ');
-    let terms = AuthTerms {
-        password: Blob::from(notes.spelled(password)),
+    let rules = AuthRules {
         cleartext: allowed.contains('c'),
         secure: allowed.contains('s'),
         local: allowed.contains('l'),
     };
-    let played = match AuthStand::after(notes.alloc, plugin_of(name), &[7]) {
-        Ok(stand) => chain(notes, &terms, stand, payloads),
-        Err(NoMemory) => Err(NoMemory),
-    };
+    let password = notes.spelled(password);
+    let first = AuthStand::first(rules, plugin_of(name));
+    let played = chain(notes, &password, first, payloads);
     notes.must(played.is_ok());
 }
