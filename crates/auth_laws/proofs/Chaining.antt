@@ -14,7 +14,7 @@ use Rattle.my_auth.proofs.Chains.{ends, scrambled}
 use Rattle.auth_laws.specs.Chains.{Did, Ended, IsChain, IsShort, Leaves, Link, PasswordsStay, Refused, Says, StandsAt, at_most_one, did_by, does, sent, sent_by}
 
 -- the rules stay
-same_rules : (stand : AuthStand) (ask : AuthAsk) → (after_ask stand ask).rules ≡ stand.rules
+pub same_rules : (stand : AuthStand) (ask : AuthAsk) → (after_ask stand ask).rules ≡ stand.rules
 same_rules stand (Switch plugin) = refl
 same_rules stand Whole = refl
 same_rules stand Wait = refl
@@ -54,7 +54,7 @@ ended (Says (Some bytes) later) xs n m rules less so = let here = less.0 in omeg
 ended Ended xs n m rules less so = omega (arith, so)
 ended (Refused refusal) xs n m rules less so = omega (arith, so)
 
-at_most : (switched decided : Bool) → left_of switched decided ≤ 2
+pub at_most : (switched decided : Bool) → left_of switched decided ≤ 2
 at_most switched true = omega arith
 at_most true false = omega arith
 at_most false false = omega arith
@@ -79,7 +79,7 @@ rules_at password first (l ∷ ls) c stand at =
     left_rules l.did (left c.1.0) c.1.0.rules stand (did_less password first l ls c) at ∙ rules_at password first ls c.0 c.1.0 c.1.1
 
 -- each of what is sent is a scramble
-said_more : (P : List ℕ → Type 0) (said : Option (List ℕ)) (xs : List (List ℕ)) → IfSaid P said → AllByRecursion P xs → AllByRecursion P (at_most_one said ++ xs)
+pub said_more : (P : List ℕ → Type 0) (said : Option (List ℕ)) (xs : List (List ℕ)) → IfSaid P said → AllByRecursion P xs → AllByRecursion P (at_most_one said ++ xs)
 said_more P None xs p ps = ps
 said_more P (Some bytes) xs p ps = (p, ps)
 

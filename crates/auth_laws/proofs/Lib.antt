@@ -1,2 +1,3 @@
 pub mod Chaining
 pub mod Refuting
+pub mod Exchanging

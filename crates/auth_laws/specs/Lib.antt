@@ -1,3 +1,4 @@
 pub mod Chains
+pub mod Exchanges
 pub mod Right
 pub mod Wrong

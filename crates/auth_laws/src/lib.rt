@@ -3,6 +3,7 @@
 #![tactic(auto)]
 
 ghost use Rattle.auth_laws.specs.Chains.{IsShort, PasswordsStay};
+ghost use Rattle.auth_laws.specs.Exchanges.{AnswersByScrambles, AnswersTwice, SaysNoMore};
 ghost use Rattle.auth_laws.specs.Right.{CachedLogin, SwitchedLogin};
 ghost use Rattle.auth_laws.specs.Wrong.{NoClearPassword, NoEarlierNonce, NoEmptyScramble, NoFullPassword, NoGoingOn, NoSecondSwitch};
 
@@ -30,4 +31,13 @@ pub fn right_chains_are_done()
 pub fn chains_are_short()
     ensures short { IsShort }
     ensures passwords { PasswordsStay }
+{}
+
+/// In an exchange that fits, a login or a change of user, the client says its first packet and then its answers, and nothing else
+/// (`alone`): at most two (`short`), each a scramble of the password or empty where neither the options nor the link allow the
+/// password itself (`passwords`).
+pub fn exchanges_keep_passwords()
+    ensures alone { SaysNoMore }
+    ensures short { AnswersTwice }
+    ensures passwords { AnswersByScrambles }
 {}
