@@ -1,11 +1,14 @@
 -- Each prepared statement is kept, but those that are about to be closed, at each change of a place.
 use Rattle.std.proofs.Common.{◌≡◌, ℕ, ◌≤◌, length, Bool, true, false, cond, Option, Some, None, IfSome, List, [], ◌∷◌, ◌⊎◌, inl, inr, refl, sym, ap, subst, ◌∙◌, arith}
+use Rattle.my_auth.specs.declared.chain.AuthStand.{AuthStand}
+use Rattle.my_flags.specs.declared.flags.StatusFlags.{StatusFlags}
 use Rattle.my_reply.specs.declared.column.Column.{Column}
 use Rattle.my_grammar.specs.declared.spot.Kind.{Kind}
 use Rattle.my_grammar.specs.declared.spot.Kind.TheVariants as kinds
 use Rattle.my_grammar.specs.declared.spot.Terms.{Terms}
+use Rattle.my_grammar.specs.Cut.{is_idle, is_over}
 use Rattle.my_grammar.specs.Growth.{grow}
-use Rattle.my_grammar.specs.Talk.{Talk, context_of}
+use Rattle.my_grammar.specs.Talk.{Talk, chain_spot, context_of, stand_in, stand_next}
 use Rattle.my_statements.specs.Cache.{has_id, has_query, held}
 use Rattle.my_statements.specs.declared.statement.StmtInner.{StmtInner}
 use Rattle.my_reading.specs.declared.call.Call.{Call}
@@ -93,36 +96,43 @@ each_is_kept st since (e ∷ es) w =
     is_left id (inl x) = x
     is_left id (inr x) = absurd x
 
--- after a payload
-pub grown_resets : (k : Kind) (t : Talk) (q : List ℕ) → Resets t → Resets (grow k t q)
-grown_resets k t q (ByReset terms ok status e) = ByReset terms ok status (ap (λ x. grow k x q) e)
-grown_resets k t q (ByChange terms secret first change newer older ok status e) = ByChange terms secret first change (record { kind = k; payload = q } ∷ newer) older ok status (ap (λ x. grow k x q) e)
+-- an OK ends a chain
+ended : (status : StatusFlags) (o : Option AuthStand) → stand_next (kinds.Good status) o ≡ None
+ended status None = refl
+ended status (Some stand) = refl
 
-freed_grown : (p : Place) (k : Kind) (q rest : List ℕ) (id : ℕ) → IsFreed id (newest_of p) → IsFreed id (newest_of (with_talk p (grow k p.talk q) rest))
-freed_grown p k q rest id (inl (inl w)) = inl (inl (w.0, ap (λ x. grow k x q) w.1))
-freed_grown p k q rest id (inl (inr w)) = inl (inr (grown_resets k p.talk q w))
-freed_grown p k q rest id (inr w) = inr w
+-- an exchange that reset the server's session is over
+pub reset_is_over : (t : Talk) → Resets t → is_over t ≡ true
+reset_is_over t (ByReset terms ok status e) = ap is_over e
+reset_is_over t (ByChange terms secret first change chain ok status e) = ap is_over e ∙ ap (λ o. is_idle (chain_spot o)) (ended status (stand_in first chain))
 
-pub grown_holds : (P : ℕ → Type 0) (p : Place) (k : Kind) (q rest : List ℕ) → HoldsBut P p → HoldsBut P (with_talk p (grow k p.talk q) rest)
-grown_holds P p k q rest w =
+-- after a payload, which comes where one is awaited
+
+freed_grown : (p : Place) (k : Kind) (q rest : List ℕ) → is_over p.talk ≡ false → (id : ℕ) → IsFreed id (newest_of p) → IsFreed id (newest_of (with_talk p (grow k p.talk q) rest))
+freed_grown p k q rest awaited id (inl (inl w)) = inl (inl (w.0, ap (λ x. grow k x q) w.1))
+freed_grown p k q rest awaited id (inl (inr w)) = let done = reset_is_over p.talk w in absurd (cc)
+freed_grown p k q rest awaited id (inr w) = inr w
+
+pub grown_holds : (P : ℕ → Type 0) (p : Place) (k : Kind) (q rest : List ℕ) → is_over p.talk ≡ false → HoldsBut P p → HoldsBut P (with_talk p (grow k p.talk q) rest)
+grown_holds P p k q rest awaited w =
     let new = with_talk p (grow k p.talk q) rest in
     let d = grown_done (λ id. IsKept p.statements [] id ⊎ P id) k p.talk q (w.0.0, w.1) in
-    ((d.0, each_stays P p.statements (newest_of p) (newest_of new) (freed_grown p k q rest) p.older w.0.1), d.1, w.2)
+    ((d.0, each_stays P p.statements (newest_of p) (newest_of new) (freed_grown p k q rest awaited) p.older w.0.1), d.1, w.2)
 
-pub grown_before : (query : List ℕ) (p : Place) (k : Kind) (q rest : List ℕ) → is_failed k ≡ false
+pub grown_before : (query : List ℕ) (p : Place) (k : Kind) (q rest : List ℕ) → is_over p.talk ≡ false → is_failed k ≡ false
     → ComesFresh (λ ok. is_cached p.statements ok.id ≡ false) k q → HoldsBefore query p → HoldsBefore query (with_talk p (grow k p.talk q) rest)
-grown_before query p k q rest e fresh w = (
-  each_stays (λ id. ⊥) p.statements (newest_of p) (newest_of (with_talk p (grow k p.talk q) rest)) (freed_grown p k q rest) p.older w.0,
+grown_before query p k q rest awaited e fresh w = (
+  each_stays (λ id. ⊥) p.statements (newest_of p) (newest_of (with_talk p (grow k p.talk q) rest)) (freed_grown p k q rest awaited) p.older w.0,
   grown_fresh (λ ok. is_cached p.statements ok.id ≡ false) k p.talk q e fresh w.1,
   w.2,
   w.3,
 )
 
 -- after the statement was refused
-pub refused_holds : (query : List ℕ) (p : Place) (q rest : List ℕ) → HoldsBefore query p → Holds (with_talk p (grow kinds.Failed p.talk q) rest)
-refused_holds query p q rest w =
+pub refused_holds : (query : List ℕ) (p : Place) (q rest : List ℕ) → is_over p.talk ≡ false → HoldsBefore query p → Holds (with_talk p (grow kinds.Failed p.talk q) rest)
+refused_holds query p q rest awaited w =
     let d = refused_done (λ ok. is_cached p.statements ok.id ≡ false) (λ id. IsKept p.statements [] id ⊎ ⊥) p.talk q w.1 in
-    ((d.0, each_stays (λ id. ⊥) p.statements (newest_of p) (newest_of (with_talk p (grow kinds.Failed p.talk q) rest)) (freed_grown p kinds.Failed q rest) p.older w.0), d.1, w.3)
+    ((d.0, each_stays (λ id. ⊥) p.statements (newest_of p) (newest_of (with_talk p (grow kinds.Failed p.talk q) rest)) (freed_grown p kinds.Failed q rest awaited) p.older w.0), d.1, w.3)
 
 -- after an exchange began
 pub opened_holds : (P : ℕ → Type 0) (p : Place) (call : Call) (t : Talk) → prepared_in t ≡ None → is_open t ≡ false → HoldsBut P p → HoldsBut P (with_exchange p call t)
@@ -175,7 +185,7 @@ forgotten_holds p id w =
 
 reset_prepares_none : (t : Talk) → Resets t → prepared_in t ≡ None
 reset_prepares_none t (ByReset terms ok status e) = ap prepared_in e
-reset_prepares_none t (ByChange terms secret first change newer older ok status e) = ap prepared_in e
+reset_prepares_none t (ByChange terms secret first change chain ok status e) = ap prepared_in e
 
 -- after the server's session was reset
 pub cleared_holds : (p : Place) → Resets p.talk → Holds p → Holds (with_statements (cleared p.statements) p)

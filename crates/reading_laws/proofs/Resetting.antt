@@ -37,8 +37,8 @@ use Rattle.my_reading.specs.Place.{Place, exchanges, facts_at, terms_of, with_ex
 use Rattle.my_reading.specs.Transactions.{rollback_text}
 use Rattle.reading_laws.specs.Kept.{Resets, ByChange, ByReset, prepared_in}
 use Rattle.reading_laws.proofs.Cleaning.{Cleans, Reads, cleans_have}
-use Rattle.reading_laws.proofs.Having.{Comes, begun_has, either, reads_have}
-use Rattle.reading_laws.proofs.Holding.{Holds, grown_holds, grown_resets, opened_holds}
+use Rattle.reading_laws.proofs.Having.{Comes, begun_has, either, awaited_have}
+use Rattle.reading_laws.proofs.Holding.{Holds, grown_holds, opened_holds, reset_is_over}
 use Rattle.reading_laws.proofs.Talks.{is_failed, is_open}
 use Rattle.reading_laws.proofs.Reverting.{refused_fine}
 use Rattle.reading_laws.proofs.Phases.{AwaitsChange, AwaitsReset, ByCommand, ByRenewal, IsFine, IsResetting, Phase, Readying, Commanding, Awaiting, Emptying, Renewing, is_plain, prepares}
@@ -71,8 +71,8 @@ module _ (login : Login) (ps : List Part) (plain : is_plain ps ≡ true) where
         (λ q h s _ _. h)
         (λ more q here h. Readying call part by ps more q here plain h)
         (λ q h. Commanding call part by ps q plain h)
-        (λ q k bytes rest h. grown_holds (λ i. ⊥) q k bytes rest h)
-        (λ q bytes rest x h. refused_fine call q.trial (with_talk q (grow kinds.Failed q.talk bytes) rest) (server_error x) (λ s _ _. grown_holds (λ i. ⊥) q kinds.Failed bytes rest h))
+        (λ q k bytes rest awaited h. grown_holds (λ i. ⊥) q k bytes rest awaited h)
+        (λ q bytes rest x awaited h. refused_fine call q.trial (with_talk q (grow kinds.Failed q.talk bytes) rest) (server_error x) (λ s _ _. grown_holds (λ i. ⊥) q kinds.Failed bytes rest awaited h))
         (λ q h. h)
         (λ q terms h. opened_holds (λ i. ⊥) q call (queried terms rollback_text) refl refl h)
         (λ q status h. h)
@@ -112,10 +112,13 @@ module _ (login : Login) (ps : List Part) (plain : is_plain ps ≡ true) where
       inl (AwaitsChange terms secret first change (record { kind = k; payload = q } ∷ chain) (after_ask stand a.0) (ap (λ x. grow k x q) e)
       (ap (λ x. stand_next x (stand_in first chain)) a.1 ∙ ap (stand_next (kinds.Asks a.0)) stands))
   chain_goes t terms secret first change chain stand k q e stands (inr g) =
-      inr (ByChange terms secret first change [] chain q g.0 (ap (λ x. grow k x q) e ∙ ap (λ x. Changing terms secret first (packet_bytes (packets.ChangeUser change)) (record { kind = x; payload = q } ∷ chain)) g.1))
+      inr (ByChange terms secret first change chain q g.0 (ap (λ x. grow k x q) e ∙ ap (λ x. Changing terms secret first (packet_bytes (packets.ChangeUser change)) (record { kind = x; payload = q } ∷ chain)) g.1))
 
   answered : (p : Place) (k : Kind) (q : List ℕ) → Comes p k q → IsResetting p.talk → IsResetting (grow k p.talk q)
-  answered p k q c (inr r) = inr (grown_resets k p.talk q r)
+  answered p k q c (inr r) =
+      let done = reset_is_over p.talk r in
+      let awaited = c.awaited in
+      absurd (cc)
   answered p k q c (inl (AwaitsReset terms e)) =
       let single : single_kind q ≡ k = sym (ap (λ t. kind_of t q) e) ∙ c.kind_is in
       let ok = good_alone q k single c.fits c.good in
@@ -135,9 +138,9 @@ module _ (login : Login) (ps : List Part) (plain : is_plain ps ≡ true) where
   awaiting call other p w r = either (IsFine call) p.end_left _ _ (Awaiting call other ps (without_end p) plain w r) (by_over (is_over p.talk) refl)
     where
       again : (k : Kind) (q rest : List ℕ) → Comes p k q → Phase call (All ∷ Clear ∷ ps) (with_talk p (grow k p.talk q) rest)
-      again k q rest c = Awaiting call other ps (with_talk p (grow k p.talk q) rest) plain (grown_holds (λ i. ⊥) p k q rest w) (answered p k q c r)
+      again k q rest c = Awaiting call other ps (with_talk p (grow k p.talk q) rest) plain (grown_holds (λ i. ⊥) p k q rest c.awaited w) (answered p k q c r)
 
       by_over : (b : Bool) → is_over p.talk ≡ b → IsFine call (cond b (Goes (Clear ∷ ps) p) (reads login All (Clear ∷ ps) p))
       by_over true e = Emptying call other ps p plain w (over p e r)
-      by_over false e = reads_have (IsFine call) p (λ s _ _. w) login All (Clear ∷ ps) refl again (λ k q rest row c. again k q rest c)
-          (λ q rest x. refused_fine call p.trial (with_talk p (grow kinds.Failed p.talk q) rest) (server_error x) (λ s _ _. grown_holds (λ i. ⊥) p kinds.Failed q rest w))
+      by_over false e = awaited_have (IsFine call) p (λ s _ _. w) login All (Clear ∷ ps) refl again (λ k q rest row c. again k q rest c)
+          (λ q rest x awaited. refused_fine call p.trial (with_talk p (grow kinds.Failed p.talk q) rest) (server_error x) (λ s _ _. grown_holds (λ i. ⊥) p kinds.Failed q rest awaited w))

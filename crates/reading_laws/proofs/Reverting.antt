@@ -1,5 +1,5 @@
 -- A call whose transaction couldn't be committed: it is rolled back, and the call returns why.
-use Rattle.std.proofs.Common.{ℕ, Bool, true, false, List, [], ◌∷◌, refl}
+use Rattle.std.proofs.Common.{◌≡◌, ℕ, Bool, true, false, List, [], ◌∷◌, refl}
 use Rattle.my_grammar.specs.declared.login.Login.{Login}
 use Rattle.my_grammar.specs.declared.spot.Kind.{Kind}
 use Rattle.my_grammar.specs.declared.spot.Kind.TheVariants as kinds
@@ -15,7 +15,7 @@ use Rattle.my_reading.specs.Course.{Undo, Back, refused_at, returned, step_of, u
 use Rattle.my_reading.specs.Errors.{server_error}
 use Rattle.my_reading.specs.Place.{Place, exchanges, terms_of, with_exchange, with_status, with_talk, with_trial}
 use Rattle.my_reading.specs.Transactions.{is_given_up, rollback_text}
-use Rattle.reading_laws.proofs.Having.{begun_has, either, reads_have}
+use Rattle.reading_laws.proofs.Having.{begun_has, either, awaited_have}
 use Rattle.reading_laws.proofs.Holding.{grown_holds, opened_holds}
 use Rattle.reading_laws.proofs.Phases.{IsFine, IsRefused, Unanswered, Reverting, Returning, stopped_fine}
 
@@ -41,12 +41,12 @@ module _ (login : Login) (call : Call) (p : Place) (refused : IsRefused p.trial)
   returned_fine trials.Off r = absurd r
   returned_fine trials.On r = absurd r
 
-  grown : (k : Kind) (q rest : List ℕ) → Unanswered call (with_talk p (grow k p.talk q) rest)
-  grown k q rest = λ s a e. grown_holds (λ i. ⊥) p k q rest (w s a e)
+  grown : (k : Kind) (q rest : List ℕ) → is_over p.talk ≡ false → Unanswered call (with_talk p (grow k p.talk q) rest)
+  grown k q rest awaited = λ s a e. grown_holds (λ i. ⊥) p k q rest awaited (w s a e)
 
   pub returning : IsFine call (step_of login call (Back ∷ []) p)
   returning = either (IsFine call) (is_over p.talk) _ _ (returned_fine p.trial refused)
-      (reads_have (IsFine call) p (stopped_fine call (Back ∷ []) p (Returning call p refused w)) login Back [] refl
-      (λ k q rest _. Returning call (with_talk p (grow k p.talk q) rest) refused (grown k q rest))
-      (λ k q rest row _. Returning call (with_talk p (grow k p.talk q) rest) refused (grown k q rest))
-      (λ q rest e. refused_fine call p.trial (with_talk p (grow kinds.Failed p.talk q) rest) (server_error e) (grown kinds.Failed q rest)))
+      (awaited_have (IsFine call) p (stopped_fine call (Back ∷ []) p (Returning call p refused w)) login Back [] refl
+      (λ k q rest c. Returning call (with_talk p (grow k p.talk q) rest) refused (grown k q rest c.awaited))
+      (λ k q rest row c. Returning call (with_talk p (grow k p.talk q) rest) refused (grown k q rest c.awaited))
+      (λ q rest e awaited. refused_fine call p.trial (with_talk p (grow kinds.Failed p.talk q) rest) (server_error e) (grown kinds.Failed q rest awaited)))

@@ -33,7 +33,7 @@ use Rattle.my_reading.specs.Versions.{can_reset}
 use Rattle.my_reading.specs.Told.{Told}
 use Rattle.reading_laws.specs.Kept.{prepared_in}
 use Rattle.reading_laws.proofs.Cleaning.{Cleans, Reads, cleans_have}
-use Rattle.reading_laws.proofs.Having.{Comes, begun_has, command_has, drains_have, either, reads_have}
+use Rattle.reading_laws.proofs.Having.{Comes, begun_has, command_has, awaited_drains_have, either, awaited_have}
 use Rattle.reading_laws.proofs.Holding.{Holds, HoldsBefore, HoldsBut, cleared_holds, closing_holds, fetched_holds, forgotten_holds, grown_before, grown_holds, learned_holds, opened_before, opened_holds, prepared_holds, refused_holds, weaker_holds}
 use Rattle.reading_laws.proofs.Talks.{is_open, over_is_done, whole_talk}
 use Rattle.reading_laws.proofs.Phases.{IsFine, Phase, Steady, Finding, Clearing, Asking, Replying, Keeping, Giving, Forgetting, Passing, Closing, Offering, Adopting, ByRenewal, Readying, Commanding, Awaiting, Reverting, Returning, Emptying, closing_stops, is_plain, prepares, preparing_stops, stopped_fine}
@@ -94,14 +94,14 @@ module _ (login : Login) (call : Call) (other : prepares call ≡ false) where
   steady_kind part parts e k new row w = Steady call (part ∷ parts) new e other w
 
   steady_reads : (part : Part) → is_drain part ≡ false → (parts : List Part) (p : Place) → is_plain (part ∷ parts) ≡ true → Holds p → IsFine call (reads login part parts p)
-  steady_reads part tells parts p e w = reads_have (IsFine call) p (λ s _ _. w) login part parts tells
-      (λ k q rest _. Steady call (part ∷ parts) (with_talk p (grow k p.talk q) rest) e other (grown_holds (λ i. ⊥) p k q rest w))
-      (λ k q rest row _. steady_kind part parts e k (with_talk p (grow k p.talk q) rest) row (grown_holds (λ i. ⊥) p k q rest w))
-      (λ q rest x. refused_fine call p.trial (with_talk p (grow kinds.Failed p.talk q) rest) (server_error x) (λ s _ _. grown_holds (λ i. ⊥) p kinds.Failed q rest w))
+  steady_reads part tells parts p e w = awaited_have (IsFine call) p (λ s _ _. w) login part parts tells
+      (λ k q rest c. Steady call (part ∷ parts) (with_talk p (grow k p.talk q) rest) e other (grown_holds (λ i. ⊥) p k q rest c.awaited w))
+      (λ k q rest row c. steady_kind part parts e k (with_talk p (grow k p.talk q) rest) row (grown_holds (λ i. ⊥) p k q rest c.awaited w))
+      (λ q rest x awaited. refused_fine call p.trial (with_talk p (grow kinds.Failed p.talk q) rest) (server_error x) (λ s _ _. grown_holds (λ i. ⊥) p kinds.Failed q rest awaited w))
 
   steady_drains : (parts : List Part) (p : Place) → is_plain parts ≡ true → Holds p → IsFine call (reads login Drain parts p)
-  steady_drains parts p e w = drains_have (IsFine call) p (λ s _ _. w) login parts
-      (λ k q rest. Steady call (Drain ∷ parts) (with_talk p (grow k p.talk q) rest) e other (grown_holds (λ i. ⊥) p k q rest w))
+  steady_drains parts p e w = awaited_drains_have (IsFine call) p (λ s _ _. w) login parts
+      (λ k q rest awaited. Steady call (Drain ∷ parts) (with_talk p (grow k p.talk q) rest) e other (grown_holds (λ i. ⊥) p k q rest awaited w))
 
   steady_checked : (parts : List Part) (p : Place) (v : Values) → is_plain parts ≡ true → Holds p → IsFine call (checked parts p v)
   steady_checked parts p (Fitting values) e w = Steady call parts p e other w
@@ -183,8 +183,8 @@ module _ (login : Login) (text : List ℕ) where
       (λ q h. preparing_stops text q)
       (λ more q here h. Clearing text more q here h.0 h.1)
       (λ q h. Asking text q h.0 h.1)
-      (λ q k bytes rest h. (grown_holds (λ i. ⊥) q k bytes rest h.0, h.1))
-      (λ q bytes rest x h. refused_fine asking_call q.trial (with_talk q (grow kinds.Failed q.talk bytes) rest) (server_error x) (λ s _ _. grown_holds (λ i. ⊥) q kinds.Failed bytes rest h.0))
+      (λ q k bytes rest awaited h. (grown_holds (λ i. ⊥) q k bytes rest awaited h.0, h.1))
+      (λ q bytes rest x awaited h. refused_fine asking_call q.trial (with_talk q (grow kinds.Failed q.talk bytes) rest) (server_error x) (λ s _ _. grown_holds (λ i. ⊥) q kinds.Failed bytes rest awaited h.0))
       (λ q h. h)
       (λ q terms h. (opened_holds (λ i. ⊥) q asking_call (queried terms rollback_text) refl refl h.0, h.1))
       (λ q status h. h)
@@ -200,12 +200,12 @@ module _ (login : Login) (text : List ℕ) where
   replying p w = by_over (is_over p.talk) refl
     where
       again : (k : Kind) (q rest : List ℕ) → Comes p k q → Phase (Prepare text) (Reply ∷ Keep ∷ Give ∷ []) (with_talk p (grow k p.talk q) rest)
-      again k q rest c = Replying text (with_talk p (grow k p.talk q) rest) (grown_before (query_of text) p k q rest c.good c.fresh w)
+      again k q rest c = Replying text (with_talk p (grow k p.talk q) rest) (grown_before (query_of text) p k q rest c.awaited c.good c.fresh w)
 
       by_over : (b : Bool) → is_over p.talk ≡ b → IsFine asking_call (cond b (Goes (Keep ∷ Give ∷ []) p) (reads login Reply (Keep ∷ Give ∷ []) p))
       by_over true e = Keeping text p w e
-      by_over false e = reads_have (IsFine asking_call) p (preparing_stops text p) login Reply (Keep ∷ Give ∷ []) refl again (λ k q rest row c. again k q rest c)
-          (λ q rest x. refused_fine asking_call p.trial (with_talk p (grow kinds.Failed p.talk q) rest) (server_error x) (λ s _ _. refused_holds (query_of text) p q rest w))
+      by_over false e = awaited_have (IsFine asking_call) p (preparing_stops text p) login Reply (Keep ∷ Give ∷ []) refl again (λ k q rest row c. again k q rest c)
+          (λ q rest x awaited. refused_fine asking_call p.trial (with_talk p (grow kinds.Failed p.talk q) rest) (server_error x) (λ s _ _. refused_holds (query_of text) p q rest awaited w))
 
   closed : (p : Place) (terms : Terms) (o : Option ℕ) → HoldsBut (λ i. o ≡ Some i) p → IsFine asking_call (with_command asking_call (Give ∷ []) p (closing_of terms o))
   closed p terms None w = Giving text p (weaker_holds (λ i. None ≡ Some i) (λ i. ⊥) p (λ i e. absurd (cc)) w)
@@ -227,8 +227,8 @@ module _ (login : Login) (id : ℕ) where
       (λ q h. closing_stops id q)
       (λ more q here h. Passing id more q here h)
       (λ q h. Closing id q h)
-      (λ q k bytes rest h. grown_holds (λ i. i ≡ id) q k bytes rest h)
-      (λ q bytes rest x h. refused_fine (CloseStmt id) q.trial (with_talk q (grow kinds.Failed q.talk bytes) rest) (server_error x) (λ s a e. absurd (cc)))
+      (λ q k bytes rest awaited h. grown_holds (λ i. i ≡ id) q k bytes rest awaited h)
+      (λ q bytes rest x awaited h. refused_fine (CloseStmt id) q.trial (with_talk q (grow kinds.Failed q.talk bytes) rest) (server_error x) (λ s a e. absurd (cc)))
       (λ q h. h)
       (λ q terms h. opened_holds (λ i. i ≡ id) q (CloseStmt id) (queried terms rollback_text) refl refl h)
       (λ q status h. h)

@@ -1,7 +1,7 @@
 -- What became of each statement that a connection's calls prepared.
 -- MySQL client/server protocol, "COM_STMT_CLOSE": a statement that isn't closed stays at the server while the connection lasts, unless
 -- "COM_RESET_CONNECTION" resets its session or "COM_CHANGE_USER" gives it another user, each of which frees all statements.
-use Rattle.std.specs.Prelude.{◌≡◌, ◌⊎◌, ℕ, List, [], ◌∷◌, ◌++◌, Option, Some, None, IfSome, Bool, true, false, not, ◌||◌}
+use Rattle.std.specs.Prelude.{◌≡◌, ◌⊎◌, ℕ, List, [], ◌∷◌, Option, Some, None, IfSome, Bool, true, false, not, ◌||◌}
 use Rattle.std.specs.List.{AllByRecursion}
 use Rattle.std.specs.Option.{option_map}
 use Rattle.my_flags.specs.declared.flags.StatusFlags.{StatusFlags}
@@ -41,11 +41,11 @@ prepared_in _ = None
 abbrev pub Closes : ℕ → Talk → Type 0
 Closes id t = (terms : Terms) × (t ≡ closing terms id)
 
--- the exchange resets the server's session, or gives it another user: an OK answers the reset, or is in the chain of the change
+-- the exchange resets the server's session, or gives it another user: an OK answers the reset, or ends the chain of the change
 pub data Resets (t : Talk) : Type 0 where
   ByReset : (terms : Terms) (ok : List ℕ) (status : StatusFlags) → t ≡ Replied terms (client_bytes ResetConnection) ok (Good status) → Resets t
-  ByChange : (terms : Terms) (secret : Option (List ℕ)) (first : AuthStand) (change : UserChange) (newer older : List Packet) (ok : List ℕ) (status : StatusFlags)
-      → t ≡ Changing terms secret first (client_bytes (ChangeUser change)) (newer ++ record { kind = Good status; payload = ok } ∷ older) → Resets t
+  ByChange : (terms : Terms) (secret : Option (List ℕ)) (first : AuthStand) (change : UserChange) (chain : List Packet) (ok : List ℕ) (status : StatusFlags)
+      → t ≡ Changing terms secret first (client_bytes (ChangeUser change)) (record { kind = Good status; payload = ok } ∷ chain) → Resets t
 
 -- the server freed the statement in one of these exchanges: it was closed, or the session was reset
 abbrev pub IsFreed : ℕ → List Exchange → Type 0
