@@ -27,7 +27,7 @@ module _ (login : Login) (c : Call) (Own : List Part → Place → Type 0) (Q : 
       (λ _. reads_fine login c Own Q fails p All parts refl (λ k quiet calm q rest come. Owns _ _ (again _)) (λ k calm q rest come. Owns _ _ (again _))))
 
   undone_fine : (parts : List Part) (p : Place) (b : Bool) → ((q : Place) → Own parts q) → IsFine Own Q (undone login c parts p b)
-  undone_fine parts p true next = begun_has (IsFine Own Q) p (λ x. fails _ _) c parts (queried (terms_of login (exchanges p)) rollback_text) (Owns _ _ (next _))
+  undone_fine parts p true next = begun_has (IsFine Own Q) p (λ x _. fails _ _) c parts (queried (terms_of login (exchanges p)) rollback_text) (Owns _ _ (next _))
   undone_fine parts p false next = Owns _ _ (next _)
 
   pub clean_fine : (rest : List Part) → ((parts : List Part) (p : Place) → Cleaning rest parts → Own parts p) → ((p : Place) → Own rest p) → (parts : List Part) (p : Place) → Cleaning rest parts → IsFine Own Q (step_of login c parts p)

@@ -61,7 +61,7 @@ module _ (login : Login) where
   text_fine : (p : Place) → Fine (step_of login Commit commands p)
   text_fine p =
       let t : Talk = queried (terms_of login (exchanges p)) commit_text in
-      begun_has Fine p (λ e. tt) Commit (All ∷ Settle None ∷ []) t
+      begun_has Fine p (λ e _. tt) Commit (All ∷ Settle None ∷ []) t
       (Owns _ _ (Awaits (with_exchange p Commit t) (record { call_is = refl; began = (terms_of login (exchanges p), refl); calm = refl; fits = record { kinds = tt; within = tt } })))
 
   module _ (p : Place) (w : IsCommitting p) where

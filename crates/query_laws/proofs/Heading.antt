@@ -93,7 +93,7 @@ module _ (login : Login) (c : Call) (B : Talk → Type 0) (tail : List Part) (en
       let m = commands p in
       let t : Talk = Queried m.terms m.command (NoSets m.asking) in
       subst (λ o. Fine (with_command c (Head ∷ tail) p o)) (sym m.next_is)
-      (begun_has Fine p (λ e. tt) c (Head ∷ tail) t (Owns _ _ (Awaits (with_exchange p c t) (record {
+      (begun_has Fine p (λ e _. tt) c (Head ∷ tail) t (Owns _ _ (Awaits (with_exchange p c t) (record {
         began = t;
         so = m.so;
         call_is = refl;

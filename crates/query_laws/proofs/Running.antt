@@ -96,7 +96,7 @@ module _ (login : Login) (c : Call) (Own : List Part → Place → Type 0) (Q : 
 
   undoing_fine : (first : ServerError) (p : Place) (b : Bool) → p.trial ≡ trials.Refused first → IsFine Own Q (undone login c (Back ∷ []) p b)
   undoing_fine first p true is =
-      begun_has (IsFine Own Q) p (λ e. fails _ _) c (Back ∷ []) (queried (terms_of login (exchanges p)) rollback_text)
+      begun_has (IsFine Own Q) p (λ e _. fails _ _) c (Back ∷ []) (queried (terms_of login (exchanges p)) rollback_text)
       (Backs (Back ∷ []) (with_exchange p c (queried (terms_of login (exchanges p)) rollback_text)) first refl is)
   undoing_fine first p false is = Backs (Back ∷ []) p first refl is
 
